@@ -1,0 +1,4 @@
+// Document 01 as definitions: see specs/. There is no code here; the one function stands for a crate that has none.
+pub fn edition() -> u32 {
+    1
+}
