@@ -1,0 +1,13 @@
+pub mod Kinds
+pub mod Rows
+pub mod Meanings
+pub mod Reading
+pub mod Complete
+pub mod Follow
+pub mod Samples
+pub mod Depth
+pub mod Exact
+pub mod Precedence
+pub mod Groups
+pub mod Positions
+pub mod Nesting

@@ -1,0 +1,4 @@
+pub mod Trees
+pub mod Verdict
+pub mod Groups
+pub mod Precedence
