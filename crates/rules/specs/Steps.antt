@@ -1,0 +1,4 @@
+pub mod Actions
+pub mod Evaluation
+pub mod Control
+pub mod Runs
