@@ -5,3 +5,5 @@ pub mod Selectors
 pub mod Declarations
 pub mod Steps
 pub mod Whole
+pub mod Faults
+pub mod Answers

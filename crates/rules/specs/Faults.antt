@@ -1,0 +1,4 @@
+pub mod Fault
+pub mod Declared
+pub mod Bodies
+pub mod Whole
