@@ -7,3 +7,4 @@ pub mod Steps
 pub mod Whole
 pub mod Faults
 pub mod Answers
+pub mod Examples
