@@ -96,7 +96,7 @@ module _ (text : List ℕ) where
       elim (decLt longestText (length text)) [
         | yes h ↦ subst (Checks text) (sym (computed (too-long h))) (too-long h)
         | no n ↦ let short : length text ≤ longestText = omega arith in
-          subst (Checks text) (sym (ended (scan text .end) short refl)) (by-end (scan text .end) short refl)
+            subst (Checks text) (sym (ended (scan text .end) short refl)) (by-end (scan text .end) short refl)
       ]
 
 -- a description that the rules allow, of n declarations and w words

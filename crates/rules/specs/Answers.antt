@@ -104,9 +104,9 @@ startOr61 (some o) r = refusal 61 o
 unfoldable pub runOn : Table → List ℕ → ℕ → Result
 runOn ds buffer budget =
     elim (eqb (length buffer) (8 * totalWords ds)) [
-      false ↦ refusal 60 0
-    | true ↦ let ws = wordsFrom (totalWords ds) buffer in
-        startOr61 (longWord 0 (wordLengths ds) ws) (resultOf (run ds (mainName ds) budget ws))
+      | false ↦ refusal 60 0
+      | true ↦ let ws = wordsFrom (totalWords ds) buffer in
+          startOr61 (longWord 0 (wordLengths ds) ws) (resultOf (run ds (mainName ds) budget ws))
     ]
 
 abbrev pub runUnless : Verdict → Result → Result

@@ -127,10 +127,10 @@ reaches (suc n) v f l h =
     let may0 = eqb (f / 2 ^ n % 2) 1 || eqb (v / 2 ^ n % 2) 0 in
     let may1 = eqb (f / 2 ^ n % 2) 1 || eqb (v / 2 ^ n % 2) 1 in
     elim (leb (2 ^ n) l) [
-      true ↦ may1 && reaches n (v % 2 ^ n) (f % 2 ^ n) (l - 2 ^ n) (h - 2 ^ n)
-    | false ↦ elim (ltb h (2 ^ n)) [
-        true ↦ may0 && reaches n (v % 2 ^ n) (f % 2 ^ n) l h
-      | false ↦ (may0 && leb l (v % 2 ^ n + f % 2 ^ n)) || (may1 && leb (v % 2 ^ n) (h - 2 ^ n))
+      | true ↦ may1 && reaches n (v % 2 ^ n) (f % 2 ^ n) (l - 2 ^ n) (h - 2 ^ n)
+      | false ↦ elim (ltb h (2 ^ n)) [
+        | true ↦ may0 && reaches n (v % 2 ^ n) (f % 2 ^ n) l h
+        | false ↦ (may0 && leb l (v % 2 ^ n + f % 2 ^ n)) || (may1 && leb (v % 2 ^ n) (h - 2 ^ n))
       ]
     ]
 

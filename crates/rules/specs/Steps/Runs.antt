@@ -97,10 +97,10 @@ module _ (ds : Table) where
   runFrom zero n (running r s) = ran paused n s
   runFrom (suc b) n (running r s) =
       elim (step ds r (leftmost r) s) [
-        running t u ↦ runFrom b (suc n) (running t u)
-      | finished u ↦ ran done (suc n) u
-      | stopped u ↦ ran halted (suc n) u
-      | fault m p u ↦ ran (faulted m p) n u
+        | running t u ↦ runFrom b (suc n) (running t u)
+        | finished u ↦ ran done (suc n) u
+        | stopped u ↦ ran halted (suc n) u
+        | fault m p u ↦ ran (faulted m p) n u
       ]
 
   unfoldable pub run : Name → ℕ → Carriers → Run

@@ -110,9 +110,9 @@ scanFrom p k n [] = ended fine
 scanFrom p k (suc n) (b ∷ bs) = scanFrom (p + 1) k n bs
 scanFrom p k zero (b ∷ bs) =
     elim (lexeme p b bs) [
-      nothing n ↦ scanFrom (p + 1) k n bs
-    | token n t ↦ elim (ltb 0 k) [ true ↦ after t (scanFrom (p + 1) (k - 1) n bs) | false ↦ ended (refuse 13 p) ]
-    | refused m ↦ ended (refuse m p)
+      | nothing n ↦ scanFrom (p + 1) k n bs
+      | token n t ↦ elim (ltb 0 k) [ true ↦ after t (scanFrom (p + 1) (k - 1) n bs) | false ↦ ended (refuse 13 p) ]
+      | refused m ↦ ended (refuse m p)
     ]
 
 unfoldable pub scan : List ℕ → Scan
