@@ -8,6 +8,7 @@ pub mod Samples
 pub mod Depth
 pub mod Exact
 pub mod Precedence
+pub mod Shunting
 pub mod Groups
 pub mod Positions
 pub mod Nesting

@@ -20,7 +20,7 @@ unfolding insert-by
 insert-tight-by n o i l r k (yes h) le t ih = (t .0, (t .1 .0, ih h))
 insert-tight-by n o i l r k (no h) le t ih = (le, ((omega arith, t .1), tt))
 
-insert-tight : (n : ℕ) (e : Expr) (k : Link) → n ≤ tightness (k .op) → Tight n e → Tight n (insert e k)
+pub insert-tight : (n : ℕ) (e : Expr) (k : Link) → n ≤ tightness (k .op) → Tight n e → Tight n (insert e k)
 unfolding insert
 insert-tight n (leaf f) k le t = (le, (tt, tt))
 insert-tight n (node o i l r) k le t =

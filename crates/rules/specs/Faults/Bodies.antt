@@ -19,12 +19,17 @@ use Rattle.rules.specs.Faults.Declared.{isKnown, inside, declaredAt}
 abbrev pub mostAlternatives : ℕ
 mostAlternatives = 64
 
+-- its faults, and its length if it has none
 pub record Judged : Type 0 where
   pub faults : List Fault
   pub bits : ℕ
 
+abbrev pub soundBits : List Fault → ℕ → ℕ
+soundBits [] n = n
+soundBits (f ∷ fs) n = 0
+
 abbrev pub judged : List Fault → ℕ → Judged
-judged fs n = record { faults = fs; bits = n }
+judged fs n = record { faults = fs; bits = soundBits fs n }
 
 abbrev pub isSound : List Fault → Bool
 isSound [] = true
