@@ -9,6 +9,7 @@ pub mod Depth
 pub mod Exact
 pub mod Precedence
 pub mod Shunting
+pub mod Heads
 pub mod Groups
 pub mod Positions
 pub mod Nesting
