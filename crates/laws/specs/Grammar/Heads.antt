@@ -98,14 +98,28 @@ namedForm k = elim (same k Becomes) [ true ↦ a-label | false ↦ elim (same k 
 
 abbrev pub formOf : Kind → Kind → Form
 formOf k l =
-    elim (same k Name) [ true ↦ namedForm l
-    | false ↦ elim (same k BEGIN) [ true ↦ a-block
-    | false ↦ elim (same k IF) [ true ↦ a-test
-    | false ↦ elim (same k DECODE) [ true ↦ a-choice
-    | false ↦ elim (same k REPEAT) [ true ↦ a-loop
-    | false ↦ elim (same k LEAVE) [ true ↦ a-leave
-    | false ↦ elim (same k RESTART) [ true ↦ a-restart
-    | false ↦ elim (same k STOP) [ true ↦ a-stop | false ↦ a-no-op ] ] ] ] ] ] ] ]
+    elim (same k Name) [
+      | true ↦ namedForm l
+      | false ↦ elim (same k BEGIN) [
+        | true ↦ a-block
+        | false ↦ elim (same k IF) [
+          | true ↦ a-test
+          | false ↦ elim (same k DECODE) [
+            | true ↦ a-choice
+            | false ↦ elim (same k REPEAT) [
+              | true ↦ a-loop
+              | false ↦ elim (same k LEAVE) [
+                | true ↦ a-leave
+                | false ↦ elim (same k RESTART) [
+                  | true ↦ a-restart
+                  | false ↦ elim (same k STOP) [ true ↦ a-stop | false ↦ a-no-op ]
+                ]
+              ]
+            ]
+          ]
+        ]
+      ]
+    ]
 
 -- the constructor of each form, with its parts
 abbrev pub Is : Form → Action → Type 0

@@ -1,0 +1,12 @@
+pub mod Holds
+pub mod Positions
+pub mod Words
+pub mod Bits
+pub mod Shown
+pub mod Declarations
+pub mod Views
+pub mod ViewLaws
+pub mod Lookups
+pub mod Keys
+pub mod Meaning
+pub mod Ready

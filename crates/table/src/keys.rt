@@ -1,0 +1,27 @@
+// Faults as numbers, of which the least is kept.
+ghost use mathlib.Core.Path.{_≡_};
+ghost use Prim.Native.Nat.{_<_, _≤_, min};
+ghost use Rattle.rules.specs.Faults.Fault.{fault};
+ghost use Rattle.table.specs.Keys.{key, numberKey};
+
+// The key of a fault where the place counts first.
+pub fn fault_key(number: u32, place: usize) -> u32
+    requires { ⌜ (number < 128) × (place ≤ 32768) ⌝ }
+    ensures { λ r. ⌜ r ≡ key (fault number place) ⌝ }
+{
+    place as u32 * 128 + number
+}
+
+// The key of a fault where the number counts first.
+pub fn number_key(number: u32, place: usize) -> u32
+    requires { ⌜ (number < 128) × (place ≤ 32768) ⌝ }
+    ensures { λ r. ⌜ r ≡ numberKey (fault number place) ⌝ }
+{
+    number * 65536 + place as u32
+}
+
+pub fn earlier(a: u32, b: u32) -> u32
+    ensures { λ r. ⌜ r ≡ min a b ⌝ }
+{
+    if a < b { a } else { b }
+}

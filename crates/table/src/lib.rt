@@ -1,0 +1,6 @@
+// The token table as the reader sees it: a record and a value for each token, the words of names, declarations, and keys of faults.
+pub mod keys;
+pub mod lookups;
+pub mod records;
+pub mod views;
+pub mod words;

@@ -1,0 +1,35 @@
+// What stands in the table for the token i: its kind, its size, its place, and its value.
+use cells::get16;
+use cells::get64;
+ghost use mathlib.Core.Path.{_≡_};
+ghost use Prim.Native.Nat.{_+_, _*_, _≤_};
+ghost use lib.ListN.{length};
+ghost use Rattle.table.specs.Holds.{kindByte, sizeByte, placeCell, valueCell};
+
+pub fn kind_at(records: &[u8], i: usize) -> u8
+    requires { ⌜ 8 * i + 8 ≤ length (now records) ⌝ }
+    ensures { λ r. ⌜ r ≡ kindByte (now (records .entry)) i ⌝ }
+{
+    records[8 * i]
+}
+
+pub fn size_at(records: &[u8], i: usize) -> u32
+    requires { ⌜ 8 * i + 8 ≤ length (now records) ⌝ }
+    ensures { λ r. ⌜ r ≡ sizeByte (now (records .entry)) i ⌝ }
+{
+    records[8 * i + 1] as u32
+}
+
+pub fn place_at(records: &[u8], i: usize) -> usize
+    requires { ⌜ 8 * i + 8 ≤ length (now records) ⌝ }
+    ensures { λ r. ⌜ r ≡ placeCell (now (records .entry)) i ⌝ }
+{
+    get16(records, 4 * i + 1) as usize
+}
+
+pub fn value_at(values: &[u8], i: usize) -> u64
+    requires { ⌜ 8 * i + 8 ≤ length (now values) ⌝ }
+    ensures { λ r. ⌜ r ≡ valueCell (now (values .entry)) i ⌝ }
+{
+    get64(values, i)
+}
