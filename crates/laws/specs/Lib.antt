@@ -1,3 +1,6 @@
 pub mod Grammar
 pub mod Orders
 pub mod Answers
+pub mod Accepted
+pub mod Demand3
+pub mod Links

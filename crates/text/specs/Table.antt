@@ -21,6 +21,7 @@ pack kind size place = kind + 256 * size + 65536 * place
 abbrev pub recordOf : Token → ℕ
 recordOf t = pack (kindNo (t .kind)) (sizeOf t) (t .info .place)
 
+-- the cells of all tokens
 abbrev pub recordCells : List Token → List ℕ
 recordCells ts = map recordOf ts
 
@@ -31,6 +32,7 @@ valueBy kind value before = elim (eqb kind 1 || eqb kind 2) [ true ↦ value | f
 abbrev pub valueOf : ℕ → Token → ℕ
 valueOf before t = valueBy (kindNo (t .kind)) (t .info .value) before
 
+-- the cells of tokens behind one that leaves the bits `before` free
 unfoldable pub valueCells : ℕ → List Token → List ℕ
 valueCells before [] = []
 valueCells before (t ∷ ts) = valueOf before t ∷ valueCells (t .info .free) ts
@@ -40,7 +42,7 @@ unfoldable pub writeCells : ℕ → List ℕ → ℕ → List ℕ → List ℕ
 writeCells w b i [] = b
 writeCells w b i (v ∷ vs) = writeCells w (putCell w b i v) (i + 1) vs
 
--- the answer of a scan that has n tokens already
+-- the answer to an end behind n tokens; of a scan behind n tokens; of a whole scan
 abbrev pub endedAt : ℕ → End → Scanned
 endedAt n fine = Fine n
 endedAt n (refuse m p) = Refused m p

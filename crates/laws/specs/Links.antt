@@ -1,0 +1,6 @@
+-- The flat code of a description at the numbers of its tokens: the code, that its numbers go up, that it holds the bodies, where the bodies stand.
+pub mod Code
+pub mod Numbers
+pub mod Held
+pub mod Bodies
+pub mod Placed
