@@ -1,4 +1,4 @@
--- What acceptance gives: no fault of any ten, orderly bodies, lengths from 1 to 64, words and names within their bounds.
+-- What acceptance gives: no fault of any ten; orderly bodies; names, words and lengths within their bounds; values that fit.
 pub mod Faultless
 pub mod Named
 pub mod Jumps
@@ -8,6 +8,7 @@ pub mod Orderly
 pub mod Declared
 pub mod Reached
 pub mod Constants
+pub mod Scanned
 pub mod Lengths
 pub mod Evaluated
 pub mod Destinations

@@ -1,14 +1,14 @@
 -- Constants of 1 to 64 bits: in tokens, and so in the expressions that they stand for.
 use Prim.Native.Nat.{ℕ, zero, suc, _^_, _<_}
 use mathlib.Core.Path.{_≡_, refl, subst}
-use mathlib.Core.List.{List, [], _∷_}
+use mathlib.Core.List.{List, [], _∷_, _++_}
 use lib.ListN.{drop}
-use Rattle.rules.specs.Text.Tokens.{Info, Const}
-use Rattle.rules.specs.Grammar.Trees.{Tokens, BitsEnd, bit, upto, bitsEndTokens, Bits, all-bits, bits, bitsTokens}
+use Rattle.rules.specs.Text.Tokens.{Info, tk, Const, RPar, RBra}
+use Rattle.rules.specs.Grammar.Trees.{Tokens, bitsTokens}
 use Rattle.rules.specs.Grammar.Trees.{Operand, constant, access, parens, negated, operandTokens, Tail, no-more, with-op, tailTokens, Subscript, no-subscript, subscript, subscriptTokens}
 use Rattle.rules.specs.Grammar.Precedence.{Expr, leaf, node, Factor, number, cell, group, inverse, Index, no-index, index, Link, insert-by, insert, inserts, arrange, tightness, factorOf, linksOf, indexOf, exprOf}
 use native.Mathlib.Decide.{decLt}
-use Rattle.laws.specs.Grammar.Positions.{ExpressionAt}
+use Rattle.laws.specs.Grammar.Positions.{Writes, operand-writes, tail-writes, ExpressionAt}
 use Rattle.laws.specs.Accepted.Declared.{Length}
 
 -- a number x of n bits, from 1 to 64
@@ -59,46 +59,56 @@ unfolding inserts
 inserts-ok e [] p q = p
 inserts-ok e (k ∷ ks) p q = inserts-ok (insert e k) ks (insert-ok e k p (q .0)) (q .1)
 
--- behind what is read of them, the tokens are left
-bits-end-ok : (b : BitsEnd) (ts : Tokens) → ConstantsOk (bitsEndTokens b ts) → ConstantsOk ts
-bits-end-ok (bit g) ts h = h .1
-bits-end-ok (upto c n g) ts h = h .1 .1 .1
+-- behind what is written in front of them, and in front of them
+pub rest-ok : {f : Tokens → Tokens} → Writes f → (ts : Tokens) → ConstantsOk (f ts) → ConstantsOk ts
+rest-ok {f} w ts h = by (f []) (subst ConstantsOk (w .grows [] ts) h)
+  where
+    by : (xs : Tokens) → ConstantsOk (xs ++ ts) → ConstantsOk ts
+    by [] q = q
+    by (x ∷ xs) q = by xs (q .1)
 
-bits-ok : (b : Bits) (ts : Tokens) → ConstantsOk (bitsTokens b ts) → ConstantsOk ts
-bits-ok all-bits ts h = h
-bits-ok (bits l n e) ts h = bits-end-ok e ts (h .1 .1)
+pub front-ok : {f : Tokens → Tokens} → Writes f → (ts : Tokens) → ConstantsOk (f ts) → ConstantsOk (f [])
+front-ok {f} w ts h = by (f []) (subst ConstantsOk (w .grows [] ts) h)
+  where
+    by : (xs : Tokens) → ConstantsOk (xs ++ ts) → ConstantsOk xs
+    by [] q = tt
+    by (x ∷ xs) q = (q .0, by xs (q .1))
 
 mutual
   unfolding factorOf linksOf indexOf arrange
 
-  operand-ok : (o : Operand) (ts : Tokens) → ConstantsOk (operandTokens o ts) → FactorOk (factorOf o) × ConstantsOk ts
-  operand-ok (constant i) ts h = (h .0 refl, h .1)
-  operand-ok (access i s b) ts h = let x = subscript-ok s (bitsTokens b ts) (h .1) in (x .0, bits-ok b ts (x .1))
+  operand-ok : (o : Operand) (ts : Tokens) → ConstantsOk (operandTokens o ts) → FactorOk (factorOf o)
+  operand-ok (constant i) ts h = h .0 refl
+  operand-ok (access i s b) ts h = subscript-ok s (bitsTokens b ts) (h .1)
   operand-ok (parens l o t r) ts h =
-      let x = operand-ok o (tailTokens t _) (h .1) in
-      let y = tail-ok t _ (x .1) in
-      (inserts-ok (leaf (factorOf o)) (linksOf t) (x .0) (y .0), y .1 .1)
+      inserts-ok (leaf (factorOf o)) (linksOf t) (operand-ok o (tailTokens t (tk RPar r ∷ ts)) (h .1))
+      (tail-ok t (tk RPar r ∷ ts) (rest-ok (operand-writes o) (tailTokens t (tk RPar r ∷ ts)) (h .1)))
   operand-ok (negated i o) ts h = operand-ok o ts (h .1)
 
-  tail-ok : (t : Tail) (ts : Tokens) → ConstantsOk (tailTokens t ts) → LinksOk (linksOf t) × ConstantsOk ts
-  tail-ok no-more ts h = (tt, h)
-  tail-ok (with-op op i o t) ts h = let x = operand-ok o (tailTokens t ts) (h .1) in let y = tail-ok t ts (x .1) in ((x .0, y .0), y .1)
+  tail-ok : (t : Tail) (ts : Tokens) → ConstantsOk (tailTokens t ts) → LinksOk (linksOf t)
+  tail-ok no-more ts h = tt
+  tail-ok (with-op op i o t) ts h = (operand-ok o (tailTokens t ts) (h .1), tail-ok t ts (rest-ok (operand-writes o) (tailTokens t ts) (h .1)))
 
-  subscript-ok : (s : Subscript) (ts : Tokens) → ConstantsOk (subscriptTokens s ts) → IndexOk (indexOf s) × ConstantsOk ts
-  subscript-ok no-subscript ts h = (tt, h)
+  pub subscript-ok : (s : Subscript) (ts : Tokens) → ConstantsOk (subscriptTokens s ts) → IndexOk (indexOf s)
+  subscript-ok no-subscript ts h = tt
   subscript-ok (subscript l o t r) ts h =
-      let x = operand-ok o (tailTokens t _) (h .1) in
-      let y = tail-ok t _ (x .1) in
-      (inserts-ok (leaf (factorOf o)) (linksOf t) (x .0) (y .0), y .1 .1)
+      inserts-ok (leaf (factorOf o)) (linksOf t) (operand-ok o (tailTokens t (tk RBra r ∷ ts)) (h .1))
+      (tail-ok t (tk RBra r ∷ ts) (rest-ok (operand-writes o) (tailTokens t (tk RBra r ∷ ts)) (h .1)))
+
+-- an expression in front of other tokens
+pub expression-ok : (o : Operand) (t : Tail) (ts : Tokens) → ConstantsOk (operandTokens o (tailTokens t ts)) → BitsOk (exprOf o t)
+unfolding exprOf arrange
+expression-ok o t ts h =
+    inserts-ok (leaf (factorOf o)) (linksOf t) (operand-ok o (tailTokens t ts) h) (tail-ok t ts (rest-ok (operand-writes o) (tailTokens t ts) h))
+
+pub behind-expression : (o : Operand) (t : Tail) (ts : Tokens) → ConstantsOk (operandTokens o (tailTokens t ts)) → ConstantsOk ts
+behind-expression o t ts h = rest-ok (tail-writes t) ts (rest-ok (operand-writes o) (tailTokens t ts) h)
 
 drop-ok : (i : ℕ) (ts : Tokens) → ConstantsOk ts → ConstantsOk (drop i ts)
 drop-ok zero ts h = h
 drop-ok (suc i) [] h = h
 drop-ok (suc i) (t ∷ ts) h = drop-ok i ts (h .1)
 
--- an expression that stands among such tokens
-pub expression-ok : (T : Tokens) (i : ℕ) (o : Operand) (t : Tail) (j : ℕ) → ConstantsOk T → ExpressionAt T i o t j → BitsOk (exprOf o t)
-unfolding exprOf arrange
-expression-ok T i o t j h s =
-    let x = operand-ok o (tailTokens t (drop j T)) (subst ConstantsOk (s .reads) (drop-ok i T h)) in
-    inserts-ok (leaf (factorOf o)) (linksOf t) (x .0) (tail-ok t (drop j T) (x .1) .0)
+-- an expression that stands among tokens
+pub standing-ok : (T : Tokens) (i : ℕ) (o : Operand) (t : Tail) (j : ℕ) → ConstantsOk T → ExpressionAt T i o t j → BitsOk (exprOf o t)
+standing-ok T i o t j h s = expression-ok o t (drop j T) (subst ConstantsOk (s .reads) (drop-ok i T h))

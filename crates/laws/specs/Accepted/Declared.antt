@@ -81,7 +81,9 @@ unfolding bitCount howMany
 bits-length one-unnamed h = record { some = omega arith; short = omega arith }
 bits-length (these s) h = record { some = omega arith; short = h .0 }
 
-total-from : (ds : Table) (n w : ℕ) → n ≤ mostDeclarations → w ≤ mostWords → tooMany n w ds ≡ [] → (n + length ds ≤ mostDeclarations) × (w + totalWords ds ≤ mostWords)
+total-from :
+    (ds : Table) (n w : ℕ) → n ≤ mostDeclarations → w ≤ mostWords → tooMany n w ds ≡ []
+    → (n + length ds ≤ mostDeclarations) × (w + totalWords ds ≤ mostWords)
 unfolding tooMany totalWords
 total-from [] n w p q e = (omega arith, omega arith)
 total-from (d ∷ ds) n w p q e =
@@ -123,7 +125,9 @@ module _ {outer : Name} {ds : Table} (h : Declares outer ds) where
     pub good-target : (t : Target) → d .target ≡ some t → goodTarget (d .bits) (t .bits) (declaredAt ds (numberOf ds (t .name .word))) ≡ true
     unfolding mappings badMapping
     good-target t e =
-        let f = each-empty (λ d. when (badMapping outer ds d (d .target)) 33 (d .name .place)) (mappings outer ds) (λ d ds. refl) ds i d (no-fault .1 .1 .1) there in
+        let f =
+        each-empty (λ d. when (badMapping outer ds d (d .target)) 33 (d .name .place)) (mappings outer ds) (λ d ds. refl) ds i d
+        (no-fault .1 .1 .1) there in
         let g : badMapping outer ds d (some t) ≡ false = rw e at (when-empty (badMapping outer ds d (d .target)) 33 (d .name .place) f) in
         let good = goodTarget (d .bits) (t .bits) (declaredAt ds (numberOf ds (t .name .word))) in
         not-false good (or-neither (sameBytes outer (t .name .word)) (not good) g .1)

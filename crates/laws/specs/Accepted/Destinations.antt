@@ -4,16 +4,17 @@ use mathlib.Core.Path.{_≡_, refl, sym, _∙_, ap₂, subst}
 use mathlib.Core.List.{List, [], _∷_, _++_, map}
 use native.Mathlib.Omega.{arith}
 use Rattle.rules.specs.Text.Tokens.{Info}
-use Rattle.rules.specs.Grammar.Trees.{Bits, Subscript, Joined, alone, joined}
+use Rattle.rules.specs.Grammar.Trees.{Tokens, Bits, bitsTokens, Subscript, subscriptTokens, Joined, alone, joined, joinedTokens}
 use Rattle.rules.specs.Grammar.Precedence.{cell, indexOf}
 use Rattle.rules.specs.Values.{mostBits, total}
 use Rattle.rules.specs.Declarations.{Name, Table}
 use Rattle.rules.specs.Steps.Actions.{Access, access, joinedAccesses}
 use Rattle.rules.specs.Steps.Evaluation.{Carriers, gives, then, Field, fieldOf, evaluateIndex, evaluateAccess, evaluateAccesses}
 use Rattle.rules.specs.Faults.Bodies.{Judged, judged, over, judgeFactor, judgeDestination, judgeJoined}
+use Rattle.laws.specs.Grammar.Positions.{bits-writes, subscript-writes, joined-writes}
 use Rattle.laws.specs.Accepted.Faultless.{both-empty}
 use Rattle.laws.specs.Accepted.Declared.{Declares}
-use Rattle.laws.specs.Accepted.Constants.{IndexOk}
+use Rattle.laws.specs.Accepted.Constants.{ConstantsOk, IndexOk, rest-ok, subscript-ok}
 use Rattle.laws.specs.Accepted.Lengths.{sound-bits, not-over, SizedFactor, factor-length, sized-factor}
 use Rattle.laws.specs.Accepted.Evaluated.{then-gives, Inside, field-inside}
 
@@ -21,6 +22,24 @@ use Rattle.laws.specs.Accepted.Evaluated.{then-gives, Inside, field-insi
 abbrev pub SubscriptsOk : List Access → Type 0
 SubscriptsOk [] = Unit {0}
 SubscriptsOk (a ∷ more) = IndexOk (a .index) × SubscriptsOk more
+
+behind-access : (s : Subscript) (b : Bits) (ts : Tokens) → ConstantsOk (subscriptTokens s (bitsTokens b ts)) → ConstantsOk ts
+behind-access s b ts c = rest-ok (bits-writes b) ts (rest-ok (subscript-writes s) (bitsTokens b ts) c)
+
+joined-ok : (j : Joined) (ts : Tokens) → ConstantsOk (joinedTokens j ts) → SubscriptsOk (joinedAccesses j)
+unfolding joinedAccesses access
+joined-ok alone ts c = tt
+joined-ok (joined a n s b j) ts c =
+    (subscript-ok s (bitsTokens b (joinedTokens j ts)) (c .1 .1), joined-ok j ts (behind-access s b (joinedTokens j ts) (c .1 .1)))
+
+-- those of a destination in front of other tokens, and the tokens behind it
+module _ (n : Info) (s : Subscript) (b : Bits) (j : Joined) (ts : Tokens) (c : ConstantsOk (subscriptTokens s (bitsTokens b (joinedTokens j ts)))) where
+  pub subscripts-ok : SubscriptsOk (access n s b ∷ joinedAccesses j)
+  unfolding access
+  subscripts-ok = (subscript-ok s (bitsTokens b (joinedTokens j ts)) c, joined-ok j ts (behind-access s b (joinedTokens j ts) c))
+
+  pub behind-destination : ConstantsOk ts
+  behind-destination = rest-ok (joined-writes j) ts (behind-access s b (joinedTokens j ts) c)
 
 module _ (outer : Name) (ds : Table) where
   abbrev pub SizedAccesses : List Access → Type 0

@@ -76,7 +76,9 @@ module _ {outer : Name} {ds : Table} (h : Declares outer ds) where
           let x = then-gives (evaluate ds s l) (λ x. then (evaluate ds s r) (λ y. gives (operate o x y))) v e in
           let y = then-gives (evaluate ds s r) (λ y. gives (operate o (x .0) y)) v (x .2) in
           let it : operate o (x .0) (y .0) ≡ v = cc (y .2) in
-          let w = operate-worth results o (judge outer ds l .bits) (judge outer ds r .bits) (x .0) (y .0) (evaluated l (x .0) (q .1) (x .1)) (evaluated r (y .0) (q .2) (y .1)) in
+          let w =
+          operate-worth results o (judge outer ds l .bits) (judge outer ds r .bits) (x .0) (y .0) (evaluated l (x .0) (q .1) (x .1))
+          (evaluated r (y .0) (q .2) (y .1)) in
           subst (Worth (judge outer ds (node o i l r) .bits)) it (subst (λ n. Worth n (operate o (x .0) (y .0))) (sym (q .0 .size)) w)
 
       pub factor-evaluated : (f : Factor) (v : Value) → SizedFactor outer ds f → evaluateFactor ds s f ≡ gives v → Worth (judgeFactor outer ds f .bits) v

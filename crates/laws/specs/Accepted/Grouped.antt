@@ -90,7 +90,9 @@ module _ (ds : Table) where
       }
 
   -- a member in front of those behind it
-  two-members : (s : Scope) (before : List Sets) (x y : Act) → Member true s before x → Member true s (touched ds x ∷ before) y → Member true s before (par x y)
+  two-members :
+      (s : Scope) (before : List Sets) (x y : Act) → Member true s before x → Member true s (touched ds x ∷ before) y
+      → Member true s before (par x y)
   unfolding touched setsOf mayStop stopsIn jumpsOut racesAny
   two-members s before x y p q =
       let r = or-neither (race (touched ds x) (touched ds y)) (racesAny (touched ds y) before) (q .no-race refl) in

@@ -78,7 +78,9 @@ module _ (r : Reach) (length : Length (bitCount (r .bits))) (fits : r .low + bit
         fits = omega arith;
       }
 
-  access-fitting : (b : Bits) → accessJudged p (r .words) (some (r .bits)) x b .faults ≡ [] → Fitting r x b (accessJudged p (r .words) (some (r .bits)) x b .bits)
+  access-fitting :
+      (b : Bits) → accessJudged p (r .words) (some (r .bits)) x b .faults ≡ []
+      → Fitting r x b (accessJudged p (r .words) (some (r .bits)) x b .bits)
   access-fitting b e =
       let there = subscripted (r .words) x in
       let j = bitsJudged p (r .bits) b in
@@ -159,7 +161,9 @@ module _ {outer : Name} {ds : Table} (h : Declares outer ds) where
             fitting = subst (λ (j : Judged). Fitting r x b (j .bits)) (sym it) g;
           }
 
-      at : (k : ℕ) (o : Option Declared) → numberOf ds (i .word) ≡ some k → getElem? ds k ≡ o → judgeName outer ds i x b o .faults ≡ [] → Reaches outer ds i x b
+      at :
+          (k : ℕ) (o : Option Declared) → numberOf ds (i .word) ≡ some k → getElem? ds k ≡ o → judgeName outer ds i x b o .faults ≡ []
+          → Reaches outer ds i x b
       at k none q t z = unknown (sameBytes outer (i .word)) z
       at k (some d) q t z = with-bits k d q t (d .bits) refl z
 

@@ -29,7 +29,9 @@ not-met (x ∷ xs) ys h = by (member x ys) refl (not-met xs ys (λ c p q. h c (m
     by false e ih = ih
 
 -- a list apart from what two sets read and write is apart from what they do together
-apart-union : (xs : List ℕ) (s t : Sets) → Apart xs (s .reads ++ s .writes) → Apart xs (t .reads ++ t .writes) → Apart xs (union s t .reads ++ union s t .writes)
+apart-union :
+    (xs : List ℕ) (s t : Sets) → Apart xs (s .reads ++ s .writes) → Apart xs (t .reads ++ t .writes)
+    → Apart xs (union s t .reads ++ union s t .writes)
 apart-union xs s t p q c m n = by (member-either c (s .reads ++ t .reads) (s .writes ++ t .writes) n)
   where
     read : (member c (s .reads) ≡ true) ⊎ (member c (t .reads) ≡ true) → ⊥

@@ -54,10 +54,14 @@ inside-fits (these b) s e =
     let q = and-both (among b (s .right)) (eqb (s .left) (s .right) || way) (p .1) in
     by (leb (b .left) (b .right)) (leb (s .left) (s .right)) (eqb (s .left) (s .right)) refl refl refl (p .0) (q .0) (q .1)
   where
-    up : b .left ≤ b .right → s .left ≤ s .right → among b (s .left) ≡ true → among b (s .right) ≡ true → b .right - s .right + howMany s ≤ howMany b
+    up :
+        b .left ≤ b .right → s .left ≤ s .right → among b (s .left) ≡ true → among b (s .right) ≡ true
+        → b .right - s .right + howMany s ≤ howMany b
     up f g l r = omega (arith, up-many b f, up-many s g, up-among b (s .left) f l .0, up-among b (s .right) f r .1)
 
-    down : b .right ≤ b .left → s .right ≤ s .left → among b (s .left) ≡ true → among b (s .right) ≡ true → s .right - b .right + howMany s ≤ howMany b
+    down :
+        b .right ≤ b .left → s .right ≤ s .left → among b (s .left) ≡ true → among b (s .right) ≡ true
+        → s .right - b .right + howMany s ≤ howMany b
     down f g l r = omega (arith, down-many b f, down-many s g, down-among b (s .left) f l .1, down-among b (s .right) f r .0)
 
     by :
@@ -80,7 +84,9 @@ pub record Carried (ds : Table) (d : Declared) (r : Reach) : Type 0 where
   pub fits : r .low + bitCount (r .bits) ≤ mostBits
 
 -- a name reaches what its declaration does
-pub reach-at : (ds : Table) (n : Name) (i : ℕ) (d : Declared) → numberOf ds n ≡ some i → getElem? ds i ≡ some d → reach ds n ≡ reachOf ds i d (d .target)
+pub reach-at :
+    (ds : Table) (n : Name) (i : ℕ) (d : Declared) → numberOf ds n ≡ some i → getElem? ds i ≡ some d
+    → reach ds n ≡ reachOf ds i d (d .target)
 unfolding reach reachNumber
 reach-at ds n i d p q = ap (reachNumber ds) p ∙ ap (λ (o : Option Declared). elim o [ none ↦ none | some d ↦ reachOf ds i d (d .target) ]) q
 
@@ -103,8 +109,11 @@ module _ {outer : Name} {ds : Table} (h : Declares outer ds) where
     unfolding reachStorage
     storage-carried =
         let n = bits-length c (near-bits h i d there c with-bits) in
-        let r : Reach = record { owner = i; first = firstWord ds i; words = d .words; low = 0; bits = c } in
-        (r, ap (reachStorage ds i d) with-bits, record { owner = there-below ds i d there; words = refl; bits = with-bits; size = n; fits = omega (arith, n .short) })
+        let r : Reach = record { owner = i; first = firstWord ds i; words = d .words; low = 0; bits = c } in (
+          r,
+          ap (reachStorage ds i d) with-bits,
+          record { owner = there-below ds i d there; words = refl; bits = with-bits; size = n; fits = omega (arith, n .short) },
+        )
 
     -- it lies on a carrier
     mapping-carried : (t : Target) → d .target ≡ some t → (r : Reach) × (reachUnder ds c (t .bits) (numberOf ds (t .name .word)) ≡ some r) × Carried ds d r
@@ -116,7 +125,8 @@ module _ {outer : Name} {ds : Table} (h : Declares outer ds) where
 
         on :
             (j : ℕ) (g : Declared) → getElem? ds j ≡ some g → (o : Option Target) (b : Option BitNames) → o ≡ g .target → b ≡ g .bits
-            → (elim o [ none ↦ fits b (some c) (t .bits) | some u ↦ false ]) ≡ true → (r : Reach) × (reachOn ds c (t .bits) j o b ≡ some r) × Carried ds d r
+            → (elim o [ none ↦ fits b (some c) (t .bits) | some u ↦ false ]) ≡ true
+            → (r : Reach) × (reachOn ds c (t .bits) j o b ≡ some r) × Carried ds d r
         on j g k (some u) b p q z = absurd (false≢true z)
         on j g k none none p q z = absurd (false≢true z)
         on j g k none (some b) p q z =
@@ -176,7 +186,9 @@ module _ {outer : Name} {ds : Table} (h : Declares outer ds) where
   unfolding reach reachNumber
   name-carried n r e = number (numberOf ds n) e
     where
-      declared : (i : ℕ) (d : Declared) → getElem? ds i ≡ some d → (b : Option BitNames) → d .bits ≡ b → reachOf ds i d (d .target) ≡ some r → Carried ds d r
+      declared :
+          (i : ℕ) (d : Declared) → getElem? ds i ≡ some d → (b : Option BitNames) → d .bits ≡ b → reachOf ds i d (d .target) ≡ some r
+          → Carried ds d r
       declared i d k none p z = impossible (cc (bitless i d (d .target) p))
       declared i d k (some c) p z =
           let m = declared-carried i d k c p in

@@ -84,7 +84,8 @@ module _ (out : Name) (ds : Table) (starts : ℕ → ℕ) (nowhere : ℕ) (of40 
       body i d (some a) there named its = body-held n i d a there named its
 
       declared : (i : ℕ) (o : Option Declared) → getElem? ds i ≡ o → Found ds n i
-          → Holds C (bind n (firstAt ds starts nowhere (starts i) o) exit outer) (firstAt ds starts nowhere (starts i) o) exit (actOr (elim o [ none ↦ none | some d ↦ d .body ]))
+          → Holds C (bind n (firstAt ds starts nowhere (starts i) o) exit outer) (firstAt ds starts nowhere (starts i) o) exit
+          (actOr (elim o [ none ↦ none | some d ↦ d .body ]))
       declared i none there f = absent
       declared i (some d) there f =
           let q : f .declared ≡ d = cc (f .there) in

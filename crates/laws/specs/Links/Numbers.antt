@@ -13,8 +13,8 @@ use Rattle.rules.specs.Grammar.Trees.{Alternatives, counted, selected, alternat
 use Rattle.rules.specs.Grammar.Trees.{Selected, select, otherwise, selectedTokens, SelectedMore, selected-end, selected-more, selectedMoreTokens}
 use Rattle.rules.specs.Text.Tokens.{tk, Arrow, Becomes, BEGIN, END}
 use Rattle.laws.specs.Grammar.Positions.{Writes, operand-writes, tail-writes, selector-writes, action-writes}
-use Rattle.laws.specs.Orders.Flat.{Link, at, exit, Instr, goI, Labels, bind}
-use Rattle.laws.specs.Links.Code.{Numbered, num, size, actionSize, exprSize, selectorSize, firstOf, behind, behindTest}
+use Rattle.laws.specs.Orders.Flat.{Link, exit, Instr, goI, Labels}
+use Rattle.laws.specs.Links.Code.{Numbered, num, size, actionSize, exprSize, selectorSize, behindTest}
 use Rattle.laws.specs.Links.Code.{codeAt, membersCode, alternativesCode, countedCode, selectedCode, moreCode}
 
 -- what is written in front of other tokens adds its own number to theirs
@@ -23,7 +23,9 @@ size-before {f} w ts = ap length (w .grows [] ts) ∙ length-append (f []) ts
 
 expression-before : (o : Operand) (t : Tail) (ts : Tokens) → length (operandTokens o (tailTokens t ts)) ≡ exprSize o t + length ts
 expression-before o t ts =
-    omega (arith, size-before (operand-writes o) (tailTokens t ts), size-before (operand-writes o) (tailTokens t []), size-before (tail-writes t) ts, size-before (tail-writes t) [])
+    let f = size-before (operand-writes o) (tailTokens t ts) in
+    let g = size-before (operand-writes o) (tailTokens t []) in
+    omega (arith, f, g, size-before (tail-writes t) ts, size-before (tail-writes t) [])
 
 -- the numbers go up, from i on and below j
 abbrev Ascending : ℕ → ℕ → List Numbered → Type 0
@@ -71,17 +73,17 @@ mutual
 
   pub code-ascends : (a : Action) (ρ : Labels) (i : ℕ) (k : Link) → Ascends i (i + actionSize a) (codeAt ρ i k a)
   code-ascends (block b a m) ρ i k =
-      let j = suc i + actionSize a in follows i a (membersTokens m []) (code-ascends a ρ (suc i) (behind j k m)) (members-ascend m ρ j k)
+      let j = suc i + actionSize a in follows i a (membersTokens m []) (code-ascends a _ (suc i) _) (members-ascend m _ j _)
   code-ascends (labelled n b a) ρ i k =
-      ascends-within (code-ascends a (bind (n .word) (firstOf (suc (suc i)) a) k ρ) (suc (suc i)) k) (omega arith) (omega arith)
+      ascends-within (code-ascends a _ (suc (suc i)) _) (omega arith) (omega arith)
   code-ascends (if-then x o t w a) ρ i k =
       before i _
-      (ascends-within (code-ascends a ρ (behindTest i o t) k) (omega arith) (omega (arith, expression-before o t (tk Arrow w ∷ actionTokens a []))))
+      (ascends-within (code-ascends a _ (behindTest i o t) _) (omega arith) (omega (arith, expression-before o t (tk Arrow w ∷ actionTokens a []))))
   code-ascends (decode x o t w b v) ρ i k =
       before i _
-      (ascends-within (alternatives-ascend v ρ (suc (behindTest i o t)) k)
+      (ascends-within (alternatives-ascend v _ (suc (behindTest i o t)) _)
       (omega arith) (omega (arith, expression-before o t (tk Arrow w ∷ tk BEGIN b ∷ alternativesTokens v []))))
-  code-ascends (repeat x a) ρ i k = before i _ (ascends-within (code-ascends a ρ (suc i) (at i)) (omega arith) (omega arith))
+  code-ascends (repeat x a) ρ i k = before i _ (ascends-within (code-ascends a _ (suc i) _) (omega arith) (omega arith))
   code-ascends (leave x n) ρ i k = lone i _ _ (omega arith)
   code-ascends (restart x n) ρ i k = lone i _ _ (omega arith)
   code-ascends (activate n l r) ρ i k = lone i _ _ (omega arith)
@@ -92,32 +94,33 @@ mutual
   members-ascend : (m : Members) (ρ : Labels) (i : ℕ) (k : Link) → Ascends i (i + size (membersTokens m)) (membersCode ρ i k m)
   members-ascend (end x) ρ i k = ascends-none i _ (omega arith)
   members-ascend (also x a m) ρ i k =
-      let j = suc i + actionSize a in follows i a (membersTokens m []) (code-ascends a ρ (suc i) (behind j k m)) (members-ascend m ρ j k)
+      let j = suc i + actionSize a in follows i a (membersTokens m []) (code-ascends a _ (suc i) _) (members-ascend m _ j _)
   members-ascend (next x a m) ρ i k =
-      let j = suc i + actionSize a in follows i a (membersTokens m []) (code-ascends a ρ (suc i) (behind j k m)) (members-ascend m ρ j k)
+      let j = suc i + actionSize a in follows i a (membersTokens m []) (code-ascends a _ (suc i) _) (members-ascend m _ j _)
 
   alternatives-ascend : (v : Alternatives) (ρ : Labels) (i : ℕ) (k : Link) → Ascends i (i + size (alternativesTokens v)) (alternativesCode ρ i k v)
   alternatives-ascend (counted a c) ρ i k =
-      ascends-within (ascends-join (code-ascends a ρ i k) (counted-ascend c ρ (i + actionSize a) k))
+      ascends-within (ascends-join (code-ascends a _ i _) (counted-ascend c _ (i + actionSize a) _))
       (omega arith) (omega (arith, size-before (action-writes a) (countedTokens c [])))
   alternatives-ascend (selected s) ρ i k = selected-ascend s ρ i k
 
   counted-ascend : (c : Counted) (ρ : Labels) (i : ℕ) (k : Link) → Ascends i (i + size (countedTokens c)) (countedCode ρ i k c)
   counted-ascend (counted-end x) ρ i k = ascends-none i _ (omega arith)
   counted-ascend (counted-more x a c) ρ i k =
-      follows i a (countedTokens c []) (code-ascends a ρ (suc i) k) (counted-ascend c ρ (suc i + actionSize a) k)
+      follows i a (countedTokens c []) (code-ascends a _ (suc i) _) (counted-ascend c _ (suc i + actionSize a) _)
 
   selected-ascend : (s : Selected) (ρ : Labels) (i : ℕ) (k : Link) → Ascends i (i + size (selectedTokens s)) (selectedCode ρ i k s)
   selected-ascend (select s b a m) ρ i k =
       let j = suc (i + selectorSize s) in
-      ascends-within (ascends-join (code-ascends a ρ j k) (more-ascend m ρ (j + actionSize a) k)) (omega arith)
-      (omega (arith, size-before (selector-writes s) (tk Becomes b ∷ actionTokens a (selectedMoreTokens m [])), size-before (action-writes a) (selectedMoreTokens m [])))
+      let f = size-before (selector-writes s) (tk Becomes b ∷ actionTokens a (selectedMoreTokens m [])) in
+      ascends-within (ascends-join (code-ascends a _ j _) (more-ascend m _ (j + actionSize a) _)) (omega arith)
+      (omega (arith, f, size-before (action-writes a) (selectedMoreTokens m [])))
   selected-ascend (otherwise x b a e) ρ i k =
-      ascends-within (code-ascends a ρ (suc (suc i)) k) (omega arith) (omega (arith, size-before (action-writes a) (tk END e ∷ [])))
+      ascends-within (code-ascends a _ (suc (suc i)) _) (omega arith) (omega (arith, size-before (action-writes a) (tk END e ∷ [])))
 
   more-ascend : (m : SelectedMore) (ρ : Labels) (i : ℕ) (k : Link) → Ascends i (i + size (selectedMoreTokens m)) (moreCode ρ i k m)
   more-ascend (selected-end x) ρ i k = ascends-none i _ (omega arith)
-  more-ascend (selected-more x s) ρ i k = ascends-within (selected-ascend s ρ (suc i) k) (omega arith) (omega arith)
+  more-ascend (selected-more x s) ρ i k = ascends-within (selected-ascend s _ (suc i) _) (omega arith) (omega arith)
 
 -- the instruction of a number; a number that none has goes out of the body
 unfoldable pub fetch : List Numbered → ℕ → Instr
@@ -141,7 +144,9 @@ fetch-other : (x : Numbered) (xs : List Numbered) (n : ℕ) → (x .number ≡ n
 unfolding fetch
 fetch-other x xs n h = ap (λ b. elim b [ true ↦ x .instr | false ↦ fetch xs n ]) (ne-eqb (x .number) n h)
 
-has-behind : (x : Numbered) (xs : List Numbered) (i j : ℕ) (ys : List Numbered) → x .number < i → Ascending i j ys → Has (fetch xs) ys → Has (fetch (x ∷ xs)) ys
+has-behind :
+    (x : Numbered) (xs : List Numbered) (i j : ℕ) (ys : List Numbered) → x .number < i → Ascending i j ys
+    → Has (fetch xs) ys → Has (fetch (x ∷ xs)) ys
 has-behind x xs i j [] h p q = tt
 has-behind x xs i j (y ∷ ys) h p q =
     let l = p .0 in

@@ -87,4 +87,4 @@ description-ascends (description n e b h d ds) =
 -- the code of an accepted description holds its bodies
 pub accepted-assembled : (d : Description) (n w : ℕ) → judgement d ≡ accepted n w → HoldsBodies (descriptionCode d) (bodyAct (declarations d))
 accepted-assembled d n w e =
-    assembled (outerName d .word) (declarations d) (bodyStarts d) (length (flatten d)) (no-faults d n w e .of40) (description-ascends d)
+    assembled (outerName d .word) (declarations d) (bodyStarts d) _ (no-faults d n w e .of40) (description-ascends d)
