@@ -2,7 +2,7 @@
 -- and a cell of 8 bytes for its value.
 use Prim.Native.Nat.{ℕ, _+_, _*_, _^_, _<_, _≤_}
 use mathlib.Core.Path.{_≡_}
-use mathlib.Core.List.{List, map}
+use mathlib.Core.List.{List, [], map}
 use lib.ListN.{length, getD, take, drop}
 use Rattle.cells.specs.Cells.{leAt}
 use Rattle.rules.specs.Text.Bytes.{fold}
@@ -45,6 +45,7 @@ pub record ValueHolds (values : List ℕ) (i : ℕ) (x : Info) : Type 0 where
   pub fits : x .value < 2 ^ 64
   pub some-bits : 1 ≤ x .bits
   pub few-bits : x .bits ≤ 64
+  pub wordless : x .word ≡ []
 
 -- What the table has for the token i. The bits that the `?` of a constant leave free stand in the next cell, unless that is a constant's own.
 pub record Entry (text records values : List ℕ) (ts : Tokens) (i : ℕ) : Type 0 where

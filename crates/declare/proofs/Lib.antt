@@ -1,0 +1,12 @@
+pub mod Depth
+pub mod Starts
+pub mod Gathering
+pub mod Ranges
+pub mod Choosing
+pub mod Judging
+pub mod Targets
+pub mod Numbering
+pub mod Places
+pub mod Meanings
+pub mod Totals
+pub mod Telling

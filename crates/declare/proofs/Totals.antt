@@ -1,0 +1,81 @@
+-- Laws of `words`: what is counted and what is left make the total.
+-- Assumes nothing.
+use Prim.Native.Nat.{ℕ, suc, _+_, _*_, _<_, _≤_}
+use mathlib.Core.Path.{_≡_, ap}
+use mathlib.Core.List.{List, _∷_}
+use mathlib.Core.Option.{some}
+use native.Mathlib.Omega.{arith}
+use native.Mathlib.Numerals.{add-one}
+use lib.ListN.{length, drop, getElem?, drop-of-length-le, length-map}
+use Rattle.cells.specs.Cells.{cell}
+use Rattle.rules.specs.Grammar.Trees.{Tokens, Description}
+use Rattle.rules.specs.Declarations.{declaredOf, outerName, declarations, wordsOf, totalWords}
+use Rattle.rules.specs.Faults.Declared.{mostWords, largeBits, largeWords}
+use Rattle.table.specs.Declarations.{declarationList, all-declared}
+use Rattle.table.specs.Views.{View}
+use Rattle.table.specs.Lookups.{Nth, nth}
+use Rattle.table.specs.Ready.{Ready}
+use Rattle.declare.specs.Lawful.{both-false, lawful-large, lawful-words}
+use Rattle.declare.specs.Listed.{SmallView}
+use Rattle.declare.proofs.Places.{table-from}
+use Rattle.declare.proofs.Targets.{map-element}
+
+pub record Summed (records values decls : List ℕ) (m total k : ℕ) : Type 0 where
+  pub within : k ≤ m
+  pub room : total ≤ mostWords
+  pub left : (text : List ℕ) (ts : Tokens) (d : Description) → Ready text records values decls ts d m
+      → total + totalWords (drop k (declarations d)) ≡ totalWords (declarations d)
+
+pub nothing-summed : {records values decls : List ℕ} {m : ℕ} → Summed records values decls m 0 0
+nothing-summed = record { within = omega arith; room = omega arith; left = λ text ts d r. omega arith }
+
+module _ {text records values decls : List ℕ} {ts : Tokens} {d : Description} {m k : ℕ} (r : Ready text records values decls ts d m) (l : k < m) where
+  this : Nth (declarationList d) k
+  this = nth (declarationList d) k (omega (arith, r .count))
+
+  pub cell-room : 2 * k + 2 ≤ length decls
+  cell-room = omega (arith, r .declared .room, r .count)
+
+  next : drop k (declarations d) ≡ declaredOf (this .declaration) ∷ drop (suc k) (declarations d)
+  next = rw (all-declared d) (table-from (declarationList d) k this)
+
+  element : getElem? (declarations d) k ≡ some (declaredOf (this .declaration))
+  element = rw (all-declared d) (map-element (declarationList d) k (this .declaration) (this .found))
+
+  module _ {p : ℕ} (e : p ≡ cell 2 decls k) where
+    view : View records values p
+    view = record { text = text; tokens = ts; holds = r .holds; declaration = this .declaration; stands = rw e (r .declared .each k (this .declaration) (this .found)) }
+
+    pub small-there : SmallView records values p
+    unfolding view
+    small-there =
+        let x = declaredOf (this .declaration) in
+        record {
+          view = view;
+          small = both-false (largeBits (x .bits)) (largeWords (x .words)) (lawful-large (outerName d .word) (declarations d) (r .lawful) k x element) .1;
+        }
+
+    adds-up : (total : ℕ) {w : ℕ} → total + totalWords (drop k (declarations d)) ≡ totalWords (declarations d)
+        → ((v : View records values p) → w ≡ wordsOf (declaredOf (v .declaration)))
+        → total + w + totalWords (drop (k + 1) (declarations d)) ≡ totalWords (declarations d)
+    unfolding totalWords view
+    adds-up total sum adds = rw add-one (omega (arith, ap totalWords next, adds view, sum))
+
+pub summed-more : {records values decls : List ℕ} {m total k p w : ℕ} → Summed records values decls m total k → k < m → p ≡ cell 2 decls k
+    → ((v : View records values p) → w ≡ wordsOf (declaredOf (v .declaration)))
+    → (text : List ℕ) × (ts : Tokens) × (d : Description) × Ready text records values decls ts d m → Summed records values decls m (total + w) (k + 1)
+summed-more {total = total} s l e adds (text, ts, d, r) = record {
+  within = omega arith;
+  room = omega (arith, adds-up r l e total (s .left text ts d r) adds, lawful-words (outerName d .word) (declarations d) (r .lawful));
+  left = λ text ts d r. adds-up r l e total (s .left text ts d r) adds;
+}
+
+pub all-summed : {records values decls : List ℕ} {m total k : ℕ} → Summed records values decls m total k → m ≤ k
+    → ((text : List ℕ) (ts : Tokens) (d : Description) → Ready text records values decls ts d m → total ≡ totalWords (declarations d)) × (total ≤ mostWords)
+unfolding totalWords
+all-summed {k = k} s l = (
+  λ text ts d r.
+      let long : length (declarations d) ≤ k = omega (arith, ap length (all-declared d), length-map (declarationList d) declaredOf, r .count) in
+      omega (arith, s .left text ts d r, ap totalWords (drop-of-length-le (declarations d) long)),
+  s .room,
+)

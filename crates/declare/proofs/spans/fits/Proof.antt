@@ -1,0 +1,18 @@
+-- `declare::spans::fits` meets its contract, by the variant.
+-- Assumes nothing.
+use borrow.Author.Needs.{needs}
+use Rattle.declare.proofs.Ranges.{fits-span}
+use Rattle.declare.proofs.spans.fits.Statement.{statement}
+use Rattle.declare.proofs.spans.fits.Tie as tie
+
+pub fits-spec : {M : Type 1} → statement M
+fits-spec =
+    tie.close
+    (tie.spec
+    (λ c. search needs)
+    (λ c κs. search needs)
+    (λ c. search needs)
+    (λ c. search needs)
+    (λ c. search (needs, fits-span))
+    (λ c. search needs)
+    (λ c. search needs))

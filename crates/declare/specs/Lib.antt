@@ -1,0 +1,9 @@
+pub mod Skipping
+pub mod Finding
+pub mod Faults
+pub mod Earliest
+pub mod Spans
+pub mod Listed
+pub mod Resolving
+pub mod Lawful
+pub mod Told

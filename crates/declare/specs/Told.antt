@@ -1,0 +1,17 @@
+-- What `declare` answers, as document 01 has it.
+use Prim.Native.Nat.{ℕ}
+use mathlib.Core.Path.{_≡_}
+use mathlib.Core.List.{List}
+use mathlib.Core.Option.{some}
+use Rattle.rules.specs.Grammar.Trees.{Tokens, Description}
+use Rattle.rules.specs.Declarations.{declarations, outerName}
+use Rattle.rules.specs.Faults.Fault.{fault, byPlace, least}
+use Rattle.rules.specs.Faults.Declared.{faults30}
+use Rattle.table.specs.Ready.{Ready}
+use Rattle.declare.specs.declared.Declared.{Declared}
+use Rattle.declare.specs.declared.Declared.the-variants.{Fine, Refused}
+
+-- no fault, and the table is ready with m declarations; or the least fault of the 30s
+abbrev pub Told : List ℕ → List ℕ → List ℕ → List ℕ → Tokens → Description → Declared → Type 0
+Told text records values decls ts d (Fine m) = Ready text records values decls ts d m
+Told text records values decls ts d (Refused number place) = least byPlace (faults30 (outerName d .word) (declarations d)) ≡ some (fault number place)

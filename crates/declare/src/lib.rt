@@ -1,0 +1,46 @@
+// What a description declares: where its declarations stand, the refusals 30 to 33, and what its names mean.
+pub mod counting;
+pub mod faults;
+pub mod finding;
+pub mod resolving;
+pub mod spans;
+
+use crate::faults::NO_KEY;
+use crate::faults::fault30;
+use crate::finding::find;
+use crate::resolving::resolve;
+ghost use Prim.Native.Nat.{_*_, _≤_};
+ghost use lib.ListN.{length};
+ghost use Rattle.rules.specs.Text.Scan.{mostTokens};
+ghost use Rattle.rules.specs.Grammar.Verdict.{deepest};
+ghost use Rattle.laws.specs.Grammar.Nesting.{nest};
+ghost use Rattle.declare.specs.Finding.{Described};
+ghost use Rattle.declare.specs.Told.{Told};
+
+// No fault of the 30s, with the number of declarations; or the least one, its number and its place.
+pub enum Declared {
+    Fine(usize),
+    Refused(u32, usize),
+}
+
+// Lists the declarations, judges them, and resolves the names.
+pub fn declare(
+    text: &[u8],
+    records: &mut [u8],
+    values: &[u8],
+    decls: &mut [u8],
+    n: usize,
+) -> Declared
+    requires { ⌜ Described (now text) (now records) (now values) n ⌝ }
+    requires { ⌜ 2 * mostTokens ≤ length (now decls) ⌝ }
+    ensures { λ r. ⌜ ((v : Described (now (text .entry)) (now (records .entry)) (now (values .entry)) n) → nest (v .description) ≤ deepest
+        → Told (now (text .entry)) (now (records .exit)) (now (values .entry)) (now (decls .exit)) (v .tokens) (v .description) r) ⌝ }
+{
+    let m = find(records, decls);
+    let key = fault30(text, records, values, decls, m);
+    if key != NO_KEY {
+        return Declared::Refused(key % 128, (key / 128) as usize);
+    }
+    resolve(text, records, decls, m, n);
+    Declared::Fine(m)
+}

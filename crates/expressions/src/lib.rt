@@ -1,0 +1,24 @@
+// Expressions and destinations: what their names mean, how long they are, and whether they are sound. Refusals 40 to 43 and 46.
+pub mod carriers;
+pub mod destinations;
+pub mod judge;
+pub mod lengths;
+pub mod names;
+pub mod operators;
+pub mod owners;
+
+// The key of what has no fault: above every other.
+pub const NO_KEY: u32 = 4294967295;
+
+// What is judged: the key of its least fault, its length (0 if it has a fault), and the token behind it.
+pub struct Judged {
+    pub key: u32,
+    pub bits: u32,
+    pub next: usize,
+}
+
+// The key of a judged thing, and its length.
+pub struct Weight {
+    pub key: u32,
+    pub bits: u32,
+}

@@ -1,0 +1,4 @@
+pub mod Scanned
+pub mod Tabled
+pub mod Parsed
+pub mod Read
