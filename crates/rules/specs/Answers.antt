@@ -118,3 +118,22 @@ pub data Runs (text buffer : List ℕ) (budget : ℕ) : Result → Type 0 where
   not-accepted : {m p : ℕ} → Checks text (refused m p) → Runs text buffer budget (refusal m p)
   ran : {n w : ℕ} (d : Description) → flatten d ≡ scan text .tokens → Checks text (accepted n w)
       → Runs text buffer budget (runOn (declarations d) buffer budget)
+
+-- An answer as eight numbers: ending, number, place, steps, declarations, words, line and column (0 as yet). Endings: 0 Done or accepted, 1 Stopped,
+-- 2 Paused, 3 Fault, 4 refused. "Every refusal gives 0 for steps and counts"; Done, Stopped and Paused have number 0 and place 0.
+abbrev pub refusedNumbers : ℕ → ℕ → List ℕ
+refusedNumbers m p = 4 ∷ m ∷ p ∷ 0 ∷ 0 ∷ 0 ∷ 0 ∷ 0 ∷ []
+
+abbrev pub verdictNumbers : Verdict → List ℕ
+verdictNumbers (accepted n w) = 0 ∷ 0 ∷ 0 ∷ 0 ∷ n ∷ w ∷ 0 ∷ 0 ∷ []
+verdictNumbers (refused m p) = refusedNumbers m p
+
+abbrev pub ranNumbers : Ending → ℕ → List ℕ
+ranNumbers done n = 0 ∷ 0 ∷ 0 ∷ n ∷ 0 ∷ 0 ∷ 0 ∷ 0 ∷ []
+ranNumbers halted n = 1 ∷ 0 ∷ 0 ∷ n ∷ 0 ∷ 0 ∷ 0 ∷ 0 ∷ []
+ranNumbers paused n = 2 ∷ 0 ∷ 0 ∷ n ∷ 0 ∷ 0 ∷ 0 ∷ 0 ∷ []
+ranNumbers (faulted m p) n = 3 ∷ m ∷ p ∷ n ∷ 0 ∷ 0 ∷ 0 ∷ 0 ∷ []
+
+abbrev pub resultNumbers : Result → List ℕ
+resultNumbers (refusal m p) = refusedNumbers m p
+resultNumbers (ended e n b) = ranNumbers e n

@@ -12,6 +12,7 @@ use Rattle.rules.specs.Text.Tokens.{Token, tk, Name, minus, join}
 use Rattle.rules.specs.Grammar.Verdict.{blank}
 use Rattle.rules.specs.Grammar.Trees.{masked, Range, to}
 use Rattle.rules.specs.Values.{Value, value}
+use Rattle.worked.specs.Worked.{shortVerdict}
 use Rattle.rules.specs.Selectors.{Item, pattern, between}
 use Rattle.rules.specs.Answers.{judgement, placeOf, littleEndian, wordsFrom, bytesOf, bufferOf, wordLengths, longWord, runOn}
 use Rattle.rules.specs.Declarations.{howMany, fromLeft, fromRight, bitCount, restOf, declarations, numberFrom, numberOf, storageWords, totalWords}
@@ -48,17 +49,13 @@ use Rattle.laws.specs.Grammar.Rows.{lookup, too-deep, judge as judge-Rows, run 
 use Rattle.laws.specs.Grammar.Reading.{find, split, put, act, read}
 use native.Mathlib.Decide.{decLt}
 
--- the numbers of each kind of answer
-abbrev verdictNumbers : Verdict → List ℕ
-verdictNumbers (accepted n w) = 0 ∷ n ∷ w ∷ []
-verdictNumbers (refused m p) = 4 ∷ m ∷ p ∷ []
-
-abbrev resultNumbers : Result → List ℕ
-resultNumbers (refusal m p) = 4 ∷ m ∷ p ∷ []
-resultNumbers (ended done n b) = 0 ∷ n ∷ b
-resultNumbers (ended halted n b) = 1 ∷ n ∷ b
-resultNumbers (ended paused n b) = 2 ∷ n ∷ b
-resultNumbers (ended (faulted m p) n b) = 3 ∷ m ∷ p ∷ n ∷ b
+-- the numbers of a run, with the carrier bytes
+abbrev resultBytes : Result → List ℕ
+resultBytes (refusal m p) = 4 ∷ m ∷ p ∷ []
+resultBytes (ended done n b) = 0 ∷ n ∷ b
+resultBytes (ended halted n b) = 1 ∷ n ∷ b
+resultBytes (ended paused n b) = 2 ∷ n ∷ b
+resultBytes (ended (faulted m p) n b) = 3 ∷ m ∷ p ∷ n ∷ b
 
 abbrev valueNumbers : Value → List ℕ
 valueNumbers v = v .bits ∷ v .number ∷ []
@@ -89,17 +86,17 @@ line n c s = record { number = n; computed = c; says = s }
 -- each line of document 01 with what the definitions compute and what it says
 abbrev pub lines : List Line
 lines =
-    line 1 (verdictNumbers (check (bytes ""))) (4 ∷ 20 ∷ 0 ∷ [])
+    line 1 (shortVerdict (check (bytes ""))) (4 ∷ 20 ∷ 0 ∷ [])
     ∷ line 2 (rangeIn (scan (bytes "'0?11?0 : '?11?0?") .tokens)) (12 ∷ 61 ∷ [])
     ∷ line 3 (rangeIn (scan (bytes "'1? : '0?") .tokens)) (0 ∷ 3 ∷ [])
-    ∷ line 4 (resultNumbers (runs (bytes "N := BEGIN A<3:0>, MAIN GO := BEGIN A = A + '1 END END") (word 15) 9)) (0 ∷ 1 ∷ word 0)
+    ∷ line 4 (resultBytes (runs (bytes "N := BEGIN A<3:0>, MAIN GO := BEGIN A = A + '1 END END") (word 15) 9)) (0 ∷ 1 ∷ word 0)
     ∷ line 5 (valueNumbers (operate minus (value 4 0) (value 4 1))) (5 ∷ 31 ∷ [])
     ∷ line 6 (valueNumbers (inverse (value 4 5))) (4 ∷ 10 ∷ [])
     ∷ line 7 (valueNumbers (operate join (value 2 1) (value 1 1))) (3 ∷ 3 ∷ [])
-    ∷ line 8 (resultNumbers (runs (bytes "N := BEGIN A<3:0>, B<3:0>, MAIN GO := BEGIN A@B = '10010110 END END") (replicate 16 0) 9)) (0 ∷ 1 ∷ (word 9 ++ word 6))
-    ∷ line 9 (verdictNumbers (check (bytes "N := BEGIN A<3:0>, B<3:0>, MAIN GO := BEGIN A = B; B = A END END"))) (4 ∷ 53 ∷ 51 ∷ [])
-    ∷ line 10 (resultNumbers (runs (bytes loop) (word 0) 31)) (0 ∷ 31 ∷ word 10)
-    ∷ line 10 (resultNumbers (runs (bytes loop) (word 0) 30)) (2 ∷ 30 ∷ word 10) ∷ []
+    ∷ line 8 (resultBytes (runs (bytes "N := BEGIN A<3:0>, B<3:0>, MAIN GO := BEGIN A@B = '10010110 END END") (replicate 16 0) 9)) (0 ∷ 1 ∷ (word 9 ++ word 6))
+    ∷ line 9 (shortVerdict (check (bytes "N := BEGIN A<3:0>, B<3:0>, MAIN GO := BEGIN A = B; B = A END END"))) (4 ∷ 53 ∷ 51 ∷ [])
+    ∷ line 10 (resultBytes (runs (bytes loop) (word 0) 31)) (0 ∷ 31 ∷ word 10)
+    ∷ line 10 (resultBytes (runs (bytes loop) (word 0) 30)) (2 ∷ 30 ∷ word 10) ∷ []
 
 unfoldable pub allSo : List Line → Bool
 allSo [] = true

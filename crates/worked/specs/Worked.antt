@@ -45,16 +45,16 @@ use Rattle.laws.specs.Grammar.Reading.{find, split, put, act, read}
 use native.Mathlib.Decide.{decLt}
 
 -- a verdict, and a result without its carriers, as numbers to compare
-abbrev verdictNumbers : Verdict → List ℕ
-verdictNumbers (accepted n w) = 0 ∷ n ∷ w ∷ []
-verdictNumbers (refused m p) = 4 ∷ m ∷ p ∷ []
+abbrev pub shortVerdict : Verdict → List ℕ
+shortVerdict (accepted n w) = 0 ∷ n ∷ w ∷ []
+shortVerdict (refused m p) = 4 ∷ m ∷ p ∷ []
 
-abbrev resultNumbers : Result → List ℕ
-resultNumbers (refusal m p) = 4 ∷ m ∷ p ∷ []
-resultNumbers (ended done n b) = 0 ∷ n ∷ []
-resultNumbers (ended halted n b) = 1 ∷ n ∷ []
-resultNumbers (ended paused n b) = 2 ∷ n ∷ []
-resultNumbers (ended (faulted m p) n b) = 3 ∷ m ∷ p ∷ n ∷ []
+abbrev shortResult : Result → List ℕ
+shortResult (refusal m p) = 4 ∷ m ∷ p ∷ []
+shortResult (ended done n b) = 0 ∷ n ∷ []
+shortResult (ended halted n b) = 1 ∷ n ∷ []
+shortResult (ended paused n b) = 2 ∷ n ∷ []
+shortResult (ended (faulted m p) n b) = 3 ∷ m ∷ p ∷ n ∷ []
 
 -- a text with the numbers of its answer: of Check; of Run from so many bytes of zero, with a budget
 pub record Text : Type 0 where
@@ -132,11 +132,11 @@ beginnings =
 
 unfoldable pub checksAgree : List Text → Bool
 checksAgree [] = true
-checksAgree (t ∷ ts) = sameBytes (verdictNumbers (check (bytes (t .text)))) (t .numbers) && checksAgree ts
+checksAgree (t ∷ ts) = sameBytes (shortVerdict (check (bytes (t .text)))) (t .numbers) && checksAgree ts
 
 unfoldable pub runsAgree : List Start → Bool
 runsAgree [] = true
-runsAgree (t ∷ ts) = sameBytes (resultNumbers (runs (bytes (t .text)) (replicate (t .zeros) 0) (t .budget))) (t .numbers) && runsAgree ts
+runsAgree (t ∷ ts) = sameBytes (shortResult (runs (bytes (t .text)) (replicate (t .zeros) 0) (t .budget))) (t .numbers) && runsAgree ts
 
 -- every one of them is as it says
 pub checks-agree : T (checksAgree texts)
