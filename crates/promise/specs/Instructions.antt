@@ -12,6 +12,7 @@ use Rattle.rules.specs.Grammar.Precedence.{Expr, exprOf}
 use Rattle.rules.specs.Grammar.Verdict.{deepest}
 use Rattle.rules.specs.Selectors.{Case, numbered, listed, otherwise, selectorItems}
 use Rattle.rules.specs.Declarations.{Name as Word, Table}
+use Rattle.rules.specs.Faults.Declared.{mostDeclarations}
 use Rattle.rules.specs.Steps.Actions.{Access, access, joinedAccesses}
 use Rattle.rules.specs.Faults.Bodies.{judge, judgeDestination, judgeJoined}
 use Rattle.laws.specs.Grammar.Nesting.{operandNest, tailNest, subscriptNest, joinedNest}
@@ -73,6 +74,16 @@ CaseStands ts i (numbered n) =
 CaseStands ts i (listed is) = (s : Selector) × (b : Info) × (rest : Tokens) × (is ≡ selectorItems s) × (drop i ts ≡ selectorTokens s (tk Becomes b ∷ rest))
 CaseStands ts i otherwise = tokenAt ts i .kind ≡ OTHERWISE
 
+-- alternatives without selectors have their numbers by counting, from k on
+abbrev pub Numbered : ℕ → Case → Type 0
+Numbered k (numbered n) = n ≡ k
+Numbered k (listed is) = Unit {0}
+Numbered k otherwise = Unit {0}
+
+abbrev pub Counted : ℕ → Entries → Type 0
+Counted k no-entry = Unit {0}
+Counted k (entry c g t) = Numbered k c × Counted (suc k) t
+
 module _ (records : List ℕ) (ts : Tokens) where
   -- the alternatives from the separator p on (BEGIN or `,`), whose cell inside leads to the action and whose link to the next separator, `,` or END
   abbrev pub EntriesStand : ℕ → Entries → Type 0
@@ -92,11 +103,13 @@ module _ (records decls : List ℕ) (ts : Tokens) (outer : Word) (ds : Table) (C
       (tokenAt ts n .kind ≡ IF) × ((j : ℕ) × (ExpressionStands ts outer ds (n + 1) j e × ((insideCell records n ≡ g) × (linkCell records n ≡ linkNo k))))
   InstructionHolds n (decodeI p e t) =
       (tokenAt ts n .kind ≡ DECODE)
-      × ((placeCell records n ≡ p) × ((j : ℕ) × (ExpressionStands ts outer ds (n + 1) j e × ((tokenAt ts (j + 1) .kind ≡ BEGIN) × EntriesStand records ts (j + 1) t))))
+      × ((placeCell records n ≡ p) × ((j : ℕ) × (ExpressionStands ts outer ds (n + 1) j e × ((tokenAt ts (j + 1) .kind ≡ BEGIN) × (EntriesStand records ts (j + 1) t × Counted 0 t)))))
   InstructionHolds n (goI k) = Jump (tokenAt ts n .kind) × (linkCell records n ≡ linkNo k)
   InstructionHolds n (callI p k) =
       (tokenAt ts n .kind ≡ Name)
-      × ((tokenAt ts (n + 1) .kind ≡ LPar) × ((linkCell records n ≡ linkNo k) × (linkCell records (cell 2 decls (insideCell records n)) ≡ C .first p)))
+      × ((tokenAt ts (n + 1) .kind ≡ LPar) × ((linkCell records n ≡ linkNo k)
+      × ((insideCell records n < mostDeclarations)
+      × ((cell 2 decls (insideCell records n) < length ts) × (linkCell records (cell 2 decls (insideCell records n)) ≡ C .first p)))))
   InstructionHolds n stopI = tokenAt ts n .kind ≡ STOP
   InstructionHolds n (moveI to e k) =
       (tokenAt ts n .kind ≡ Name)

@@ -1,3 +1,4 @@
 pub mod Accesses
 pub mod Instructions
+pub mod Reached
 pub mod Promise

@@ -1,0 +1,5 @@
+// Runs an accepted description from left to right, with a budget of steps.
+pub mod choice;
+pub mod places;
+pub mod runs;
+pub mod steps;

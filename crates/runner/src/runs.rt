@@ -1,0 +1,67 @@
+// The run from left to right, with a budget of steps.
+use crate::steps::Moved;
+use crate::steps::step;
+ghost use Prim.Native.Nat.{_≤_};
+ghost use lib.ListN.{length};
+ghost use Rattle.runner.specs.Runs.{RunAt, RunAnswer};
+
+// How a run ends, with the number of steps; a fault with its number and its place before that.
+pub enum Ended {
+    Done(u32),
+    Stopped(u32),
+    Paused(u32),
+    Fault(u32, usize, u32),
+}
+
+// Runs the body that begins at `start`. The scratch may hold anything afterwards.
+pub fn run(
+    records: &[u8],
+    values: &[u8],
+    decls: &[u8],
+    carriers: &mut [u8],
+    scratch: &mut [u8],
+    start: usize,
+    budget: u32,
+) -> Ended
+    requires { ⌜ RunAt (now records) (now values) (now decls) (now carriers) start × (512 ≤ length (now scratch)) ⌝ }
+    ensures { λ r. ⌜ ((v : RunAt (now (records .entry)) (now (values .entry)) (now (decls .entry)) (now (carriers .entry)) start)
+        → RunAnswer v budget (now (carriers .exit)) r) ⌝ }
+{
+    let mut stack: [usize; 16] = [0; 16];
+    let mut depth: usize = 0;
+    let mut at = start;
+    let mut steps: u32 = 0;
+    while steps < budget {
+        let moved = step(records, values, decls, carriers, scratch, at);
+        match moved {
+            Moved::Fault(number, place) => {
+                return Ended::Fault(number, place, steps);
+            }
+            Moved::Stop => {
+                return Ended::Stopped(steps + 1);
+            }
+            Moved::Call(first, behind) => {
+                steps += 1;
+                at = first;
+                if behind == 0 {
+                    continue;
+                }
+                stack[depth] = behind;
+                depth += 1;
+            }
+            Moved::Go(next) => {
+                steps += 1;
+                if next != 0 {
+                    at = next;
+                    continue;
+                }
+                if depth == 0 {
+                    return Ended::Done(steps);
+                }
+                depth -= 1;
+                at = stack[depth];
+            }
+        }
+    }
+    Ended::Paused(steps)
+}
