@@ -76,14 +76,7 @@ fn place_one(
 }
 
 // All of the n tokens that are names. The buffer takes the first words of the m declarations.
-pub fn place(
-    records: &[u8],
-    values: &mut [u8],
-    decls: &[u8],
-    n: usize,
-    m: usize,
-    firsts: &mut [u8],
-)
+pub fn place(records: &[u8], values: &mut [u8], decls: &[u8], n: usize, m: usize, firsts: &mut [u8])
     requires { ⌜ Described (now records) (now values) (now decls) n m × (2 * m ≤ length (now firsts)) ⌝ }
     ensures { λ _. ⌜ ((v : Described (now (records .entry)) (now (values .entry)) (now (decls .entry)) n m) → AllPlaced v (now (values .exit))) ⌝ }
 {

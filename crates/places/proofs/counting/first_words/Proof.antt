@@ -37,9 +37,9 @@ first-words-spec =
     (λ c. search needs)
     (λ c. search needs)
     (λ c.
-        record {
-          counted = counted-more (c .before .before .before .before .before .before .before .loop .inv .counted) (c .before .before .before .before .before .before .loop-test .taken) (c .before .before .before .before .before .before .before .before .before .before .before .before .pre .0) (c .before .before .before .before .put16 .ensures) (c .before .get16 .ensures) (c .words-in .ensures .1);
-          long = search needs;
-        })
+    record {
+      counted = counted-more (c .before .before .before .before .before .before .before .loop .inv .counted) (c .before .before .before .before .before .before .loop-test .taken) (c .before .before .before .before .before .before .before .before .before .before .before .before .pre .0) (c .before .before .before .before .put16 .ensures) (c .before .get16 .ensures) (c .words-in .ensures .1);
+      long = search needs;
+    })
     (λ c. search needs)
     (λ c. all-counted (c .before .loop .inv .counted) (c .loop-test .left)))
