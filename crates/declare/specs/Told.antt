@@ -1,8 +1,9 @@
 -- What `declare` answers, as document 01 has it.
-use Prim.Native.Nat.{ℕ}
+use Prim.Native.Nat.{ℕ, _≤_}
 use mathlib.Core.Path.{_≡_}
 use mathlib.Core.List.{List}
 use mathlib.Core.Option.{some}
+use Rattle.rules.specs.Text.Scan.{longestText}
 use Rattle.rules.specs.Grammar.Trees.{Tokens, Description}
 use Rattle.rules.specs.Declarations.{declarations, outerName}
 use Rattle.rules.specs.Faults.Fault.{fault, byPlace, least}
@@ -11,7 +12,12 @@ use Rattle.table.specs.Ready.{Ready}
 use Rattle.declare.specs.declared.Declared.{Declared}
 use Rattle.declare.specs.declared.Declared.the-variants.{Fine, Refused}
 
--- no fault, and the table is ready with m declarations; or the least fault of the 30s
+-- the least fault of the 30s
+pub record Least (d : Description) (number place : ℕ) : Type 0 where
+  pub is : least byPlace (faults30 (outerName d .word) (declarations d)) ≡ some (fault number place)
+  pub near : place ≤ longestText
+
+-- no fault, and the table is ready with m declarations; or the least fault
 abbrev pub Told : List ℕ → List ℕ → List ℕ → List ℕ → Tokens → Description → Declared → Type 0
 Told text records values decls ts d (Fine m) = Ready text records values decls ts d m
-Told text records values decls ts d (Refused number place) = least byPlace (faults30 (outerName d .word) (declarations d)) ≡ some (fault number place)
+Told text records values decls ts d (Refused number place) = Least d number place

@@ -33,7 +33,7 @@ pub fn is_missing(span: Names) -> bool
 }
 
 // One fewer than there are in a declaration.
-fn last_of(span: Names) -> u64
+pub fn last_of(span: Names) -> u64
     ensures { λ r. ⌜ r + 1 ≡ countShown span ⌝ }
 {
     match span {

@@ -2,7 +2,7 @@
 use crate::expressions::Evaluated;
 use cells::get16;
 use cells::get64;
-use table::records::place_at;
+use table::records::place16_at;
 use table::views::bits_size;
 use values::fields::field;
 ghost use mathlib.Core.Path.{_≡_};
@@ -17,7 +17,7 @@ ghost use Rattle.evaluation.specs.Subscripts.{SubscriptedAt, Subscripted
 // The bits that an access stands for: a word, its lowest bit, their number, and the token behind the access; or the place of a Fault 70.
 pub enum Located {
     Field(usize, u32, u32, usize),
-    Fault(usize),
+    Fault(u16),
 }
 
 // How far a word stands from the left one.
@@ -103,7 +103,7 @@ pub fn subscripted(records: &[u8], values: &[u8], i: usize, n: u64, p: usize) ->
 {
     let word = from_left(left_word(values, i), right_word(values, i), n);
     match word {
-        Word::Outside => Located::Fault(place_at(records, i)),
+        Word::Outside => Located::Fault(place16_at(records, i)),
         Word::Number(k) => in_word(values, i, k, p + bits_size(records, p)),
     }
 }

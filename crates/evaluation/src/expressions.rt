@@ -26,7 +26,7 @@ ghost use Rattle.evaluation.specs.Expressions.{PairAt, PairAnswer, Chain
 // A number, its length and the token behind what has it; or the place of a Fault 70.
 pub enum Evaluated {
     Value(u64, u32, usize),
-    Fault(usize),
+    Fault(u16),
 }
 
 const NAME: u8 = 0;

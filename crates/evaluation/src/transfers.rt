@@ -19,13 +19,13 @@ ghost use Rattle.evaluation.specs.Transfers.{AssignAt, AssignAnswer, Joi
 
 pub enum Transferred {
     Stored,
-    Fault(usize),
+    Fault(u16),
 }
 
 // The fields of a joined destination: how many stand in the scratch, and their bits together; or the place of a Fault 70.
 enum Gathered {
     Fields(usize, u32),
-    Fault(usize),
+    Fault(u16),
 }
 
 // How deep brackets nest at most.

@@ -2,3 +2,5 @@ pub mod Scanned
 pub mod Tabled
 pub mod Parsed
 pub mod Read
+pub mod Copied
+pub mod Judged

@@ -16,7 +16,7 @@ use Rattle.laws.specs.Grammar.Rows.{recognise}
 use Rattle.laws.specs.Grammar.Exact.{right}
 use Rattle.laws.specs.Grammar.Nesting.{nest, shallow-nest}
 use Rattle.text.specs.Table.{recordCells, valueCells, writeCells, endedAt, scannedOf}
-use Rattle.text.specs.Laws.{token-stands}
+use Rattle.text.specs.Laws.{token-stands, refused-inside}
 use Rattle.text.specs.declared.Scanned.{Scanned}
 use Rattle.text.specs.declared.Scanned.the-variants.{Fine as ScannedFine, Refused as ScannedRefused}
 use Rattle.grammar.specs.Records.{Records, KindsStand, answerOf, Answers}
@@ -42,8 +42,13 @@ pub record Stands (text records values : List ℕ) (n : ℕ) : Type 0 where
   pub shallow : (j : ℕ) → ¬ Crowded (flatten description) j
   pub nested : nest description ≤ deepest
 
+-- a refusal that Check may give, at a place in the text or at its end
+pub record Refuses (text : List ℕ) (m p : ℕ) : Type 0 where
+  pub checks : Checks text (refused m p)
+  pub near : p ≤ longestText
+
 abbrev pub Parses : List ℕ → List ℕ → List ℕ → Parsed → Type 0
-Parses text records values (Refused m p) = Checks text (refused m p)
+Parses text records values (Refused m p) = Refuses text m p
 Parses text records values (Fine n) = Stands text records values n
 
 -- how a scan ended
@@ -61,8 +66,9 @@ refused-by s m p e = go (s .end) refl e
     go fine q r = let z : _≡_ {A = ℕ} 0 1 = cc in absurd (omega arith)
     go (refuse x y) q r = cc
 
-pub refused-scan : {text : List ℕ} {m p : ℕ} {s : Scanned} → length text ≤ longestText → s ≡ scannedOf (scan text) → s ≡ ScannedRefused m p → Checks text (refused m p)
-refused-scan {text} {m} {p} short e q = unreadable short (refused-by (scan text) m p (sym q ∙ e))
+pub refused-scan : {text : List ℕ} {m p : ℕ} {s : Scanned} → length text ≤ longestText → s ≡ scannedOf (scan text) → s ≡ ScannedRefused m p → Refuses text m p
+refused-scan {text} {m} {p} short e q =
+    let is = refused-by (scan text) m p (sym q ∙ e) in record { checks = unreadable short is; near = omega (arith, refused-inside text m p is) }
 
 -- the recogniser's answer by its constructor
 twenty : (x : Answer) (k : ℕ) → RRefused20 k ≡ answerOf x → x ≡ refused20 k
@@ -141,6 +147,16 @@ module _ {text records values : List ℕ} (w : Written text records values) wher
             rw (placeBy, q) (written-holds .entry k h .place ∙ sym (place-here text ts k h))
         at-place false q = rw (placeBy, q) (sym (place-past text ts k (omega (arith, all, ltb-false k n q))))
 
+    place-near : (k p : ℕ) → p ≡ placeBy records n k (length text) → p ≤ longestText
+    unfolding placeBy
+    place-near k p q = at-place (ltb k n) refl
+      where
+        at-place : (r : Bool) → ltb k n ≡ r → p ≤ longestText
+        at-place true z =
+            let at = written-holds .entry k (omega (arith, all, ltb-true k n z)) in
+            omega (arith, w .short, at .inside, at .place, (rw (placeBy, z) at q))
+        at-place false z = omega (arith, w .short, (rw (placeBy, z) at q))
+
     -- what the recogniser says of them
     answered : (r : Recognised) → Answers records n r → r ≡ answerOf (recognise ts)
     answered r h = h ts kinds-stand
@@ -148,15 +164,21 @@ module _ {text records values : List ℕ} (w : Written text records values) wher
     by-answer : (x : Answer) → recognise ts ≡ x → Right ts x
     by-answer x q = subst (Right ts) q (right ts)
 
-    pub refused-20 : (k p : ℕ) → Answers records n (RRefused20 k) → p ≡ placeBy records n k (length text) → Checks text (refused 20 p)
+    pub refused-20 : (k p : ℕ) → Answers records n (RRefused20 k) → p ≡ placeBy records n k (length text) → Refuses text 20 p
     refused-20 k p h q =
-        subst (λ x. Checks text (refused 20 x)) (sym (q ∙ place-is k))
-        (no-description (w .short) (ended-by (scan text) n e .0) (by-answer (refused20 k) (twenty (recognise ts) k (answered (RRefused20 k) h))))
+        record {
+          checks = subst (λ x. Checks text (refused 20 x)) (sym (q ∙ place-is k))
+              (no-description (w .short) (ended-by (scan text) n e .0) (by-answer (refused20 k) (twenty (recognise ts) k (answered (RRefused20 k) h))));
+          near = place-near k p q;
+        }
 
-    pub refused-21 : (k p : ℕ) → Answers records n (RRefused21 k) → p ≡ placeBy records n k (length text) → Checks text (refused 21 p)
+    pub refused-21 : (k p : ℕ) → Answers records n (RRefused21 k) → p ≡ placeBy records n k (length text) → Refuses text 21 p
     refused-21 k p h q =
-        subst (λ x. Checks text (refused 21 x)) (sym (q ∙ place-is k))
-        (too-deep (w .short) (ended-by (scan text) n e .0) (by-answer (refused21 k) (twenty-one (recognise ts) k (answered (RRefused21 k) h))))
+        record {
+          checks = subst (λ x. Checks text (refused 21 x)) (sym (q ∙ place-is k))
+              (too-deep (w .short) (ended-by (scan text) n e .0) (by-answer (refused21 k) (twenty-one (recognise ts) k (answered (RRefused21 k) h))));
+          near = place-near k p q;
+        }
 
     pub parsed : Answers records n RAccepted → Stands text records values n
     parsed h =
@@ -186,10 +208,10 @@ module _ {text records : List ℕ} {n : ℕ} (v : Scans text records n) where
   pub scans-fine : {r : Recognised} → Answers records n r → r ≡ RAccepted → Stands text records (v .values) n
   scans-fine {r} h e = parsed (v .written) n (v .fine) (subst (Answers records n) e h)
 
-  pub scans-20 : {r : Recognised} {k p : ℕ} → Answers records n r → r ≡ RRefused20 k → p ≡ placeBy records n k (length text) → Checks text (refused 20 p)
+  pub scans-20 : {r : Recognised} {k p : ℕ} → Answers records n r → r ≡ RRefused20 k → p ≡ placeBy records n k (length text) → Refuses text 20 p
   scans-20 {r} {k} {p} h e q = refused-20 (v .written) n (v .fine) k p (subst (Answers records n) e h) q
 
-  pub scans-21 : {r : Recognised} {k p : ℕ} → Answers records n r → r ≡ RRefused21 k → p ≡ placeBy records n k (length text) → Checks text (refused 21 p)
+  pub scans-21 : {r : Recognised} {k p : ℕ} → Answers records n r → r ≡ RRefused21 k → p ≡ placeBy records n k (length text) → Refuses text 21 p
   scans-21 {r} {k} {p} h e q = refused-21 (v .written) n (v .fine) k p (subst (Answers records n) e h) q
 
 -- behind a scan that is fine

@@ -17,26 +17,27 @@ use Rattle.declare.specs.Finding.{Described}
 use Rattle.declare.specs.Told.{Told}
 use Rattle.declare.specs.declared.Declared.{Declared}
 use Rattle.declare.specs.declared.Declared.the-variants.{Fine as DeclaredFine, Refused as DeclaredRefused}
-use Rattle.reader.specs.Parsed.{Stands, Parses}
+use Rattle.reader.specs.Parsed.{Stands, Refuses}
 use Rattle.reader.specs.declared.parsing.Parsed.{Parsed}
 use Rattle.reader.specs.declared.parsing.Parsed.the-variants.{Fine as ParsedFine, Refused as ParsedRefused}
-use Rattle.reader.specs.declared.Standing.{Standing}
-use Rattle.reader.specs.declared.Standing.the-variants.{Fine, Refused}
+use Rattle.reader.specs.declared.declaring.Standing.{Standing}
+use Rattle.reader.specs.declared.declaring.Standing.the-variants.{Fine, Refused}
 
 -- the description that stands in the text, and the table that holds it
-pub record Declares (text records values decls : List ℕ) (m : ℕ) : Type 0 where
+pub record Declares (text records values decls : List ℕ) (m n : ℕ) : Type 0 where
   pub description : Description
   pub reads : flatten description ≡ scan text .tokens
   pub verdict : Checks text (judgement description)
   pub ready : Ready text records values decls (scan text .tokens) description m
+  pub count : n ≡ length (scan text .tokens)
 
 abbrev pub Reads : List ℕ → List ℕ → List ℕ → List ℕ → Standing → Type 0
-Reads text records values decls (Refused m p) = Checks text (refused m p)
-Reads text records values decls (Fine m) = Declares text records values decls m
+Reads text records values decls (Refused m p) = Refuses text m p
+Reads text records values decls (Fine m n) = Declares text records values decls m n
 
-abbrev pub standingOf : Declared → Standing
-standingOf (DeclaredRefused m p) = Refused m p
-standingOf (DeclaredFine m) = Fine m
+abbrev pub standingOf : ℕ → Declared → Standing
+standingOf n (DeclaredRefused m p) = Refused m p
+standingOf n (DeclaredFine m) = Fine m n
 
 -- what stands is described
 abbrev pub described : {text records values : List ℕ} {n : ℕ} → Stands text records values n → Described text records values n
@@ -55,6 +56,6 @@ module _ {text records values : List ℕ} {n : ℕ} (s : Stands text records val
 
   -- what the declarations' pass tells is what Check may answer, or the table is ready
   pub told : (records′ decls : List ℕ) (r : Declared) → Told text records′ values decls (scan text .tokens) (s .description) r
-      → Reads text records′ values decls (standingOf r)
-  told records′ decls (DeclaredRefused m p) h = subst (Checks text) (first-30 (s .description) m p h) verdict
-  told records′ decls (DeclaredFine m) h = record { description = s .description; reads = s .reads; verdict = verdict; ready = h }
+      → Reads text records′ values decls (standingOf n r)
+  told records′ decls (DeclaredRefused m p) h = record { checks = subst (Checks text) (first-30 (s .description) m p (h .is)) verdict; near = h .near }
+  told records′ decls (DeclaredFine m) h = record { description = s .description; reads = s .reads; verdict = verdict; ready = h; count = s .count }

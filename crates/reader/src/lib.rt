@@ -1,42 +1,31 @@
 // From a text to what can be said of it: each pass in its turn, and the first refusal that is found.
+pub mod declaring;
+pub mod judging;
 pub mod parsing;
 
-use crate::parsing::Parsed;
-use crate::parsing::parse;
-use declare::Declared;
-use declare::declare;
-ghost use Prim.Native.Nat.{_*_, _≤_};
+use crate::declaring::Standing;
+use crate::declaring::read;
+use crate::judging::Verdict;
+use crate::judging::judge;
+ghost use Prim.Native.Nat.{_≤_};
 ghost use lib.ListN.{length};
-ghost use Rattle.rules.specs.Text.Scan.{longestText, mostTokens};
-ghost use Rattle.reader.specs.Parsed.{Stands};
-ghost use Rattle.reader.specs.Read.{Reads};
+ghost use Rattle.rules.specs.Text.Scan.{longestText};
+ghost use Rattle.reader.specs.Judged.{Judges};
 
-// A description stands in the table with its names resolved, and has so many declarations; or the number and the place of the refusal.
-pub enum Standing {
-    Fine(usize),
-    Refused(u32, usize),
-}
-
-// Judges the declarations of a description that stands in the table.
-fn declared(text: &[u8], records: &mut [u8], values: &[u8], decls: &mut [u8], n: usize) -> Standing
-    requires { ⌜ Stands (now text) (now records) (now values) n ⌝ }
-    requires { ⌜ 2 * mostTokens ≤ length (now decls) ⌝ }
-    ensures { λ r. ⌜ Reads (now (text .entry)) (now (records .exit)) (now (values .entry)) (now (decls .exit)) r ⌝ }
-{
-    match declare(text, records, values, decls, n) {
-        Declared::Refused(number, place) => Standing::Refused(number, place),
-        Declared::Fine(m) => Standing::Fine(m),
-    }
-}
-
-// Reads a text up to its declarations: refusals 10 to 33.
-pub fn read(text: &[u8], records: &mut [u8], values: &mut [u8], decls: &mut [u8]) -> Standing
+// Reads a text and judges all of it: refusals 10 to 53. An accepted text stands in the table with its names resolved.
+pub fn check(
+    text: &[u8],
+    records: &mut [u8],
+    values: &mut [u8],
+    room: &mut [u8],
+    decls: &mut [u8],
+) -> Verdict
     requires { ⌜ (length (now text) ≤ longestText) × ((65536 ≤ length (now records)) × (65536 ≤ length (now values))) ⌝ }
-    requires { ⌜ 2 * mostTokens ≤ length (now decls) ⌝ }
-    ensures { λ r. ⌜ Reads (now (text .entry)) (now (records .exit)) (now (values .exit)) (now (decls .exit)) r ⌝ }
+    requires { ⌜ (65536 ≤ length (now room)) × (512 ≤ length (now decls)) ⌝ }
+    ensures { λ r. ⌜ Judges (now (text .entry)) (now (records .exit)) (now (values .exit)) (now (decls .exit)) r ⌝ }
 {
-    match parse(text, records, values) {
-        Parsed::Refused(number, place) => Standing::Refused(number, place),
-        Parsed::Fine(n) => declared(text, records, values, decls, n),
+    match read(text, records, values, room) {
+        Standing::Refused(number, place) => Verdict::Refused(number, place),
+        Standing::Fine(m, n) => judge(text, records, values, room, decls, m, n),
     }
 }

@@ -115,6 +115,11 @@ stored : transferred table (1 ∷ 0 ∷ 0 ∷ 0 ∷ 0 ∷ []) (to-name (bytes "B
 unfolding transferred evaluate evaluateFactor evaluateIndex evaluateAccess evaluateAccesses then wordOr70 wordOf fieldIn fieldOf storeAll withField field cut total howMany fromLeft fromRight bitCount numberFrom numberOf storageWords firstWord reachStorage lowBit reachOn reachUnder reachOf reachNumber reach accessLow accessBits sameBytes
 stored = refl
 
+-- B@M[A] = '1000000001 does the same where A is 1: storing to B does not change the subscript behind it
+own-subscript : transferred table (1 ∷ 0 ∷ 0 ∷ 0 ∷ 0 ∷ []) (to-name (bytes "B") ∷ to-word (read (bytes "A")) ∷ []) (constantly 10 513) ≡ gives (9 ∷ 0 ∷ 0 ∷ 1 ∷ 0 ∷ [])
+unfolding transferred evaluate evaluateFactor evaluateIndex evaluateAccess evaluateAccesses then wordOr70 wordOf fieldIn fieldOf storeAll withField field cut total howMany fromLeft fromRight bitCount numberFrom numberOf storageWords firstWord reachStorage lowBit reachOn reachUnder reachOf reachNumber reach accessLow accessBits sameBytes
+own-subscript = refl
+
 -- LP := REPEAT BEGIN A = A + '1 NEXT IF A EQL '1010 => LEAVE LP END
 abbrev count : Act
 count =

@@ -10,7 +10,7 @@ pub enum Ended {
     Done(u32),
     Stopped(u32),
     Paused(u32),
-    Fault(u32, usize, u32),
+    Fault(u32, u16, u32),
 }
 
 // Runs the body that begins at `start`. The scratch may hold anything afterwards.

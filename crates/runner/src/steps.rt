@@ -8,7 +8,7 @@ use evaluation::test;
 use evaluation::transfers::Transferred;
 use evaluation::transfers::transfer;
 use table::records::kind_at;
-use table::records::place_at;
+use table::records::place16_at;
 ghost use mathlib.Core.Path.{_≡_};
 ghost use mathlib.Core.List.{List};
 ghost use Prim.Native.Nat.{ℕ, _+_, _≤_};
@@ -31,7 +31,7 @@ pub enum Moved {
     Go(usize),
     Call(usize, usize),
     Stop,
-    Fault(u32, usize),
+    Fault(u32, u16),
 }
 
 // The IF at n acts when any bit of its test is 1.
@@ -64,7 +64,7 @@ fn decode_step(records: &[u8], values: &[u8], carriers: &[u8], n: usize) -> Move
         Evaluated::Value(x, _, behind) => {
             let chosen = choose(records, values, behind + 1, x);
             if chosen == 0 {
-                return Moved::Fault(71, place_at(records, n));
+                return Moved::Fault(71, place16_at(records, n));
             }
             Moved::Go(chosen)
         }

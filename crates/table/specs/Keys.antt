@@ -11,7 +11,7 @@ use native.Mathlib.Nat.{mul-le-mul-right, suc-mul}
 use borrow.Author.Tests.{lt-ltb, le-ltb, eq-eqb, ne-eqb, ltb-true, ltb-false}
 use lib.Dec.{ltb, eqb}
 use Rattle.rules.specs.Text.Scan.{longestText}
-use Rattle.rules.specs.Faults.Fault.{Fault, byPlace, byNumber, leastFrom, least}
+use Rattle.rules.specs.Faults.Fault.{Fault, fault, byPlace, byNumber, leastFrom, least}
 
 abbrev pub key : Fault → ℕ
 key f = f .place * 128 + f .number
@@ -126,6 +126,23 @@ module _ {k : Fault → ℕ} {before : Fault → Fault → Bool} (o : Orders k b
   least-key [] f s e = absurd (let z : _≡_ {A = ℕ} 0 1 = cc in omega arith)
   least-key (g ∷ fs) f (also-small s ss) e = let same : leastFrom before g fs ≡ f = cc in least-from g fs s ss ∙ ap k same
 
+  -- the least of small faults is small
+  least-small : (b : Fault) (fs : List Fault) → Small b → Smalls fs → Small (leastFrom before b fs)
+  unfolding leastFrom
+  least-small b [] s none-small = s
+  least-small b (f ∷ fs) s (also-small t ts) = least-small (elim (before f b) [ true ↦ f | false ↦ b ]) fs (by (before f b)) ts
+    where
+      by : (c : Bool) → Small (elim c [ true ↦ f | false ↦ b ])
+      by true = t
+      by false = s
+
+  -- a key that is not `noKey` is that of the least fault
+  pub least-by-key : (fs : List Fault) (n : ℕ) → Smalls fs → n ≡ leastBy k fs → (n ≡ noKey → ⊥) → (f : Fault) × (least before fs ≡ some f) × Small f × (n ≡ k f)
+  unfolding least
+  least-by-key [] n s e h = absurd (h (e ∙ least-none k))
+  least-by-key (g ∷ fs) n (also-small s ss) e h =
+      let f = leastFrom before g fs in (f, refl, least-small g fs s ss, e ∙ least-key (g ∷ fs) f (also-small s ss) refl)
+
 -- a fault by its key
 pub key-number : (f : Fault) → Small f → key f % 128 ≡ f .number
 key-number f s = omega (arith, s .number)
@@ -138,3 +155,24 @@ number-key-number f s = omega (arith, s .place)
 
 pub number-key-place : (f : Fault) → Small f → numberKey f % 65536 ≡ f .place
 number-key-place f s = omega (arith, s .place)
+
+same-fault : (f : Fault) (n p : ℕ) → f .number ≡ n → f .place ≡ p → some f ≡ some (fault n p)
+same-fault f n p e q = ap some (ap (λ (x : ℕ). fault x (f .place)) e ∙ ap (fault n) q)
+
+pub place-first : (fs : List Fault) (k : ℕ) → Smalls fs → k ≡ leastKey fs → (k ≡ noKey → ⊥) → least byPlace fs ≡ some (fault (k % 128) (k / 128))
+place-first fs k s e h =
+    let b = least-by-key by-place fs k s e h in
+    b .1 ∙ same-fault (b .0) _ _ (sym (ap (λ (n : ℕ). n % 128) (b .3) ∙ key-number (b .0) (b .2)))
+    (sym (ap (λ (n : ℕ). n / 128) (b .3) ∙ key-place (b .0) (b .2)))
+
+pub number-first : (fs : List Fault) (k : ℕ) → Smalls fs → k ≡ leastNumberKey fs → (k ≡ noKey → ⊥) → least byNumber fs ≡ some (fault (k / 65536) (k % 65536))
+number-first fs k s e h =
+    let b = least-by-key by-number fs k s e h in
+    b .1 ∙ same-fault (b .0) _ _ (sym (ap (λ (n : ℕ). n / 65536) (b .3) ∙ number-key-number (b .0) (b .2)))
+    (sym (ap (λ (n : ℕ). n % 65536) (b .3) ∙ number-key-place (b .0) (b .2)))
+
+pub place-near : (fs : List Fault) (k : ℕ) → Smalls fs → k ≡ leastKey fs → (k ≡ noKey → ⊥) → k / 128 ≤ longestText
+place-near fs k s e h = let b = least-by-key by-place fs k s e h in omega (arith, b .3, b .2 .place, b .2 .number)
+
+pub number-near : (fs : List Fault) (k : ℕ) → Smalls fs → k ≡ leastNumberKey fs → (k ≡ noKey → ⊥) → k % 65536 ≤ longestText
+number-near fs k s e h = let b = least-by-key by-number fs k s e h in omega (arith, b .3, b .2 .place)

@@ -20,11 +20,19 @@ pub fn size_at(records: &[u8], i: usize) -> u32
     records[8 * i + 1] as u32
 }
 
+// The place of two bytes, as it is kept.
+pub fn place16_at(records: &[u8], i: usize) -> u16
+    requires { ⌜ 8 * i + 8 ≤ length (now records) ⌝ }
+    ensures { λ r. ⌜ r ≡ placeCell (now (records .entry)) i ⌝ }
+{
+    get16(records, 4 * i + 1)
+}
+
 pub fn place_at(records: &[u8], i: usize) -> usize
     requires { ⌜ 8 * i + 8 ≤ length (now records) ⌝ }
     ensures { λ r. ⌜ r ≡ placeCell (now (records .entry)) i ⌝ }
 {
-    get16(records, 4 * i + 1) as usize
+    place16_at(records, i) as usize
 }
 
 pub fn value_at(values: &[u8], i: usize) -> u64

@@ -9,7 +9,7 @@ use lib.Dec.{eqb, ltb}
 use lib.ListN.{length, length-map, getD}
 use Rattle.cells.specs.Cells.{cells}
 use Rattle.rules.specs.Text.Tokens.{Token, kindNo}
-use Rattle.rules.specs.Text.Scan.{longestText, Scan, End, fine, refuse, ended, after, scanFrom, scan, Lexeme, lexeme, nothing, token, refused}
+use Rattle.rules.specs.Text.Scan.{longestText, Scan, End, fine, refuse, ended, after, scanFrom, scan, Lexeme, lexeme, nothing, token, refused, mostTokens}
 use Rattle.text.specs.Lexemes.{sizeOf}
 use Rattle.text.specs.Sound.{Sound, Placed, lexeme-sound}
 use Rattle.text.specs.Table.{recordOf, recordCells, valueBy, valueCells, writeCells}
@@ -161,3 +161,25 @@ module _ (text : List ℕ) where
 
     pub values-past : getD (writeCells 8 b 0 (valueCells 0 tokens)) k 0 ≡ getD b k 0
     values-past = past-written 8 b 0 (valueCells 0 tokens) k (omega (arith, length-values 0 tokens))
+
+-- a refusal's place is inside the text
+refuse-step : (p k b : ℕ) (bs : List ℕ) (m q : ℕ) → ((j n : ℕ) → scanFrom (p + 1) j n bs .end ≡ refuse m q → q < p + 1 + length bs) → (l : Lexeme) → lexeme p b bs ≡ l
+    → scanFrom p k 0 (b ∷ bs) .end ≡ refuse m q → q < p + suc (length bs)
+unfolding scanFrom
+refuse-step p k b bs m q more (nothing n) e h = omega (arith, more k n (rw (scanFrom, e) at h))
+refuse-step p k b bs m q more (refused x) e h = let is : refuse x p ≡ refuse m q = rw (scanFrom, e) at h in let same : p ≡ q = cc in omega arith
+refuse-step p k b bs m q more (token n t) e h = go (ltb 0 k) refl
+  where
+    go : (r : Bool) → ltb 0 k ≡ r → q < p + suc (length bs)
+    go true z = omega (arith, more (k - 1) n (rw (scanFrom, e, z) at h))
+    go false z = let is : refuse 13 p ≡ refuse m q = rw (scanFrom, e, z) at h in let same : p ≡ q = cc in omega arith
+
+refuse-within : (p k n : ℕ) (bs : List ℕ) (m q : ℕ) → scanFrom p k n bs .end ≡ refuse m q → q < p + length bs
+unfolding scanFrom
+refuse-within p k n [] m q h = let z : _≡_ {A = ℕ} 0 1 = cc in absurd (omega arith)
+refuse-within p k (suc n) (b ∷ bs) m q h = omega (arith, refuse-within (p + 1) k n bs m q h)
+refuse-within p k zero (b ∷ bs) m q h = refuse-step p k b bs m q (λ j n. refuse-within (p + 1) j n bs m q) (lexeme p b bs) refl h
+
+pub refused-inside : (text : List ℕ) (m q : ℕ) → scan text .end ≡ refuse m q → q < length text
+unfolding scan
+refused-inside text m q h = omega (arith, refuse-within 0 mostTokens 0 text m q h)

@@ -1,64 +1,137 @@
-// Scans texts that come packed on standard input, each behind its length in two bytes, low byte first, and writes a line for each: `passes`, or
-// `refused` with the number and the place. The lines to expect are those of an implementation of document 01 that shares nothing with this project.
-use cells::get16;
-use io::print_decimal;
-use text::Scanned;
-ghost use Prim.Native.Nat.{_≤_};
-ghost use lib.ListN.{length};
+// Runs texts that come packed on standard input, each behind its length in four bytes, low byte first, and writes a line for each: what Check and Run
+// answer, from zero carriers with a budget of 1,000, and a hash of the carriers that are left. The lines to expect are those of an implementation
+// of document 01 that shares nothing with this project.
+mod hash;
+mod input;
+mod report;
 
-fn show(found: Scanned) {
-    match found {
-        Scanned::Fine(_) => {
-            io::write_all(1, b"passes\n");
-        }
-        Scanned::Refused(number, place) => {
-            io::write_all(1, b"refused ");
-            print_decimal(1, number as u64);
-            io::write_all(1, b" ");
-            print_decimal(1, place as u64);
-            io::write_all(1, b"\n");
-        }
-    }
+use crate::hash::hash_of;
+use crate::input::end_of;
+use crate::input::refill;
+use crate::report::put_line;
+use lines::answers::Answer;
+use lines::calls::carrier_bytes;
+use lines::calls::check;
+use lines::calls::run;
+ghost use mathlib.Core.Path.{_≡_};
+ghost use Prim.Native.Nat.{_+_, _≤_};
+ghost use lib.ListN.{length, take};
+ghost use Rattle.vectors.specs.Hash.{hashOf};
+ghost use Rattle.vectors.specs.Turns.{Kept};
+
+const BUDGET: u32 = 1000;
+
+// What is read and not yet passed lies from one place to another; so many bytes are to be written; whether the input has ended.
+pub struct State {
+    pub from: usize,
+    pub to: usize,
+    pub at: usize,
+    pub ended: bool,
 }
 
-// The length of the next text; 0 where none follows.
-fn next_length() -> usize
-    ensures { λ r. ⌜ r ≤ 32768 ⌝ }
+// Runs a text on the first `size` bytes of the carriers.
+fn run_on(
+    text: &[u8],
+    carriers: &mut [u8],
+    size: usize,
+    a: &mut [u8],
+    b: &mut [u8],
+    c: &mut [u8],
+) -> Answer
+    requires { ⌜ size ≤ length (now carriers) ⌝ }
 {
-    let mut bytes = [0u8; 2];
-    let got = io::read_full(0, &mut bytes);
-    if got < 2 {
-        return 0;
-    }
-    let length = get16(&bytes, 0) as usize;
-    if 32768 < length {
-        return 0;
-    }
-    length
+    run(text, &mut carriers[..size], BUDGET, a, b, c)
 }
 
-// The next text, if there is one.
-fn show_next(text: &mut [u8], records: &mut [u8], values: &mut [u8]) -> bool
-    requires { ⌜ (32768 ≤ length (now text)) × ((65536 ≤ length (now records)) × (65536 ≤ length (now values))) ⌝ }
+fn hash_first(carriers: &[u8], size: usize) -> u64
+    requires { ⌜ size ≤ length (now carriers) ⌝ }
+    ensures { λ r. ⌜ r ≡ hashOf (take size (now (carriers .entry))) ⌝ }
 {
-    let size = next_length();
-    if size == 0 {
-        return false;
+    hash_of(&carriers[..size])
+}
+
+fn put_text(
+    out: &mut [u8],
+    at: usize,
+    text: &[u8],
+    a: &mut [u8],
+    b: &mut [u8],
+    c: &mut [u8],
+) -> usize
+    requires { ⌜ at + 256 ≤ length (now out) ⌝ }
+    ensures { λ r. ⌜ r ≤ at + 256 ⌝ }
+{
+    let mut carriers = [0u8; 32768];
+    let checked = check(text, a, b, c);
+    let size = carrier_bytes(checked.words);
+    let ran = run_on(text, &mut carriers, size, a, b, c);
+    let hash = hash_first(&carriers, size);
+    put_line(out, at, checked, ran, hash)
+}
+
+// Writes what there is when the buffer is nearly full; answers how many bytes are left to write.
+fn flushed(out: &[u8], at: usize) -> usize
+    requires { ⌜ at ≤ length (now out) ⌝ }
+    ensures { λ r. ⌜ r ≤ 65280 ⌝ }
+{
+    if at <= 65280 {
+        return at;
     }
-    let got = io::read_full(0, &mut text[..size]);
-    if size < got {
-        return false;
+    io::write_all(1, &out[..at]);
+    0
+}
+
+// Passes a record, or reads more.
+fn turn(
+    input: &mut [u8],
+    out: &mut [u8],
+    s: State,
+    a: &mut [u8],
+    b: &mut [u8],
+    c: &mut [u8],
+) -> State
+    requires { ⌜ Kept (now input) (now out) s ⌝ }
+    ensures { λ r. ⌜ Kept (now (input .exit)) (now (out .exit)) r ⌝ }
+{
+    let from = s.from;
+    let to = s.to;
+    let end = end_of(input, from, to);
+    if end == 0 {
+        let grown = refill(input, from, to);
+        return State {
+            from: 0,
+            to: grown,
+            at: s.at,
+            ended: grown == to - from,
+        };
     }
-    show(text::scan(&text[..got], records, values));
-    true
+    let text = from + 4;
+    let next = put_text(out, s.at, &input[text..end], a, b, c);
+    State {
+        from: end,
+        to,
+        at: flushed(out, next),
+        ended: false,
+    }
 }
 
 fn main() {
-    let mut records = io::large_buffer();
-    let mut values = io::large_buffer();
-    let mut text = [0u8; 32768];
-    for _ in 0..4096usize {
-        if !show_next(&mut text, &mut records, &mut values) {
+    let mut input = [0u8; 131072];
+    let mut out = io::large_buffer();
+    let mut a = io::large_buffer();
+    let mut b = io::large_buffer();
+    let mut c = io::large_buffer();
+    let mut s = State {
+        from: 0,
+        to: 0,
+        at: 0,
+        ended: false,
+    };
+    for _ in 0..4194304usize {
+        s = turn(&mut input, &mut out, s, &mut a, &mut b, &mut c);
+        if s.ended {
+            let end = s.at;
+            io::write_all(1, &out[..end]);
             return;
         }
     }

@@ -120,6 +120,7 @@ texts =
 abbrev pub beginnings : List Start
 beginnings =
     starts "N := BEGIN MAIN C0 := BEGIN NO.OP() END END" 0 1000 (0 ∷ 1 ∷ [])
+    ∷ starts "N := BEGIN MAIN C0 := BEGIN NO.OP() END END" 0 0 (2 ∷ 0 ∷ [])
     ∷ starts "N := BEGIN MAIN C0 := BEGIN C1() END, C1 := BEGIN STOP() END END" 0 1000 (1 ∷ 2 ∷ [])
     ∷ starts "N := BEGIN MAIN C0 := BEGIN C1() END, C1 := BEGIN STOP() END END" 0 1 (2 ∷ 1 ∷ [])
     ∷ starts "N := BEGIN MAIN GO := BEGIN REPEAT NO.OP() END END" 0 100 (2 ∷ 100 ∷ [])

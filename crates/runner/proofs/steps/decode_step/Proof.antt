@@ -17,6 +17,6 @@ decode-step-spec =
     (λ c. omega (arith, choice-room (decode-choice (c .before .before .before .before .before .before .before .pre .1 .0) (c .before .before .before .before .before .before .before .pre .1 .1) (c .before .before .before .test .ensures) (c .before .tested2 .given .1))))
     (λ c κs. decode-choice (c .before .before .before .before .before .before .before .pre .1 .0) (c .before .before .before .before .before .before .before .pre .1 .1) (c .before .before .before .test .ensures) (c .before .tested2 .given .1))
     (λ c κs. search needs)
-    (λ c decls v k. decode-none v k (c .before .before .before .before .before .before .test .ensures) (c .before .before .before .before .tested2 .given .1) (c .before .before .choose .ensures) (c .before .if1 .taken) (c .place-at .ensures))
+    (λ c decls v k. decode-none v k (c .before .before .before .before .before .before .test .ensures) (c .before .before .before .before .tested2 .given .1) (c .before .before .choose .ensures) (c .before .if1 .taken) (c .place16-at .ensures))
     (λ c decls v k. decode-faults v k (c .before .before .before .test .ensures) (c .before .tested .given .1))
     (λ c decls v k. decode-goes v k (c .before .before .before .before .before .test .ensures) (c .before .before .before .tested2 .given .1) (c .before .choose .ensures) (c .if1 .left)))

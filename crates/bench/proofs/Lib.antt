@@ -1,0 +1,5 @@
+pub mod Spelling
+pub mod Arrays
+pub mod Storage
+pub mod Tables
+pub mod Reading

@@ -1,0 +1,114 @@
+// Runs the description on standard input from zero carriers, and writes how the run ended and the words that it left.
+mod listing;
+mod names;
+mod words;
+
+use crate::listing::put_listing;
+use lines::answers::Answer;
+use lines::answers::REFUSED;
+use lines::bytes::put_byte;
+use lines::calls::carrier_bytes;
+use lines::calls::check;
+use lines::calls::run;
+use lines::endings::put_ending;
+use reader::declaring::Standing;
+use reader::declaring::read;
+ghost use Prim.Native.Nat.{_≤_};
+ghost use lib.ListN.{length};
+ghost use Rattle.rules.specs.Text.Scan.{longestText};
+
+const BUDGET: u32 = 1000000;
+
+const LONGEST_TEXT: usize = 32768;
+
+// The first line.
+fn put_first(out: &mut [u8], a: Answer) -> usize
+    requires { ⌜ 128 ≤ length (now out) ⌝ }
+    ensures { λ r. ⌜ r ≤ 128 ⌝ }
+{
+    let next = put_ending(out, 0, a);
+    put_byte(out, next, 10)
+}
+
+// The other lines: the text is read once more, for the names of its words.
+fn put_rest(
+    out: &mut [u8],
+    at: usize,
+    text: &[u8],
+    carriers: &[u8],
+    a: &mut [u8],
+    b: &mut [u8],
+    c: &mut [u8],
+) -> usize
+    requires { ⌜ (length (now text) ≤ longestText) × ((65536 ≤ length (now a)) × ((65536 ≤ length (now b)) × (65536 ≤ length (now c)))) ⌝ }
+    requires { ⌜ (at ≤ 128) × ((524544 ≤ length (now out)) × (32768 ≤ length (now carriers))) ⌝ }
+    ensures { λ r. ⌜ r ≤ length (now (out .exit)) ⌝ }
+{
+    match read(text, a, b, c) {
+        Standing::Refused(_, _) => at,
+        Standing::Fine(m, _) => put_listing(out, at, text, a, b, c, m, carriers),
+    }
+}
+
+// The run of a text, from as many zero carriers as it asks for.
+fn run_text(text: &[u8], carriers: &mut [u8], a: &mut [u8], b: &mut [u8], c: &mut [u8]) -> Answer
+    requires { ⌜ 32768 ≤ length (now carriers) ⌝ }
+{
+    let accepted = check(text, a, b, c);
+    let size = carrier_bytes(accepted.words);
+    run(text, &mut carriers[..size], BUDGET, a, b, c)
+}
+
+// All that is to be written for a text whose run has ended.
+fn put_report(
+    out: &mut [u8],
+    ended: Answer,
+    text: &[u8],
+    carriers: &[u8],
+    a: &mut [u8],
+    b: &mut [u8],
+    c: &mut [u8],
+) -> usize
+    requires { ⌜ (length (now text) ≤ longestText) × ((65536 ≤ length (now a)) × ((65536 ≤ length (now b)) × (65536 ≤ length (now c)))) ⌝ }
+    requires { ⌜ (524544 ≤ length (now out)) × (32768 ≤ length (now carriers)) ⌝ }
+    ensures { λ r. ⌜ r ≤ length (now (out .exit)) ⌝ }
+{
+    let next = put_first(out, ended);
+    if ended.ending == REFUSED {
+        return next;
+    }
+    put_rest(out, next, text, carriers, a, b, c)
+}
+
+// The run and its report.
+fn answer(
+    out: &mut [u8],
+    text: &[u8],
+    carriers: &mut [u8],
+    a: &mut [u8],
+    b: &mut [u8],
+    c: &mut [u8],
+) -> usize
+    requires { ⌜ (length (now text) ≤ longestText) × ((65536 ≤ length (now a)) × ((65536 ≤ length (now b)) × (65536 ≤ length (now c)))) ⌝ }
+    requires { ⌜ (524544 ≤ length (now out)) × (32768 ≤ length (now carriers)) ⌝ }
+    ensures { λ r. ⌜ r ≤ length (now (out .exit)) ⌝ }
+{
+    let ended = run_text(text, carriers, a, b, c);
+    put_report(out, ended, text, carriers, a, b, c)
+}
+
+fn main() {
+    let mut text = [0u8; 32769];
+    let mut carriers = [0u8; 32768];
+    let mut out = [0u8; 524544];
+    let mut a = io::large_buffer();
+    let mut b = io::large_buffer();
+    let mut c = io::large_buffer();
+    let n = io::read_full(0, &mut text);
+    if LONGEST_TEXT < n {
+        io::write_all(1, b"refused 2 0\n");
+        return;
+    }
+    let end = answer(&mut out, &text[..n], &mut carriers, &mut a, &mut b, &mut c);
+    io::write_all(1, &out[..end]);
+}

@@ -1,0 +1,31 @@
+-- `bodies::all::body_fault` meets its contract: the body's own name is the only one around its action.
+-- Assumes nothing.
+use borrow.Author.Needs.{needs}
+use native.Mathlib.Omega.{arith}
+use mathlib.Core.Path.{refl}
+use Rattle.bodies.specs.Laws.Bodies.{declared-view, name-small, bodiless, begins, long, body-view, labels-view, body-answer}
+use Rattle.bodies.proofs.all.body_fault.Statement.{statement}
+use Rattle.bodies.proofs.all.body_fault.Tie as tie
+
+pub body-fault-spec : {M : Type 1} → statement M
+body-fault-spec =
+    tie.close
+    (tie.spec
+    (λ c κs. (_, declared-view (c .before .before .before .before .before .pre)))
+    (λ c. (λ v. bodiless v (c .before .body-of .ensures _ (declared-view v)) (c .if1 .taken), refl))
+    (λ c. omega (arith, name-small (c .before .before .before .before .before .before .before .before .pre)))
+    (λ c κs. search needs)
+    (λ c κs. let v = c .before .before .before .before .before .before .before .before .before .before .before .before .pre in body-view v (begins v (c .before .before .before .before .before .before .body-of .ensures _ (declared-view v)) (c .before .before .before .before .before .if1 .left)) (c .before .before .before .put16 .ensures))
+    (λ c κs.
+    let v = c .before .before .before .before .before .before .before .before .before .before .before .before .before .before .before .before .pre in
+    let h = begins v (c .before .before .before .before .before .before .before .before .before .before .body-of .ensures _ (declared-view v)) (c .before .before .before .before .before .before .before .before .before .if1 .left) in
+    (omega (arith, v .large, long v h (c .before .before .before .before .before .before .before .put16 .ensures), c .before .before .before .action .ensures .0 .long), (_, _, labels-view v h (c .before .before .before .before .before .before .before .put16 .ensures) (c .before .before .before .action .ensures .1 (body-view v h (c .before .before .before .before .before .before .before .put16 .ensures))))))
+    (λ c κs. search needs)
+    (λ c. search needs)
+    (λ c. (
+      λ v.
+          let h = begins v (c .before .before .before .before .before .before .before .before .before .before .before .before .before .before .body-of .ensures _ (declared-view v)) (c .before .before .before .before .before .before .before .before .before .before .before .before .before .if1 .left) in
+          let a = c .before .before .before .before .before .before .before .action .ensures .1 (body-view v h (c .before .before .before .before .before .before .before .before .before .before .before .put16 .ensures)) in
+          body-answer v h (c .before .before .before .before .before .before .before .before .before .before .before .put16 .ensures) a (c .before .before .before .labels-fault .ensures _ _ (labels-view v h (c .before .before .before .before .before .before .before .before .before .before .before .put16 .ensures) a)) (c .earlier .ensures),
+      search needs,
+    )))

@@ -1,0 +1,63 @@
+-- `bodies::labels::labels_fault` meets its contract: what is found so far, with what the labels left have, is the answer.
+-- Assumes nothing.
+use borrow.Author.Needs.{needs}
+use native.Mathlib.Omega.{arith}
+use borrow.Author.Tests.{not-true, not-false}
+use mathlib.Core.Path.{_≡_, ap, _∙_}
+use mathlib.Core.List.{List}
+use Prim.Native.Nat.{ℕ, _-_, _≤_}
+use lib.ListN.{length}
+use Rattle.cells.specs.Laws.{length-put}
+use Rattle.table.specs.Keys.{noKey}
+use Rattle.bodies.specs.Labels.{LabelsView}
+use Rattle.bodies.specs.Laws.Passes.{Passing, pass-starts, pass-ends, pass-room, pass-on, pass-label, pass-pushed}
+use Rattle.bodies.proofs.labels.labels_fault.Statement.{statement}
+use Rattle.bodies.proofs.labels.labels_fault.Tie as tie
+
+record Inv (text records room₀ : List ℕ) (i j : ℕ) (room : List ℕ) (at count k : ℕ) : Type 0 where
+  long : length room ≡ length room₀
+  least : k ≤ noKey
+  left : (values decls : List ℕ) (v : LabelsView text records values decls i j) → Passing v room at count k
+
+abbrev Inv-loop : tie.InvT-loop
+Inv-loop text records room₀ i j at₀ count₀ key₀ room at count key = Inv text records room₀ i j room at count key
+
+abbrev μ-loop : tie.MeasureT-loop
+μ-loop text records room₀ i j at₀ count₀ key₀ room at count key = j - at
+
+pub labels-fault-spec : {M : Type 1} → statement M
+labels-fault-spec =
+    tie.close
+    (tie.spec
+    Inv-loop
+    μ-loop
+    (λ c. record { long = search needs; least = omega arith; left = λ values decls v. pass-starts v _ })
+    (λ c. let v = c .before .before .before .before .before .pre .1 .2 in omega (arith, pass-room v (c .before .loop .inv .left _ _ v) (c .loop-test .taken)))
+    (λ c κs. let v = c .before .before .before .before .before .pre .1 .2 in pass-room v (c .before .loop .inv .left _ _ v) (c .loop-test .taken) .0)
+    (λ c. search needs)
+    (λ c. record {
+      long = c .before .before .before .loop .inv .long;
+      least = c .before .before .before .loop .inv .least;
+      left = λ values decls v. pass-on v (c .before .before .before .loop .inv .left _ _ v) (c .before .before .loop-test .taken) (c .before .is-label .ensures) (not-true _ (c .if1 .taken));
+    })
+    (λ c κs.
+    let v = c .before .before .before .before .before .before .before .before .pre .1 .2 in
+    (_, _, pass-label v (c .before .before .before .before .loop .inv .left _ _ v) (c .before .before .before .loop-test .taken) (c .before .before .is-label .ensures) (not-false _ (c .before .if1 .left))))
+    (λ c κs. search needs)
+    (λ c. let v = c .before .before .before .before .before .before .before .before .before .before .before .pre .1 .2 in omega (arith, pass-room v (c .before .before .before .before .before .before .before .loop .inv .left _ _ v) (c .before .before .before .before .before .before .loop-test .taken)))
+    (λ c κs. let v = c .before .before .before .before .before .before .before .before .before .before .before .pre .1 .2 in omega (arith, pass-room v (c .before .before .before .before .before .before .before .loop .inv .left _ _ v) (c .before .before .before .before .before .before .loop-test .taken), c .before .before .before .before .before .before .before .loop .inv .long, c .before .before .before .before .before .before .before .before .before .before .before .pre .0))
+    (λ c. let v = c .before .before .before .before .before .before .before .before .before .before .before .before .before .before .pre .1 .2 in omega (arith, pass-room v (c .before .before .before .before .before .before .before .before .before .before .loop .inv .left _ _ v) (c .before .before .before .before .before .before .before .before .before .loop-test .taken)))
+    (λ c. search needs)
+    (λ c.
+    let big : 16384 ≤ length (c .before .before .before .before .before .before .before .before .before .before .loop .room) = omega (arith, c .before .before .before .before .before .before .before .before .before .before .loop .inv .long, c .before .before .before .before .before .before .before .before .before .before .before .before .before .before .pre .0) in
+    record {
+      long = ap length (c .before .before .put16 .ensures) ∙ length-put 2 _ _ _ ∙ c .before .before .before .before .before .before .before .before .before .before .loop .inv .long;
+      least = omega (arith, c .before .before .before .before .earlier .ensures, c .before .before .before .before .before .before .before .before .before .before .loop .inv .least);
+      left = λ values decls v.
+          let p = c .before .before .before .before .before .before .before .before .before .before .loop .inv .left _ _ v in
+          let t = not-false _ (c .before .before .before .before .before .before .before .if1 .left) in
+          rw (c .before .before .put16 .ensures, c .before .before .before .before .earlier .ensures)
+          (pass-pushed v p (c .before .before .before .before .before .before .before .before .before .loop-test .taken) (c .before .before .before .before .before .before .before .before .is-label .ensures) t big (c .before .before .before .before .before .label-fault .ensures _ _ (pass-label v p (c .before .before .before .before .before .before .before .before .before .loop-test .taken) (c .before .before .before .before .before .before .before .before .is-label .ensures) t)));
+    })
+    (λ c. c .before .loop .inv .long)
+    (λ c values decls v. pass-ends v (c .before .loop .inv .left _ _ v) (c .before .loop .inv .least) (c .loop-test .left)))

@@ -1,0 +1,10 @@
+pub mod Stage
+pub mod Stacks
+pub mod Labels
+pub mod Actions
+pub mod Jumps
+pub mod Prefixes
+pub mod Choices
+pub mod Alternatives
+pub mod Bodies
+pub mod Laws

@@ -1,0 +1,33 @@
+-- What stands in the lent tables once the declarations are passed, with the text.
+use Prim.Native.Nat.{ℕ, _<_}
+use mathlib.Core.Path.{_≡_}
+use mathlib.Core.List.{List}
+use lib.ListN.{length}
+use Rattle.rules.specs.Text.Tokens.{Const}
+use Rattle.rules.specs.Grammar.Trees.{Tokens, Description}
+use Rattle.rules.specs.Declarations.{Name as Word, Table, declarations, outerName}
+use Rattle.table.specs.Holds.{tokenAt}
+use Rattle.table.specs.Ready.{Ready}
+use Rattle.selectors.specs.Stands.{Held}
+use Rattle.expressions.specs.Scene.{Scene}
+
+pub record Stage (text records values decls : List ℕ) : Type 0 where
+  pub tokens : Tokens
+  pub description : Description
+  pub declared : ℕ
+  pub ready : Ready text records values decls tokens description declared
+  pub fixed : (i : ℕ) → i < length tokens → tokenAt tokens i .kind ≡ Const → tokenAt tokens i .info .free ≡ 0
+
+module _ {text records values decls : List ℕ} (s : Stage text records values decls) where
+  abbrev pub outerOf : Word
+  outerOf = outerName (s .description) .word
+
+  abbrev pub tableOf : Table
+  tableOf = declarations (s .description)
+
+  -- as the expressions see it, and as the selectors do
+  abbrev pub sceneOf : Scene records values decls
+  sceneOf = record { text = text; tokens = s .tokens; description = s .description; count = s .declared; ready = s .ready }
+
+  abbrev pub heldOf : Held records values (s .tokens)
+  heldOf = record { text = text; holds = s .ready .holds; fixed = s .fixed }

@@ -1,0 +1,232 @@
+// Actions. Only BEGIN nests, and `depth` falls with each: a block holds actions, a DECODE alternatives, and these hold actions again.
+use crate::Walked;
+use crate::choices::behind_selector;
+use crate::choices::counted_fault;
+use crate::choices::keep_start;
+use crate::choices::overlap_fault;
+use crate::choices::selected_fault;
+use crate::prefixes::prefixes;
+use crate::simple::simple;
+use expressions::NO_KEY;
+use expressions::judge::expression;
+use table::keys::earlier;
+use table::records::kind_at;
+ghost use mathlib.Core.Path.{_≡_};
+ghost use Prim.Native.Nat.{_+_};
+ghost use Rattle.bodies.specs.Actions.{levelBase, ActionView, ActionAnswer, IsBlock, IsDecode};
+ghost use Rattle.bodies.specs.Stacks.{Kept};
+ghost use Rattle.bodies.specs.Alternatives.{isSelector, ChoicesView, ChoicesAnswer, IsCounted, IsSelected};
+
+const BEGIN: u8 = 19;
+
+const END: u8 = 20;
+
+const DECODE: u8 = 23;
+
+// Whether a token of this kind begins a selector: a constant, `[` or OTHERWISE.
+fn has_selector(kind: u8) -> bool
+    ensures { λ r. ⌜ r ≡ isSelector kind ⌝ }
+{
+    (kind == 1) | (kind == 2) | (kind == 5) | (kind == 24)
+}
+
+// An action, with what stands in front of it.
+pub fn action(
+    text: &[u8],
+    records: &[u8],
+    values: &[u8],
+    decls: &[u8],
+    room: &mut [u8],
+    i: usize,
+    count: usize,
+    depth: usize,
+) -> Walked
+    requires { ⌜ ActionView (now text) (now records) (now values) (now decls) (now room) i count depth ⌝ }
+    ensures kept { λ r. ⌜ Kept count (levelBase depth) (now (room .entry)) (now (room .exit)) ⌝ }
+    ensures answer { λ r. ⌜ ((v : ActionView (now (text .entry)) (now (records .entry)) (now (values .entry)) (now (decls .entry)) (now (room .entry)) i count depth)
+        → ActionAnswer v r) ⌝ }
+{
+    let front = prefixes(records, values, decls, room, i, count, depth);
+    let at = front.at;
+    let names = front.count;
+    let kind = kind_at(records, at);
+    if kind == BEGIN {
+        let inside = block(text, records, values, decls, room, at, names, depth);
+        return Walked {
+            key: earlier(front.key, inside.key),
+            next: inside.next,
+        };
+    }
+    if kind == DECODE {
+        let inside = decode(text, records, values, decls, room, at, names, depth);
+        return Walked {
+            key: earlier(front.key, inside.key),
+            next: inside.next,
+        };
+    }
+    let inside = simple(text, records, values, decls, room, at, names, depth);
+    Walked {
+        key: earlier(front.key, inside.key),
+        next: inside.next,
+    }
+}
+
+// A block: its members, one after the other.
+fn block(
+    text: &[u8],
+    records: &[u8],
+    values: &[u8],
+    decls: &[u8],
+    room: &mut [u8],
+    i: usize,
+    count: usize,
+    depth: usize,
+) -> Walked
+    requires { ⌜ ((v : ActionView (now text) (now records) (now values) (now decls) (now room) i count depth) × IsBlock (v .action)) ⌝ }
+    ensures kept { λ r. ⌜ Kept count (levelBase depth) (now (room .entry)) (now (room .exit)) ⌝ }
+    ensures answer { λ r. ⌜ ((v : ActionView (now (text .entry)) (now (records .entry)) (now (values .entry)) (now (decls .entry)) (now (room .entry)) i count depth)
+        → IsBlock (v .action) → ActionAnswer v r) ⌝ }
+{
+    let mut at = i + 1;
+    let mut key = NO_KEY;
+    loop {
+        let member = action(text, records, values, decls, room, at, count, depth - 1);
+        key = earlier(key, member.key);
+        let next = member.next;
+        if kind_at(records, next) == END {
+            return Walked {
+                key,
+                next: next + 1,
+            };
+        }
+        at = next + 1;
+    }
+}
+
+// A DECODE: its test, and its alternatives.
+fn decode(
+    text: &[u8],
+    records: &[u8],
+    values: &[u8],
+    decls: &[u8],
+    room: &mut [u8],
+    i: usize,
+    count: usize,
+    depth: usize,
+) -> Walked
+    requires { ⌜ ((v : ActionView (now text) (now records) (now values) (now decls) (now room) i count depth) × IsDecode (v .action)) ⌝ }
+    ensures kept { λ r. ⌜ Kept count (levelBase depth) (now (room .entry)) (now (room .exit)) ⌝ }
+    ensures answer { λ r. ⌜ ((v : ActionView (now (text .entry)) (now (records .entry)) (now (values .entry)) (now (decls .entry)) (now (room .entry)) i count depth)
+        → IsDecode (v .action) → ActionAnswer v r) ⌝ }
+{
+    let test = expression(records, values, decls, i + 1, depth);
+    let bits = test.bits;
+    let first = test.next + 2;
+    if has_selector(kind_at(records, first)) {
+        let inside = selected(
+            text,
+            records,
+            values,
+            decls,
+            room,
+            first,
+            count,
+            depth - 1,
+            bits,
+        );
+        return Walked {
+            key: earlier(test.key, inside.key),
+            next: inside.next,
+        };
+    }
+    let inside = counted(
+        text,
+        records,
+        values,
+        decls,
+        room,
+        first,
+        count,
+        depth - 1,
+        bits,
+    );
+    Walked {
+        key: earlier(test.key, inside.key),
+        next: inside.next,
+    }
+}
+
+// Alternatives without selectors: each is taken at its own number.
+fn counted(
+    text: &[u8],
+    records: &[u8],
+    values: &[u8],
+    decls: &[u8],
+    room: &mut [u8],
+    i: usize,
+    count: usize,
+    depth: usize,
+    bits: u32,
+) -> Walked
+    requires { ⌜ ((v : ChoicesView (now text) (now records) (now values) (now decls) (now room) i count depth bits) × IsCounted (v .alternatives)) ⌝ }
+    ensures kept { λ r. ⌜ Kept count (levelBase (depth + 1)) (now (room .entry)) (now (room .exit)) ⌝ }
+    ensures answer { λ r. ⌜ ((v : ChoicesView (now (text .entry)) (now (records .entry)) (now (values .entry)) (now (decls .entry)) (now (room .entry)) i count depth bits)
+        → IsCounted (v .alternatives) → ChoicesAnswer v r) ⌝ }
+{
+    let mut at = i;
+    let mut number: usize = 0;
+    let mut key = NO_KEY;
+    loop {
+        let fault = counted_fault(records, at, number, bits);
+        let inside = action(text, records, values, decls, room, at, count, depth);
+        key = earlier(key, earlier(fault, inside.key));
+        number += 1;
+        let next = inside.next;
+        if kind_at(records, next) == END {
+            return Walked {
+                key,
+                next: next + 1,
+            };
+        }
+        at = next + 1;
+    }
+}
+
+// Alternatives with selectors; at the end they are compared with each other.
+fn selected(
+    text: &[u8],
+    records: &[u8],
+    values: &[u8],
+    decls: &[u8],
+    room: &mut [u8],
+    i: usize,
+    count: usize,
+    depth: usize,
+    bits: u32,
+) -> Walked
+    requires { ⌜ ((v : ChoicesView (now text) (now records) (now values) (now decls) (now room) i count depth bits) × IsSelected (v .alternatives)) ⌝ }
+    ensures kept { λ r. ⌜ Kept count (levelBase (depth + 1)) (now (room .entry)) (now (room .exit)) ⌝ }
+    ensures answer { λ r. ⌜ ((v : ChoicesView (now (text .entry)) (now (records .entry)) (now (values .entry)) (now (decls .entry)) (now (room .entry)) i count depth bits)
+        → IsSelected (v .alternatives) → ChoicesAnswer v r) ⌝ }
+{
+    let mut at = i;
+    let mut number: usize = 0;
+    let mut key = NO_KEY;
+    loop {
+        keep_start(room, depth, number, at);
+        let fault = selected_fault(records, values, at, number, bits);
+        let body = behind_selector(records, at);
+        let inside = action(text, records, values, decls, room, body, count, depth);
+        key = earlier(key, earlier(fault, inside.key));
+        number += 1;
+        let next = inside.next;
+        if kind_at(records, next) == END {
+            let overlap = overlap_fault(records, values, room, depth, number);
+            return Walked {
+                key: earlier(key, overlap),
+                next: next + 1,
+            };
+        }
+        at = next + 1;
+    }
+}

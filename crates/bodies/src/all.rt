@@ -1,0 +1,63 @@
+// All bodies of a description, one after the other: the least fault of the 40s.
+use crate::actions::action;
+use crate::labels::labels_fault;
+use cells::get16;
+use cells::put16;
+use expressions::NO_KEY;
+use table::keys::earlier;
+use table::views::body_of;
+ghost use mathlib.Core.Path.{_≡_};
+ghost use lib.ListN.{length};
+ghost use Rattle.table.specs.Keys.{leastKey};
+ghost use Rattle.bodies.specs.Bodies.{BodyView, faultsOfBody, BodiesView, faultsOfBodies};
+
+// The deepest nesting.
+const DEEPEST: usize = 32;
+
+// The body of the declaration whose name is the token i: its action under that name, and its labels against each other.
+fn body_fault(
+    text: &[u8],
+    records: &[u8],
+    values: &[u8],
+    decls: &[u8],
+    room: &mut [u8],
+    i: usize,
+) -> u32
+    requires { ⌜ BodyView (now text) (now records) (now values) (now decls) (now room) i ⌝ }
+    ensures answer { λ r. ⌜ ((v : BodyView (now (text .entry)) (now (records .entry)) (now (values .entry)) (now (decls .entry)) (now (room .entry)) i)
+        → r ≡ leastKey (faultsOfBody v)) ⌝ }
+    ensures long { λ r. ⌜ length (now (room .exit)) ≡ length (now (room .entry)) ⌝ }
+{
+    let begin = body_of(records, i);
+    if begin == 0 {
+        return NO_KEY;
+    }
+    put16(room, 0, i as u16);
+    let inside = action(text, records, values, decls, room, begin, 1, DEEPEST);
+    let labels = labels_fault(text, records, room, begin, inside.next);
+    earlier(inside.key, labels)
+}
+
+// The least fault of the m declarations' bodies.
+pub fn fault40(
+    text: &[u8],
+    records: &[u8],
+    values: &[u8],
+    decls: &[u8],
+    room: &mut [u8],
+    m: usize,
+) -> u32
+    requires { ⌜ BodiesView (now text) (now records) (now values) (now decls) (now room) m ⌝ }
+    ensures answer { λ r. ⌜ ((v : BodiesView (now (text .entry)) (now (records .entry)) (now (values .entry)) (now (decls .entry)) (now (room .entry)) m)
+        → r ≡ leastKey (faultsOfBodies v)) ⌝ }
+    ensures long { λ r. ⌜ length (now (room .exit)) ≡ length (now (room .entry)) ⌝ }
+{
+    let mut key = NO_KEY;
+    let mut k: usize = 0;
+    while k < m {
+        let name = get16(decls, k) as usize;
+        key = earlier(key, body_fault(text, records, values, decls, room, name));
+        k += 1;
+    }
+    key
+}

@@ -1,0 +1,113 @@
+// The alternatives of one DECODE, each by itself and against the others: 45.
+use cells::get16;
+use cells::put16;
+use expressions::NO_KEY;
+use selectors::alternatives;
+use selectors::alternatives::first_overlap;
+use selectors::items;
+use selectors::items::Item;
+use table::keys::fault_key;
+use table::records::kind_at;
+use table::records::place_at;
+ghost use mathlib.Core.Path.{_≡_};
+ghost use mathlib.Core.Bool.{_||_};
+ghost use mathlib.Core.List.{[], _∷_};
+ghost use Prim.Native.Nat.{_+_, _*_, _<_, _≤_, min};
+ghost use lib.Dec.{leb};
+ghost use lib.ListN.{length};
+ghost use Rattle.rules.specs.Selectors.{between};
+ghost use Rattle.rules.specs.Faults.Fault.{when};
+ghost use Rattle.rules.specs.Faults.Bodies as rules;
+ghost use Rattle.selectors.specs.Stands.{AlternativeView};
+ghost use Rattle.table.specs.Holds.{placeCell};
+ghost use Rattle.table.specs.Keys.{leastKey};
+ghost use Rattle.bodies.specs.Actions.{levelBase};
+ghost use Rattle.bodies.specs.Choices.{withStart, StartsView, OverlapAnswer, BehindView, BehindAnswer};
+
+const BECOMES: u8 = 12;
+
+// 45 for an alternative behind `number` others, where it is the 65th or a later one, or past the tested length.
+fn choice_fault(records: &[u8], at: usize, number: usize, past: bool) -> u32
+    requires { ⌜ (8 * at + 8 ≤ length (now records)) × (placeCell (now records) at ≤ 32768) ⌝ }
+    ensures { λ r. ⌜ r ≡ leastKey (when (leb 64 number || past) 45 (placeCell (now (records .entry)) at)) ⌝ }
+{
+    if (64 <= number) | past {
+        return fault_key(45, place_at(records, at));
+    }
+    NO_KEY
+}
+
+// An alternative without a selector: its number is its only value.
+pub fn counted_fault(records: &[u8], at: usize, number: usize, bits: u32) -> u32
+    requires { ⌜ (8 * at + 8 ≤ length (now records)) × (placeCell (now records) at ≤ 32768) × (bits ≤ 64) ⌝ }
+    ensures { λ r. ⌜ r ≡ leastKey (when (leb 64 number || rules.past bits (between number number ∷ [])) 45 (placeCell (now (records .entry)) at)) ⌝ }
+{
+    let value = number as u64;
+    choice_fault(
+        records,
+        at,
+        number,
+        items::past(Item::Between(value, value), bits),
+    )
+}
+
+// An alternative with a selector.
+pub fn selected_fault(records: &[u8], values: &[u8], at: usize, number: usize, bits: u32) -> u32
+    requires { ⌜ (8 * at + 8 ≤ length (now records)) × (placeCell (now records) at ≤ 32768) × (bits ≤ 64) × AlternativeView (now records) (now values) at ⌝ }
+    ensures { λ r. ⌜ ((v : AlternativeView (now (records .entry)) (now (values .entry)) at)
+        → r ≡ leastKey (when (leb 64 number || rules.past bits (v .items)) 45 (placeCell (now (records .entry)) at))) ⌝ }
+{
+    choice_fault(
+        records,
+        at,
+        number,
+        alternatives::past(records, values, bits, at),
+    )
+}
+
+// Keeps where an alternative begins, for the 64 that are compared.
+pub fn keep_start(room: &mut [u8], depth: usize, number: usize, at: usize)
+    requires { ⌜ (2 * levelBase (depth + 1) ≤ length (now room)) × (at < 65536) ⌝ }
+    ensures { λ _. ⌜ now (room .exit) ≡ withStart (now (room .entry)) depth number at ⌝ }
+{
+    if number < 64 {
+        put16(room, 8192 + 64 * depth + number, at as u16);
+    }
+}
+
+// How many of the alternatives are compared.
+fn compared(number: usize) -> usize
+    ensures { λ r. ⌜ r ≡ min number 64 ⌝ }
+{
+    if number < 64 { number } else { 64 }
+}
+
+// 45 at the first alternative that overlaps an earlier one.
+pub fn overlap_fault(records: &[u8], values: &[u8], room: &[u8], depth: usize, number: usize) -> u32
+    requires { ⌜ StartsView (now records) (now values) (now room) depth number ⌝ }
+    ensures { λ r. ⌜ ((v : StartsView (now (records .entry)) (now (values .entry)) (now (room .entry)) depth number) → OverlapAnswer v r) ⌝ }
+{
+    let count = compared(number);
+    let base = 8192 + 64 * depth;
+    let from = 2 * base;
+    let later = first_overlap(records, values, &room[from..], count);
+    if later == count {
+        return NO_KEY;
+    }
+    let at = get16(room, base + later) as usize;
+    fault_key(45, place_at(records, at))
+}
+
+// The token behind the `:=` of the selector at `at`.
+pub fn behind_selector(records: &[u8], at: usize) -> usize
+    requires { ⌜ BehindView (now records) at ⌝ }
+    ensures { λ r. ⌜ ((v : BehindView (now (records .entry)) at) → BehindAnswer v r) ⌝ }
+{
+    let mut i = at;
+    loop {
+        if kind_at(records, i) == BECOMES {
+            return i + 1;
+        }
+        i += 1;
+    }
+}

@@ -1,0 +1,87 @@
+// Labels and other names, kept as the numbers of their tokens in cells of lent bytes.
+use cells::get16;
+use cells::put16;
+use expressions::NO_KEY;
+use expressions::names::meaning_at;
+use table::keys::earlier;
+use table::keys::fault_key;
+use table::records::kind_at;
+use table::records::place_at;
+use table::words::same_word;
+ghost use mathlib.Core.Path.{_≡_};
+ghost use mathlib.Core.List.{List};
+ghost use Prim.Native.Nat.{ℕ, _+_, _*_, _≤_};
+ghost use lib.ListN.{length};
+ghost use Rattle.rules.specs.Faults.Declared.{isKnown};
+ghost use Rattle.table.specs.Keys.{leastKey};
+ghost use Rattle.table.specs.Words.{wordAt};
+ghost use Rattle.bodies.specs.Stacks.{NameView, stackedWords};
+ghost use Rattle.bodies.specs.Labels.{labelAt, LabelView, labelFault, LabelsView, allLabelFaults};
+
+const UNKNOWN: u16 = 65535;
+
+const NAME: u8 = 0;
+
+const BECOMES: u8 = 12;
+
+// Whether the name i has the word of one of the first `count` names.
+pub fn is_stacked(text: &[u8], records: &[u8], room: &[u8], count: usize, i: usize) -> bool
+    requires { ⌜ NameView (now text) (now records) (now room) count i ⌝ }
+    ensures { λ r. ⌜ ((v : NameView (now (text .entry)) (now (records .entry)) (now (room .entry)) count i)
+        → r ≡ isKnown (wordAt (v .tokens) i) (stackedWords (v .tokens) (now (room .entry)) count)) ⌝ }
+{
+    let mut k = count;
+    while 0 < k {
+        k -= 1;
+        let name = get16(room, k) as usize;
+        if same_word(text, records, name, i) {
+            return true;
+        }
+    }
+    false
+}
+
+// Whether the token i is a label: a name with `:=` behind it.
+pub fn is_label(records: &[u8], i: usize) -> bool
+    requires { ⌜ 8 * (i + 1) + 8 ≤ length (now records) ⌝ }
+    ensures { λ r. ⌜ r ≡ labelAt (now (records .entry)) i ⌝ }
+{
+    (kind_at(records, i) == NAME) & (kind_at(records, i + 1) == BECOMES)
+}
+
+// 44 for the label i, where it is declared, the outer name, or one of the `count` labels before it.
+fn label_fault(text: &[u8], records: &[u8], room: &[u8], count: usize, i: usize) -> u32
+    requires { ⌜ ((values : List ℕ) × (decls : List ℕ) × LabelView (now text) (now records) values decls (now room) count i) ⌝ }
+    ensures { λ r. ⌜ ((values decls : List ℕ) (v : LabelView (now (text .entry)) (now (records .entry)) values decls (now (room .entry)) count i)
+        → r ≡ leastKey (labelFault v)) ⌝ }
+{
+    let key = fault_key(44, place_at(records, i));
+    if meaning_at(records, i) != UNKNOWN {
+        return key;
+    }
+    if is_stacked(text, records, room, count, i) {
+        return key;
+    }
+    NO_KEY
+}
+
+// The labels from the token i up to j, one after the other.
+pub fn labels_fault(text: &[u8], records: &[u8], room: &mut [u8], i: usize, j: usize) -> u32
+    requires { ⌜ (16384 ≤ length (now room)) × ((values : List ℕ) × (decls : List ℕ) × LabelsView (now text) (now records) values decls i j) ⌝ }
+    ensures { λ r. ⌜ ((values decls : List ℕ) (v : LabelsView (now (text .entry)) (now (records .entry)) values decls i j) → r ≡ leastKey (allLabelFaults v)) ⌝ }
+{
+    let mut at = i;
+    let mut count: usize = 0;
+    let mut key = NO_KEY;
+    while at < j {
+        let here = at;
+        at += 1;
+        if !is_label(records, here) {
+            continue;
+        }
+        key = earlier(key, label_fault(text, records, room, count, here));
+        put16(room, count, here as u16);
+        count += 1;
+    }
+    key
+}

@@ -1,0 +1,116 @@
+// Actions with nothing inside: LEAVE, RESTART, activations, STOP(), NO.OP() and transfers.
+use crate::Walked;
+use crate::labels::is_stacked;
+use cells::get16;
+use expressions::NO_KEY;
+use expressions::destinations::destination;
+use expressions::judge::expression;
+use expressions::names::meaning_at;
+use table::keys::earlier;
+use table::keys::fault_key;
+use table::records::kind_at;
+use table::records::place_at;
+use table::views::body_of;
+ghost use mathlib.Core.Path.{_≡_};
+ghost use Rattle.table.specs.Keys.{leastKey};
+ghost use Rattle.bodies.specs.Actions.{ActionView, ActionAnswer, Simple};
+ghost use Rattle.bodies.specs.Jumps.{isJump, JumpView, jumpFaults, CallView, callFaults, TransferView, TransferAnswer};
+
+const NAME: u8 = 0;
+
+const LPAR: u8 = 3;
+
+const LEAVE: u8 = 26;
+
+const RESTART: u8 = 27;
+
+const OUTER_ONLY: u16 = 65534;
+
+const UNKNOWN: u16 = 65535;
+
+fn is_jump(kind: u8) -> bool
+    ensures { λ r. ⌜ r ≡ isJump kind ⌝ }
+{
+    (kind == LEAVE) | (kind == RESTART)
+}
+
+// 44 at the keyword i, where its target is no name around it.
+fn jump_fault(text: &[u8], records: &[u8], room: &[u8], i: usize, count: usize) -> u32
+    requires { ⌜ JumpView (now text) (now records) (now room) i count ⌝ }
+    ensures { λ r. ⌜ ((v : JumpView (now (text .entry)) (now (records .entry)) (now (room .entry)) i count) → r ≡ leastKey (jumpFaults v)) ⌝ }
+{
+    if is_stacked(text, records, room, count, i + 1) {
+        return NO_KEY;
+    }
+    fault_key(44, place_at(records, i))
+}
+
+// 40 and 41 for the activation of the name i, which must have a body.
+fn call_fault(records: &[u8], decls: &[u8], i: usize) -> u32
+    requires { ⌜ CallView (now records) (now decls) i ⌝ }
+    ensures { λ r. ⌜ ((v : CallView (now (records .entry)) (now (decls .entry)) i) → r ≡ leastKey (callFaults v)) ⌝ }
+{
+    let place = place_at(records, i);
+    let number = meaning_at(records, i);
+    if number == UNKNOWN {
+        return fault_key(40, place);
+    }
+    if number == OUTER_ONLY {
+        return fault_key(41, place);
+    }
+    let declared = get16(decls, number as usize) as usize;
+    if body_of(records, declared) == 0 {
+        return fault_key(41, place);
+    }
+    NO_KEY
+}
+
+// A transfer: its destination, and the expression behind `=`.
+fn transfer(records: &[u8], values: &[u8], decls: &[u8], i: usize, depth: usize) -> Walked
+    requires { ⌜ TransferView (now records) (now values) (now decls) i depth ⌝ }
+    ensures { λ r. ⌜ ((v : TransferView (now (records .entry)) (now (values .entry)) (now (decls .entry)) i depth) → TransferAnswer v r) ⌝ }
+{
+    let to = destination(records, values, decls, i, depth);
+    let value = expression(records, values, decls, to.next + 1, depth);
+    Walked {
+        key: earlier(to.key, value.key),
+        next: value.next,
+    }
+}
+
+// A simple action.
+pub fn simple(
+    text: &[u8],
+    records: &[u8],
+    values: &[u8],
+    decls: &[u8],
+    room: &[u8],
+    i: usize,
+    count: usize,
+    depth: usize,
+) -> Walked
+    requires { ⌜ ((v : ActionView (now text) (now records) (now values) (now decls) (now room) i count depth) × Simple (v .action)) ⌝ }
+    ensures { λ r. ⌜ ((v : ActionView (now (text .entry)) (now (records .entry)) (now (values .entry)) (now (decls .entry)) (now (room .entry)) i count depth)
+        → Simple (v .action) → ActionAnswer v r) ⌝ }
+{
+    let kind = kind_at(records, i);
+    if kind == NAME {
+        if kind_at(records, i + 1) == LPAR {
+            return Walked {
+                key: call_fault(records, decls, i),
+                next: i + 3,
+            };
+        }
+        return transfer(records, values, decls, i, depth);
+    }
+    if is_jump(kind) {
+        return Walked {
+            key: jump_fault(text, records, room, i, count),
+            next: i + 2,
+        };
+    }
+    Walked {
+        key: NO_KEY,
+        next: i + 3,
+    }
+}

@@ -1,0 +1,36 @@
+-- `isps::running::ran` meets its contract: the text's refusal, or what becomes of the carriers.
+-- Assumes nothing.
+use borrow.Author.Needs.{needs}
+use Rattle.isps.specs.Outcome.{refuses-by, accepts-by, refused-text}
+use Rattle.isps.proofs.running.ran.Statement.{statement}
+use Rattle.isps.proofs.running.ran.Tie as tie
+
+refusal-requires : tie.Need-refusal-requires
+refusal-requires c κs = refuses-by (c .before .before .before .before .before .before .before .before .before .before .check .ensures) (c .before .number .given .1) .near
+
+run-accepted-requires : tie.Need-run-accepted-requires
+run-accepted-requires c κs = (accepts-by (c .before .before .before .before .before .before .before .before .before .before .before .before .before .before .before .check .ensures) (c .before .before .before .before .before .before .m .given .1), search needs)
+
+returns : tie.Need-returns
+returns c = refused-text (refuses-by (c .before .before .before .before .before .before .before .before .before .before .before .check .ensures) (c .before .before .number .given .1)) (c .refusal .ensures)
+
+pub ran-spec : {M : Type 1} → statement M
+ran-spec =
+    tie.close
+    (tie.spec
+    (λ c. search needs)
+    (λ c κs. let p = c .before .before .before .before .before .before .before .before .before .pre in ((p .0, (p .1 .0, p .1 .1 .0)), (p .1 .1 .1, search needs)))
+    (λ c. search needs)
+    refusal-requires
+    (λ c. search needs)
+    (λ c. search needs)
+    run-accepted-requires
+    (λ c. search needs)
+    (λ c. search needs)
+    (λ c. search needs)
+    returns
+    (λ c. search needs)
+    (λ c. search needs)
+    (λ c. search needs)
+    (λ c. search needs)
+    (λ c. search needs))

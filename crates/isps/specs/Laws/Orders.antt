@@ -1,0 +1,142 @@
+-- Demand 3, from the contract of the call to the orders of the rules.
+-- Assumes nothing.
+use Prim.Native.Nat.{ℕ, _<_, _≤_}
+use mathlib.Core.Path.{_≡_, refl, sym, ap, _∙_, subst}
+use mathlib.Core.Bool.{Bool, true, false}
+use mathlib.Core.List.{List}
+use mathlib.Core.Option.{Option, none, some}
+use native.Mathlib.Omega.{arith}
+use lib.Dec.{eqb}
+use lib.ListN.{length, drop}
+use Prim.Native.Nat.{_*_}
+use Rattle.rules.specs.Text.Scan.{longestText, scan}
+use Rattle.rules.specs.Grammar.Trees.{Description, flatten}
+use Rattle.rules.specs.Declarations.{Table, declarations, totalWords}
+use Rattle.rules.specs.Steps.Runs as steps
+use Rattle.rules.specs.Steps.Runs.{Conf, Run, Ending, done, halted, paused, faulted, Steps, begin}
+use Rattle.rules.specs.Faults.Whole.{mainName}
+use Rattle.rules.specs.Answers.{accepted, Checks, Result, refusal, ended, resultOf, Runs, not-accepted, ran, runOn, longWord, wordLengths, wordsFrom, bufferOf, littleEndian, resultNumbers}
+use Rattle.laws.specs.Grammar.Exact.{unique}
+use Rattle.laws.specs.Orders.Budget.{run-bounded}
+use Rattle.laws.specs.Orders.Ends.{Ended, Well, EveryOrder}
+use Rattle.laws.specs.Demand3.{accepted-order-free, accepted-none-ends}
+use Rattle.isps.specs.Memory.{Memory, Enough, answered}
+use Rattle.isps.specs.Run.{RunCall, carriersLeft, short-memory, long-text, answer}
+use Rattle.isps.specs.Laws.Calls.{code, resultCode, result-code, ran-steps}
+
+abbrev runOf : Table → List ℕ → ℕ → Run
+runOf ds buffer budget = steps.run ds (mainName ds) budget (wordsFrom (totalWords ds) buffer)
+
+-- a result that is no refusal is that of the run
+run-ended : (ds : Table) (buffer : List ℕ) (budget : ℕ) {e : Ending} {n : ℕ} {b : List ℕ} → runOn ds buffer budget ≡ ended e n b → resultOf (runOf ds buffer budget) ≡ ended e n b
+unfolding runOn
+run-ended ds buffer budget {e} {n} {b} is = by (eqb (length buffer) (8 * totalWords ds)) refl
+  where
+    from : (o : Option ℕ) → longWord 0 (wordLengths ds) (wordsFrom (totalWords ds) buffer) ≡ o → eqb (length buffer) (8 * totalWords ds) ≡ true
+        → resultOf (runOf ds buffer budget) ≡ ended e n b
+    from none q t = rw (runOn, t, q) at is
+    from (some o) q t = let z : refusal 61 o ≡ ended e n b = rw (runOn, t, q) at is in let y : _≡_ {A = ℕ} 0 1 = cc in absurd (omega arith)
+
+    by : (t : Bool) → eqb (length buffer) (8 * totalWords ds) ≡ t → resultOf (runOf ds buffer budget) ≡ ended e n b
+    by true t = from (longWord 0 (wordLengths ds) (wordsFrom (totalWords ds) buffer)) refl t
+    by false t = let z : refusal 60 0 ≡ ended e n b = rw (runOn, t) at is in let y : _≡_ {A = ℕ} 0 1 = cc in absurd (omega arith)
+
+-- the run behind a result of Run that is no refusal
+record Ran (text carriers : List ℕ) (budget : ℕ) (d : Description) (e : Ending) (n : ℕ) (left : List ℕ) : Type 0 where
+  pub declarations-count : ℕ
+  pub words-count : ℕ
+  pub checks : Checks text (accepted declarations-count words-count)
+  pub is : resultOf (runOf (declarations d) carriers budget) ≡ ended e n left
+
+ran-by : {text carriers : List ℕ} {budget : ℕ} {x : Result} {e : Ending} {n : ℕ} {left : List ℕ} (d : Description) → flatten d ≡ scan text .tokens
+    → Runs text carriers budget x → x ≡ ended e n left → Ran text carriers budget d e n left
+ran-by d stands (not-accepted c) q = let y : _≡_ {A = ℕ} 0 1 = cc in absurd (omega arith)
+ran-by {carriers = carriers} {budget} {e = e} {n} {left} d stands (ran d′ reads c) q =
+    let same : d′ ≡ d = unique d′ d (reads ∙ sym stands) in
+    record {
+      declarations-count = _;
+      words-count = _;
+      checks = c;
+      is = run-ended (declarations d) carriers budget (subst (λ x. runOn (declarations x) carriers budget ≡ ended e n left) same q);
+    }
+
+well : (e : Ending) → code e < 2 → Well e
+well done l = tt
+well halted l = tt
+well paused l = absurd (omega arith)
+well (faulted m p) l = absurd (omega arith)
+
+not-well : (e : Ending) → 2 ≤ code e → Well e → ⊥
+not-well done l w = absurd (omega arith)
+not-well halted l w = absurd (omega arith)
+not-well paused l w = w
+not-well (faulted m p) l w = w
+
+-- what a call has answered that was lent enough
+record Answers (text carriers : List ℕ) (budget : ℕ) (before after : Memory) (left : List ℕ) : Type 0 where
+  pub result : Result
+  pub runs : Runs text carriers budget result
+  pub ending : littleEndian 4 (after .answer) ≡ resultCode result
+  pub answer : after .answer ≡ answered (resultNumbers result) (before .answer)
+  pub left-is : left ≡ carriersLeft carriers result
+
+answers : {text carriers left : List ℕ} {budget n : ℕ} {before after : Memory} → RunCall text carriers budget before after left n → Enough before
+    → length text ≤ longestText → Answers text carriers budget before after left
+answers (short-memory s e a c) enough short = absurd (s enough)
+answers (long-text m l e a c) enough short = absurd (omega arith)
+answers {before = before} (answer x m l r e a c) enough short =
+    record { result = x; runs = r; ending = ap (λ y. littleEndian 4 (y .answer)) a ∙ result-code x (before .answer); answer = ap (λ y. y .answer) a; left-is = c }
+
+module _ {text carriers left : List ℕ} {budget n : ℕ} {before after : Memory} (call : RunCall text carriers budget before after left n)
+    (enough : Enough before) (short : length text ≤ longestText) (small : budget < 4294967296) (d : Description) (stands : flatten d ≡ scan text .tokens) where
+  abbrev ds : Table
+  ds = declarations d
+
+  abbrev start : Conf
+  start = begin ds (mainName ds) (wordsFrom (totalWords ds) carriers)
+
+  -- an order of k steps that has come to c agrees with the call
+  pub record Agrees (k : ℕ) (c : Conf) : Type 0 where
+    pub end : Run
+    pub order : EveryOrder ds end k c
+    pub ending : code (end .ending) ≡ littleEndian 4 (after .answer)
+    pub steps : end .steps ≡ littleEndian 4 (drop 12 (after .answer))
+    pub carriers-left : bufferOf (end .carriers) ≡ left
+
+  given : Answers text carriers budget before after left
+  given = answers call enough short
+
+  few-steps : (r : Run) {e : Ending} {k : ℕ} {b : List ℕ} → resultOf r ≡ ended e k b → (r .ending ≡ e) × (r .steps ≡ k) × (bufferOf (r .carriers) ≡ b)
+  few-steps r q = (cc, cc, cc)
+
+  pub every-order : littleEndian 4 (after .answer) < 2 → (k : ℕ) (c : Conf) → Steps ds k start c → Agrees k c
+  every-order l k c s = by (given .result) refl
+    where
+      by : (x : Result) → given .result ≡ x → Agrees k c
+      by (refusal m p) q = absurd (omega (arith, given .ending, ap resultCode q))
+      by (ended e count b) q =
+          let r = runOf ds carriers budget in
+          let g = ran-by d stands (given .runs) q in
+          let f = few-steps r (g .is) in
+          let is = given .ending ∙ ap resultCode q in
+          let w : Well (r .ending) = subst Well (sym (f .0)) (well e (omega (arith, is))) in
+          let bound : count < 4294967296 = omega (arith, f .1, run-bounded ds (mainName ds) budget (wordsFrom (totalWords ds) carriers)) in
+          record {
+            end = r;
+            order = accepted-order-free text _ _ (g .checks) d stands (wordsFrom (totalWords ds) carriers) budget w k c s;
+            ending = ap code (f .0) ∙ sym is;
+            steps = f .1 ∙ sym (ap (λ y. littleEndian 4 (drop 12 y)) (given .answer ∙ ap (λ x. answered (resultNumbers x) (before .answer)) q) ∙ ran-steps e count (before .answer) bound);
+            carriers-left = f .2 ∙ sym (given .left-is ∙ ap (carriersLeft carriers) q);
+          }
+
+  pub no-order-ends : 2 ≤ littleEndian 4 (after .answer) → littleEndian 4 (after .answer) < 4 → (k : ℕ) (c : Conf) → k ≤ budget → Steps ds k start c → Ended c → ⊥
+  no-order-ends l h k c m s z = by (given .result) refl
+    where
+      by : (x : Result) → given .result ≡ x → ⊥
+      by (refusal o p) q = absurd (omega (arith, given .ending, ap resultCode q))
+      by (ended e count b) q =
+          let r = runOf ds carriers budget in
+          let g = ran-by d stands (given .runs) q in
+          let f = few-steps r (g .is) in
+          let is = given .ending ∙ ap resultCode q in
+          accepted-none-ends text _ _ (g .checks) d stands (wordsFrom (totalWords ds) carriers) budget (λ w. not-well e (omega (arith, is)) (subst Well (f .0) w)) k c m s z

@@ -1,0 +1,17 @@
+-- `lines::endings::put_refusal` meets its contract: one follows the other.
+-- Assumes nothing.
+use borrow.Author.Needs.{needs}
+use Rattle.lines.specs.Appended.{and-then}
+use Rattle.lines.proofs.endings.put_refusal.Statement.{statement}
+use Rattle.lines.proofs.endings.put_refusal.Tie as tie
+
+pub put-refusal-spec : {M : Type 1} → statement M
+put-refusal-spec =
+    tie.close
+    (tie.spec
+    (λ c. search needs)
+    (λ c κs. search needs)
+    (λ c. search needs)
+    (λ c κs. search needs)
+    (λ c. search needs)
+    (λ c. search (needs, and-then)))

@@ -1,0 +1,38 @@
+-- `links::mains::main_start` meets its contract: the first declaration with MAIN before its name.
+-- Assumes nothing.
+use borrow.Author.Needs.{needs}
+use native.Mathlib.Omega.{arith}
+use Prim.Native.Nat.{_-_}
+use Rattle.links.specs.Mains.{Searching, start-searching, main-exists, cell-room, view-at, name-fits, main-here, main-later}
+use Rattle.links.proofs.mains.main_start.Statement.{statement}
+use Rattle.links.proofs.mains.main_start.Tie as tie
+
+abbrev Inv-loop : tie.InvT-loop
+Inv-loop records decls m k₀ k = Searching records decls m k
+
+abbrev μ-loop : tie.MeasureT-loop
+μ-loop records decls m k₀ k = m - k
+
+pub main-start-spec : {M : Type 1} → statement M
+main-start-spec =
+    tie.close
+    (tie.spec
+    Inv-loop
+    μ-loop
+    (λ c. start-searching _ _ _)
+    (λ c κs. cell-room (c .before .loop .inv) (c .loop-test .taken) (c .before .before .before .before .pre))
+    (λ c. search needs)
+    (λ c κs. (c .before .before .before .before .before .pre .values, view-at (c .before .before .loop .inv) (c .before .loop-test .taken) (c .get16 .ensures) (c .before .before .before .before .before .pre)))
+    (λ c. omega (arith, name-fits (c .before .before .before .before .loop .inv) (c .before .before .before .loop-test .taken) (c .before .before .get16 .ensures) (c .before .before .before .before .before .before .before .pre) .1))
+    (λ c. omega (arith, name-fits (c .before .before .before .before .loop .inv) (c .before .before .before .loop-test .taken) (c .before .before .get16 .ensures) (c .before .before .before .before .before .before .before .pre) .1))
+    (λ c κs. omega (arith, name-fits (c .before .before .before .before .loop .inv) (c .before .before .before .loop-test .taken) (c .before .before .get16 .ensures) (c .before .before .before .before .before .before .before .pre) .0))
+    (λ c. search needs)
+    (λ c.
+    main-here (c .before .before .before .before .before .loop .inv) (c .before .before .before .before .loop-test .taken) (c .before .before .before .get16 .ensures)
+    (λ v. c .before .before .main-of .ensures (v .values) (view-at (c .before .before .before .before .before .loop .inv) (c .before .before .before .before .loop-test .taken) (c .before .before .before .get16 .ensures) v)) (c .before .if1 .taken) (c .get162 .ensures))
+    (λ c. search needs)
+    (λ c. omega arith)
+    (λ c.
+    main-later (c .before .before .before .before .loop .inv) (c .before .before .before .loop-test .taken) (c .before .before .get16 .ensures)
+    (λ v. c .before .main-of .ensures (v .values) (view-at (c .before .before .before .before .loop .inv) (c .before .before .before .loop-test .taken) (c .before .before .get16 .ensures) v)) (c .if1 .left))
+    (λ c v. absurd (main-exists (c .before .loop .inv) (c .loop-test .left) v)))

@@ -1,0 +1,10 @@
+-- `vectors::flushed` meets its contract: what is written lies within the buffer.
+-- Assumes nothing.
+use borrow.Author.Needs.{needs}
+use native.Mathlib.Omega.{arith}
+use lib.ListN.{length-take}
+use Rattle.vectors.proofs.flushed.Statement.{statement}
+use Rattle.vectors.proofs.flushed.Tie as tie
+
+pub flushed-spec : {M : Type 1} → statement M
+flushed-spec = tie.close (tie.spec (λ c. search needs) (λ c. simp length-take (omega arith)) (λ c κs. search needs) (λ c. search needs))

@@ -1,0 +1,49 @@
+-- `whole::groups::group_key` meets its contract.
+use borrow.Author.Needs.{needs}
+use native.Mathlib.Omega.{arith}
+use Prim.Native.Nat.{_-_}
+use Rattle.whole.specs.Reading.{kinded}
+use Rattle.whole.specs.GroupKeys.{Comparing, compare-none, last-member, end-inside, next-member}
+use Rattle.whole.proofs.groups.group_key.Statement.{statement}
+use Rattle.whole.proofs.groups.group_key.Tie as tie
+
+abbrev Inv-loop : tie.InvT-loop
+Inv-loop records decls memo m n from key₀ before₀ i₀ key before i = Comparing records decls memo m n from (before .reads .w) (before .writes .w) key i
+
+abbrev μ-loop : tie.MeasureT-loop
+μ-loop records decls memo m n from key₀ before₀ i₀ key before i = n - i
+
+pub group-key-spec : {M : Type 1} → statement M
+group-key-spec =
+    tie.close
+    (tie.spec
+    Inv-loop
+    μ-loop
+    (λ c κs. search needs)
+    (λ c. compare-none _ (c .before .before .before .before .pre .0) (c .before .before .before .before .pre .1 .1) (c .nothing .ensures .0)
+    (c .nothing .ensures .1 .0))
+    (λ c κs. search needs)
+    (λ c κs. search needs)
+    (λ c κs. search needs)
+    (λ c κs. search needs)
+    (λ c κs. search (needs, kinded))
+    (λ c κs. search (needs, kinded))
+    (λ c. last-member (c .before .before .before .before .before .before .before .loop .inv) (c .before .before .end-of .result)
+    (record { gathered = c .before .before .before .before .before .before .touched .ensures; place = _; place-is = c .before .before .before .before .before .place-of .ensures .1; own = _; own-is = c .before .before .before .before .member-key .ensures; least = c .before .before .before .earlier .ensures; ends = c .before .before .end-of .ensures .1; kind = c .before .kind-of .ensures }) (c .if1 .taken))
+    (λ c κs. search needs)
+    (λ c. omega (
+      arith,
+      end-inside (c .before .before .before .end-of .result)
+          (kinded (c .before .before .before .before .before .before .before .before .loop .inv .reading)) (c .before .before .kind-of .ensures)
+          (c .before .if1 .left),
+      kinded (c .before .before .before .before .before .before .before .before .loop .inv .reading) .few,
+    ))
+    (λ c. omega (
+      arith,
+      end-inside (c .before .before .before .end-of .result)
+          (kinded (c .before .before .before .before .before .before .before .before .loop .inv .reading)) (c .before .before .kind-of .ensures)
+          (c .before .if1 .left),
+      c .before .before .before .end-of .ensures .0,
+    ))
+    (λ c. next-member (c .before .before .before .before .before .before .before .before .loop .inv) (c .before .before .before .end-of .result)
+    (record { gathered = c .before .before .before .before .before .before .before .touched .ensures; place = _; place-is = c .before .before .before .before .before .before .place-of .ensures .1; own = _; own-is = c .before .before .before .before .before .member-key .ensures; least = c .before .before .before .before .earlier .ensures; ends = c .before .before .before .end-of .ensures .1; kind = c .before .before .kind-of .ensures }) (c .before .if1 .left) (c .joined .ensures .0) (c .joined .ensures .1 .0)))

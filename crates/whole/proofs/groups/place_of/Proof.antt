@@ -1,0 +1,13 @@
+-- `whole::groups::place_of` meets its contract.
+use borrow.Author.Needs.{needs}
+use Rattle.whole.specs.GroupKeys.{place-there, place-past, place-bound}
+use Rattle.whole.proofs.groups.place_of.Statement.{statement}
+use Rattle.whole.proofs.groups.place_of.Tie as tie
+
+pub place-of-spec : {M : Type 1} → statement M
+place-of-spec =
+    tie.close
+    (tie.spec
+    (λ c κs. search needs)
+    (λ c. (search (needs, place-bound), search (needs, place-there)))
+    (λ c. (search needs, search (needs, place-past))))

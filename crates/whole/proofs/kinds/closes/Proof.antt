@@ -1,0 +1,13 @@
+-- `whole::kinds::closes` meets its contract.
+use borrow.Author.Needs.{needs}
+use Rattle.whole.specs.Kinds.{closes-other, closes-own, closes-inner}
+use Rattle.whole.proofs.kinds.closes.Statement.{statement}
+use Rattle.whole.proofs.kinds.closes.Tie as tie
+
+pub closes-spec : {M : Type 1} → statement M
+closes-spec =
+    tie.close
+    (tie.spec
+    (λ c. search (needs, closes-other))
+    (λ c. search (needs, closes-own))
+    (λ c. search (needs, closes-inner)))

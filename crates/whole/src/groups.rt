@@ -1,0 +1,87 @@
+// The members of a group: each against the union of those before it.
+use crate::bits::meets;
+use crate::bits::union;
+use crate::keys::NO_KEY;
+use crate::kinds::SEMI;
+use crate::kinds::end_of;
+use crate::kinds::kind_of;
+use crate::memory::Touched;
+use crate::memory::nothing;
+use crate::touches::joined;
+use crate::touches::touched;
+use table::keys::earlier;
+use table::keys::number_key;
+use table::records::place_at;
+ghost use mathlib.Core.Path.{_≡_};
+ghost use mathlib.Core.List.{_++_, []};
+ghost use Prim.Native.Nat.{_*_, _≤_};
+ghost use lib.ListN.{length, drop};
+ghost use Rattle.rules.specs.Whole.Sets.{Sets, sets, race};
+ghost use Rattle.rules.specs.Faults.Fault.{when};
+ghost use Rattle.table.specs.Keys.{leastNumberKey};
+ghost use Rattle.whole.specs.Reading.{Reading, tableOf};
+ghost use Rattle.whole.specs.Filling.{Complete};
+ghost use Rattle.whole.specs.Groups.{placeOf, membersAt};
+ghost use Rattle.whole.specs.GroupKeys.{Holding};
+
+// Whether two actions race: one writes what the other reads or writes.
+fn races(u: Touched, t: Touched) -> bool
+    ensures { λ r. ⌜ ((a b : Sets) → Holding (u .reads .w) (u .writes .w) a → Holding (t .reads .w) (t .writes .w) b → r ≡ race a b) ⌝ }
+{
+    let r = u.reads;
+    let w = u.writes;
+    let s = t.reads;
+    let v = t.writes;
+    let all = union(r, w);
+    if meets(w, union(s, v)) {
+        return true;
+    }
+    meets(v, all)
+}
+
+// The least key of 52 and 53 of a member at its place, behind others that touch u.
+fn member_key(u: Touched, own: Touched, place: usize) -> u32
+    requires { ⌜ place ≤ 32768 ⌝ }
+    ensures { λ r. ⌜ ((a b : Sets) → Holding (u .reads .w) (u .writes .w) a → Holding (own .reads .w) (own .writes .w) b
+        → r ≡ leastNumberKey (when (own .stops) 52 place ++ when (race a b) 53 place)) ⌝ }
+{
+    if own.stops {
+        return number_key(52, place);
+    }
+    if races(u, own) {
+        return number_key(53, place);
+    }
+    NO_KEY
+}
+
+// The place of the token i, of n.
+fn place_of(records: &[u8], decls: &[u8], m: usize, n: usize, i: usize) -> usize
+    requires { ⌜ Reading (now records) (now decls) m n ⌝ }
+    ensures { λ r. ⌜ (r ≤ 32768) × ((v : Reading (now (records .entry)) (now (decls .entry)) m n) → r ≡ placeOf (drop i (v .tokens))) ⌝ }
+{
+    if i < n {
+        return place_at(records, i);
+    }
+    0
+}
+
+// The least key of the members of the group at from.
+pub fn group_key(records: &[u8], decls: &[u8], memo: &[u8], m: usize, n: usize, from: usize) -> u32
+    requires { ⌜ Reading (now records) (now decls) m n × ((72 * m ≤ length (now memo)) × Complete (now records) (now decls) (now memo) m n) ⌝ }
+    ensures { λ r. ⌜ ((v : Reading (now (records .entry)) (now (decls .entry)) m n) → r ≡ leastNumberKey (membersAt (tableOf v) (sets [] []) (drop from (v .tokens)))) ⌝ }
+{
+    let mut key = NO_KEY;
+    let mut before = nothing();
+    let mut i = from;
+    loop {
+        let own = touched(records, decls, memo, m, n, i);
+        let place = place_of(records, decls, m, n, i);
+        key = earlier(key, member_key(before, own, place));
+        let end = end_of(records, n, i);
+        if kind_of(records, n, end) != SEMI {
+            return key;
+        }
+        before = joined(before, own);
+        i = end + 1;
+    }
+}

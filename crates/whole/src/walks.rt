@@ -1,0 +1,179 @@
+// The bodies, each from its first token to its last: the least key of its groups and of its jumps.
+use crate::bodies::body_at;
+use crate::groups::group_key;
+use crate::keys::NO_KEY;
+use crate::kinds::BEGIN;
+use crate::kinds::NEXT;
+use crate::kinds::closes;
+use crate::kinds::more;
+use crate::labels::jump_key;
+use crate::scopes::Nest;
+use crate::scopes::turn;
+use table::keys::earlier;
+use table::records::kind_at;
+ghost use mathlib.Core.Path.{_≡_};
+ghost use Prim.Native.Nat.{_+_, _*_, _<_, _≤_};
+ghost use lib.ListN.{length, drop};
+ghost use Rattle.rules.specs.Faults.Whole.{groupsFaults};
+ghost use Rattle.table.specs.Keys.{leastNumberKey};
+ghost use Rattle.whole.specs.Reading.{Reading, tableOf};
+ghost use Rattle.whole.specs.Filling.{Complete};
+ghost use Rattle.whole.specs.Groups.{groupAt};
+ghost use Rattle.whole.specs.Walks.{opens};
+ghost use Rattle.whole.specs.Frames.{Turning};
+ghost use Rattle.whole.specs.Written.{Written, whole};
+ghost use Rattle.whole.specs.WalkKeys.{labelsOf, Roomy, Faulty, FaultKey, TurnedIn, Walked, BodyKey};
+
+// Where the labels begin in the room; in front of them is what is gathered of the bodies.
+pub const LABELS: usize = 18432;
+
+// Whether a group begins behind it.
+fn opens(kind: u8) -> bool
+    ensures { λ r. ⌜ r ≡ opens kind ⌝ }
+{
+    match kind {
+        BEGIN => true,
+        NEXT => true,
+        _ => false,
+    }
+}
+
+// The least key of the members of the group at from, if they are two or more.
+fn group_at(records: &[u8], decls: &[u8], memo: &[u8], m: usize, n: usize, from: usize) -> u32
+    requires { ⌜ Reading (now records) (now decls) m n × ((72 * m ≤ length (now memo)) × Complete (now records) (now decls) (now memo) m n) ⌝ }
+    ensures { λ r. ⌜ ((v : Reading (now (records .entry)) (now (decls .entry)) m n) → r ≡ leastNumberKey (groupAt (tableOf v) (drop from (v .tokens)))) ⌝ }
+{
+    if more(records, n, from) {
+        return group_key(records, decls, memo, m, n, from);
+    }
+    NO_KEY
+}
+
+// The least key at the token i, whose kind this is.
+fn fault_at(
+    text: &[u8],
+    records: &[u8],
+    decls: &[u8],
+    room: &[u8],
+    m: usize,
+    n: usize,
+    i: usize,
+    kind: u8,
+    base: usize,
+    top: usize,
+) -> u32
+    requires { ⌜ Faulty (now text) (now records) (now decls) (now room) m n i kind top ⌝ }
+    ensures { λ r. ⌜ FaultKey (now (text .entry)) (now (records .entry)) (now (decls .entry)) (now (room .entry)) m n i base top r ⌝ }
+{
+    if opens(kind) {
+        return group_at(records, decls, &room[..LABELS], m, n, i + 1);
+    }
+    jump_key(text, records, &room[LABELS..], n, i, kind, base, top)
+}
+
+// Behind the token i, with the labels in the room.
+fn turn_in(
+    text: &[u8],
+    records: &[u8],
+    room: &mut [u8],
+    n: usize,
+    i: usize,
+    kind: u8,
+    depth: usize,
+    base: usize,
+    top: usize,
+) -> Nest
+    requires { ⌜ Turning (now text) (now records) (labelsOf (now room)) n i kind depth base top × (51200 ≤ length (now room)) ⌝ }
+    ensures { λ r. ⌜ TurnedIn (now (text .entry)) (now (records .entry)) (now (room .entry)) (now (room .exit)) n i depth base top (r .depth) (r .base) (r .top) ⌝ }
+{
+    turn(
+        text,
+        records,
+        &mut room[LABELS..],
+        n,
+        i,
+        kind,
+        depth,
+        base,
+        top,
+    )
+}
+
+// The least key of the body at from.
+fn walk_key(
+    text: &[u8],
+    records: &[u8],
+    decls: &[u8],
+    room: &mut [u8],
+    m: usize,
+    n: usize,
+    from: usize,
+) -> u32
+    requires { ⌜ Written (now text) (now records) (now decls) m n × (Roomy (now records) (now decls) (now room) m n × (1 ≤ from)) ⌝ }
+    ensures { λ r. ⌜ Walked (now (text .entry)) (now (records .entry)) (now (decls .entry)) (now (room .entry)) (now (room .exit)) m n from r ⌝ }
+{
+    let mut key = NO_KEY;
+    let mut depth: usize = 0;
+    let mut base: usize = 1;
+    let mut top: usize = 0;
+    let mut i = from;
+    while i < n {
+        let at = i;
+        let kind = kind_at(records, at);
+        if closes(depth, kind) {
+            return key;
+        }
+        key = earlier(
+            key,
+            fault_at(text, records, decls, room, m, n, at, kind, base, top),
+        );
+        let next = turn_in(text, records, room, n, at, kind, depth, base, top);
+        depth = next.depth;
+        base = next.base;
+        top = next.top;
+        i += 1;
+    }
+    key
+}
+
+// The least key of the body of the declaration k.
+fn body_key(
+    text: &[u8],
+    records: &[u8],
+    decls: &[u8],
+    room: &mut [u8],
+    m: usize,
+    n: usize,
+    k: usize,
+) -> u32
+    requires { ⌜ Written (now text) (now records) (now decls) m n × (Roomy (now records) (now decls) (now room) m n × (k < m)) ⌝ }
+    ensures { λ r. ⌜ BodyKey (now (text .entry)) (now (records .entry)) (now (decls .entry)) (now (room .entry)) (now (room .exit)) m n k r ⌝ }
+{
+    let body = body_at(records, decls, m, n, k);
+    if body == 0 {
+        return NO_KEY;
+    }
+    walk_key(text, records, decls, room, m, n, body)
+}
+
+// The least key of 52 and 53.
+pub fn groups_key(
+    text: &[u8],
+    records: &[u8],
+    decls: &[u8],
+    room: &mut [u8],
+    m: usize,
+    n: usize,
+) -> u32
+    requires { ⌜ Written (now text) (now records) (now decls) m n × Roomy (now records) (now decls) (now room) m n ⌝ }
+    ensures { λ r. ⌜ ((v : Written (now (text .entry)) (now (records .entry)) (now (decls .entry)) m n) → r ≡ leastNumberKey (groupsFaults (whole v) (whole v))) ⌝ }
+{
+    let mut key = NO_KEY;
+    let mut k: usize = 0;
+    while k < m {
+        let at = k;
+        k += 1;
+        key = earlier(key, body_key(text, records, decls, room, m, n, at));
+    }
+    key
+}

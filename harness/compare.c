@@ -1,0 +1,149 @@
+/* compare [SEED [COUNT [ORDERS]]]: makes COUNT texts, carriers and budgets at random and compares the library with the reference: all numbers of
+ * both calls, carriers and work memory. What ends Done or Stopped is also run in ORDERS orders of single steps, each of which must agree; what
+ * faults or pauses must not end Done or Stopped in any of them. Shows the first difference and ends with 1 if there is one. */
+#include <stdio.h>
+#include <stdlib.h>
+#include <string.h>
+
+#include "../include/isps.h"
+#include "../reference/reference.h"
+#include "generate.h"
+#include "lent.h"
+
+enum { MOST_WORDS = 4096, ROOM = 8 * MOST_WORDS + 16 };
+
+static Generated text;
+static uint8_t start[ROOM], expected[ROOM], got[ROOM];
+static size_t carriers_len;
+static uint32_t budget;
+static unsigned differences, orders_run;
+static unsigned checks_by_number[100], runs_by_number[100], runs_by_ending[5];
+
+static void print_answer(const char *who, const uint32_t answer[8])
+{
+    printf("%s:", who);
+    for (int i = 0; i < 8; i++)
+        printf(" %u", answer[i]);
+    printf("\n");
+}
+
+static void differ(const char *what, const uint32_t wanted[8], const uint32_t answer[8])
+{
+    if (differences++ > 0)
+        return;
+    printf("FIRST DIFFERENCE: %s, budget %u, %u bytes of carriers\n", what, budget, (unsigned)carriers_len);
+    print_answer("reference", wanted);
+    print_answer("got", answer);
+    printf("carriers at the start:");
+    for (size_t i = 0; i < carriers_len; i++)
+        printf("%s%02x", i % 8 == 0 ? " " : "", start[i]);
+    printf("\ntext of %u bytes:\n", (unsigned)text.len);
+    fwrite(text.bytes, 1, text.len, stdout);
+    printf("\n");
+}
+
+static uint32_t some_budget(void)
+{
+    unsigned pick = below(10);
+    return pick == 0 ? 0 : pick < 3 ? below(12) : pick < 8 ? below(400) : pick < 9 ? 5000 : 20000;
+}
+
+/* Mostly lawful: the lengths are those of the generator where it still knows them, else one bit. */
+static void make_carriers(unsigned words)
+{
+    bool lengths_known = words == text.word_count, all_zero = chance(25);
+    carriers_len = 8 * (size_t)words;
+    memset(start, 0, sizeof start);
+    for (unsigned i = 0; i < words && !all_zero; i++) {
+        unsigned length = lengths_known ? text.word_lengths[i] : 1;
+        uint64_t value = random_bits() >> (64 - length);
+        for (int byte = 0; byte < 8; byte++)
+            start[8 * (size_t)i + (size_t)byte] = (uint8_t)(value >> 8 * byte);
+    }
+    if (words > 0 && chance(5))
+        for (unsigned bits = 1 + below(3); bits > 0; bits--)
+            start[below(8 * words)] |= (uint8_t)(1u << below(8));
+    if (chance(3))
+        carriers_len += 1 + below(8);
+    else if (carriers_len > 0 && chance(3))
+        carriers_len -= 1 + below(8);
+}
+
+static void compare_check(uint32_t wanted[8])
+{
+    uint32_t answer[8];
+    const char *broken;
+    reference_check(text.bytes, text.len, wanted);
+    lent_check(text.bytes, text.len, answer, &broken);
+    checks_by_number[wanted[ISPS_NUMBER]]++;
+    if (memcmp(wanted, answer, sizeof answer) != 0)
+        differ("answers of Check", wanted, answer);
+    else if (broken != NULL)
+        differ(broken, wanted, answer);
+}
+
+static void compare_run(uint32_t wanted[8])
+{
+    uint32_t answer[8];
+    const char *broken;
+    memcpy(expected, start, carriers_len);
+    memcpy(got, start, carriers_len);
+    reference_run(text.bytes, text.len, expected, carriers_len, budget, wanted);
+    lent_run(text.bytes, text.len, got, carriers_len, budget, answer, &broken);
+    runs_by_number[wanted[ISPS_NUMBER]]++;
+    runs_by_ending[wanted[ISPS_ENDING]]++;
+    if (memcmp(wanted, answer, sizeof answer) != 0)
+        differ("answers of Run", wanted, answer);
+    else if (memcmp(expected, got, carriers_len) != 0)
+        differ("carriers after Run", wanted, answer);
+    else if (broken != NULL)
+        differ(broken, wanted, answer);
+}
+
+static void compare_order(const uint32_t wanted[8], uint64_t seed)
+{
+    uint32_t answer[8];
+    memcpy(got, start, carriers_len);
+    reference_run_order(text.bytes, text.len, got, carriers_len, budget, seed, answer);
+    orders_run++;
+    bool ends_well = wanted[ISPS_ENDING] == ISPS_DONE || wanted[ISPS_ENDING] == ISPS_STOPPED;
+    if (ends_well && memcmp(wanted, answer, sizeof answer) != 0)
+        differ("answers of another order", wanted, answer);
+    else if (ends_well && memcmp(expected, got, carriers_len) != 0)
+        differ("carriers after another order", wanted, answer);
+    else if (!ends_well && (answer[ISPS_ENDING] == ISPS_DONE || answer[ISPS_ENDING] == ISPS_STOPPED))
+        differ("another order ends well", wanted, answer);
+}
+
+static void print_counts(const char *what, const unsigned *counts, unsigned size)
+{
+    printf("%s:", what);
+    for (unsigned i = 0; i < size; i++)
+        if (counts[i] != 0)
+            printf(" %u (%u)", i, counts[i]);
+    printf("\n");
+}
+
+int main(int count, char **arguments)
+{
+    unsigned long seed = count > 1 ? strtoul(arguments[1], NULL, 10) : 1;
+    unsigned long texts = count > 2 ? strtoul(arguments[2], NULL, 10) : 2000;
+    unsigned long orders = count > 3 ? strtoul(arguments[3], NULL, 10) : 4;
+    for (unsigned long i = 0; i < texts; i++) {
+        uint32_t wanted[8];
+        set_seed(seed * 1000003 + i);
+        generate(&text);
+        compare_check(wanted);
+        make_carriers(wanted[ISPS_WORDS]);
+        budget = some_budget();
+        compare_run(wanted);
+        for (unsigned long order = 0; order < orders && wanted[ISPS_ENDING] != ISPS_REFUSED; order++)
+            compare_order(wanted, order == 0 ? 0 : random_bits() | 1);
+    }
+    print_counts("Check, by number (0 is accepted)", checks_by_number, 100);
+    print_counts("Run, by number", runs_by_number, 100);
+    printf("Run, by ending: done %u, stopped %u, paused %u, fault %u, refused %u\n", runs_by_ending[ISPS_DONE], runs_by_ending[ISPS_STOPPED],
+           runs_by_ending[ISPS_PAUSED], runs_by_ending[ISPS_FAULT], runs_by_ending[ISPS_REFUSED]);
+    printf("%lu texts, %u orders, %u differences\n", texts, orders_run, differences);
+    return differences == 0 ? 0 : 1;
+}

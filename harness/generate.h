@@ -1,0 +1,25 @@
+/* Texts made at random: mostly descriptions that are accepted, the others with a fault of some kind built in or damaged afterwards. */
+#ifndef GENERATE_H
+#define GENERATE_H
+
+#include <stdbool.h>
+#include <stddef.h>
+#include <stdint.h>
+
+enum { GENERATED_ROOM = 65536, GENERATED_WORDS = 16384 };
+
+typedef struct {
+    uint8_t bytes[GENERATED_ROOM];
+    size_t len;
+    uint8_t word_lengths[GENERATED_WORDS]; /* in bits, as long as nothing was damaged */
+    unsigned word_count;
+} Generated;
+
+void set_seed(uint64_t seed);
+uint64_t random_bits(void);
+unsigned below(unsigned bound);  /* 0 to bound - 1 */
+bool chance(unsigned in_hundred);
+
+void generate(Generated *text);
+
+#endif

@@ -1,0 +1,155 @@
+#include "lent.h"
+
+#include <stdbool.h>
+#include <string.h>
+
+#include "../include/isps.h"
+
+enum { GUARD = 64, CANARY = 0xC5, RUBBISH = 0xA7 };
+
+typedef struct {
+    uint8_t room[GUARD + LONGEST_LENT + GUARD];
+    size_t len;
+    const uint8_t *before; /* what was lent; of rubbish nothing is kept */
+} Buffer;
+
+static Buffer lent_text, lent_carriers, lent_work[3], lent_answer;
+
+static uint8_t *bytes_of(Buffer *buffer)
+{
+    return buffer->room + GUARD;
+}
+
+static void set_guards(Buffer *buffer, size_t len)
+{
+    buffer->len = len;
+    memset(buffer->room, CANARY, GUARD);
+    memset(bytes_of(buffer) + len, CANARY, GUARD);
+}
+
+static void lend_copy(Buffer *buffer, const uint8_t *bytes, size_t len)
+{
+    set_guards(buffer, len);
+    buffer->before = bytes;
+    if (len > 0)
+        memcpy(bytes_of(buffer), bytes, len);
+}
+
+static void lend_rubbish(Buffer *buffer, size_t len)
+{
+    set_guards(buffer, len);
+    memset(bytes_of(buffer), RUBBISH, len);
+}
+
+static bool guards_stand(const Buffer *buffer)
+{
+    for (size_t i = 0; i < GUARD; i++)
+        if (buffer->room[i] != CANARY || buffer->room[GUARD + buffer->len + i] != CANARY)
+            return false;
+    return true;
+}
+
+static bool is_unchanged(const Buffer *buffer)
+{
+    return buffer->len == 0 || memcmp(buffer->room + GUARD, buffer->before, buffer->len) == 0;
+}
+
+/* A buffer is full of a byte if its first one is that byte and each equals the one before it. */
+static bool is_full_of(const Buffer *buffer, uint8_t byte)
+{
+    const uint8_t *bytes = buffer->room + GUARD;
+    return buffer->len == 0 || (bytes[0] == byte && memcmp(bytes, bytes + 1, buffer->len - 1) == 0);
+}
+
+static void read_answer(uint32_t returned, uint32_t answer[8])
+{
+    const uint8_t *bytes = bytes_of(&lent_answer);
+    memset(answer, 0, 8 * sizeof *answer);
+    if (returned == ISPS_WORK_TOO_SHORT || returned == ISPS_TEXT_TOO_LONG) {
+        answer[ISPS_ENDING] = ISPS_REFUSED;
+        answer[ISPS_NUMBER] = returned;
+        return;
+    }
+    for (size_t i = 0; i < 8; i++)
+        answer[i] = (uint32_t)bytes[4 * i] | (uint32_t)bytes[4 * i + 1] << 8 | (uint32_t)bytes[4 * i + 2] << 16 | (uint32_t)bytes[4 * i + 3] << 24;
+}
+
+static const char *fault_of_work_memory(bool untouched)
+{
+    for (int i = 0; i < 3; i++) {
+        if (!guards_stand(&lent_work[i]))
+            return "wrote outside work memory";
+        if (untouched && !is_full_of(&lent_work[i], RUBBISH))
+            return "changed work memory after 1 or 2";
+        if (!untouched && !is_full_of(&lent_work[i], 0))
+            return "left work memory that is not zero";
+    }
+    return NULL;
+}
+
+static const char *fault_of_call(uint32_t returned, const uint32_t answer[8])
+{
+    bool untouched = returned == ISPS_WORK_TOO_SHORT || returned == ISPS_TEXT_TOO_LONG;
+    if (!guards_stand(&lent_text) || !is_unchanged(&lent_text))
+        return "changed the text or the bytes around it";
+    if (!guards_stand(&lent_carriers))
+        return "wrote outside the carriers";
+    if (!guards_stand(&lent_answer))
+        return "wrote outside the answer";
+    if (untouched && !is_full_of(&lent_answer, RUBBISH))
+        return "wrote an answer after 1 or 2";
+    if (answer[ISPS_ENDING] == ISPS_REFUSED && !is_unchanged(&lent_carriers))
+        return "changed carriers and refused";
+    if (answer[ISPS_NUMBER] != returned)
+        return "returned another number than its answer has";
+    return fault_of_work_memory(untouched);
+}
+
+static void lend_rest(const Lengths *lengths)
+{
+    for (int i = 0; i < 3; i++)
+        lend_rubbish(&lent_work[i], lengths->work[i]);
+    lend_rubbish(&lent_answer, lengths->answer);
+}
+
+#define LENT_WORK_AND_ANSWER \
+    bytes_of(&lent_work[0]), lent_work[0].len, bytes_of(&lent_work[1]), lent_work[1].len, bytes_of(&lent_work[2]), lent_work[2].len, \
+    bytes_of(&lent_answer), lent_answer.len
+
+uint32_t lent_check_with(const Lengths *lengths, const uint8_t *text, size_t text_len, uint32_t answer[8], const char **broken)
+{
+    lend_copy(&lent_text, text, text_len);
+    lend_copy(&lent_carriers, NULL, 0);
+    lend_rest(lengths);
+    uint32_t returned = isps_check(bytes_of(&lent_text), text_len, LENT_WORK_AND_ANSWER);
+    read_answer(returned, answer);
+    *broken = fault_of_call(returned, answer);
+    return returned;
+}
+
+uint32_t lent_run_with(const Lengths *lengths, const uint8_t *text, size_t text_len, uint8_t *carriers, size_t carriers_len, uint32_t budget,
+                       uint32_t answer[8], const char **broken)
+{
+    lend_copy(&lent_text, text, text_len);
+    lend_copy(&lent_carriers, carriers, carriers_len);
+    lend_rest(lengths);
+    uint32_t returned = isps_run(bytes_of(&lent_text), text_len, bytes_of(&lent_carriers), carriers_len, budget, LENT_WORK_AND_ANSWER);
+    read_answer(returned, answer);
+    *broken = fault_of_call(returned, answer);
+    if (carriers_len > 0)
+        memcpy(carriers, bytes_of(&lent_carriers), carriers_len);
+    return returned;
+}
+
+static const Lengths published = {{ISPS_WORK_SIZE, ISPS_WORK_SIZE, ISPS_WORK_SIZE}, ISPS_ANSWER_SIZE};
+
+uint32_t lent_check(const uint8_t *text, size_t text_len, uint32_t answer[8], const char **broken)
+{
+    return lent_check_with(&published, text, text_len, answer, broken);
+}
+
+uint32_t lent_run(const uint8_t *text, size_t text_len, uint8_t *carriers, size_t carriers_len, uint32_t budget, uint32_t answer[8],
+                  const char **broken)
+{
+    return lent_run_with(&published, text, text_len, carriers, carriers_len, budget, answer, broken);
+}

@@ -1,0 +1,160 @@
+/* speed [MILLISECONDS]: times the library against the reference, which is built at -O2 for the same target, side by side in one run.
+ * Check: nanoseconds for a byte of text, the ratio of the two, and the library's time relative to its time for a typical text.
+ * Run: million steps a second, and the ratio; for a short run, which reading dominates, thousand runs a second. */
+#define _POSIX_C_SOURCE 200809L
+
+#include <stdio.h>
+#include <stdlib.h>
+#include <string.h>
+#include <time.h>
+
+#include "../include/isps.h"
+#include "../reference/reference.h"
+#include "texts.h"
+
+enum { MOST_WORDS = 4096, TRIES = 8, LONG_RUN = 200000 };
+
+static uint8_t text[ISPS_LONGEST_TEXT], carriers[8 * MOST_WORDS], work[3][ISPS_WORK_SIZE], answer[ISPS_ANSWER_SIZE];
+static size_t text_len, carriers_len;
+static uint32_t budget, numbers[8];
+static double least_time; /* in nanoseconds, for each figure */
+
+static void library_check(void)
+{
+    isps_check(text, text_len, work[0], ISPS_WORK_SIZE, work[1], ISPS_WORK_SIZE, work[2], ISPS_WORK_SIZE, answer, ISPS_ANSWER_SIZE);
+}
+
+static void library_run(void)
+{
+    memset(carriers, 0, carriers_len);
+    isps_run(text, text_len, carriers, carriers_len, budget, work[0], ISPS_WORK_SIZE, work[1], ISPS_WORK_SIZE, work[2], ISPS_WORK_SIZE, answer,
+             ISPS_ANSWER_SIZE);
+}
+
+static void reference_check_once(void)
+{
+    reference_check(text, text_len, numbers);
+}
+
+static void reference_run_once(void)
+{
+    memset(carriers, 0, carriers_len);
+    reference_run(text, text_len, carriers, carriers_len, budget, numbers);
+}
+
+/* Time of the processor in nanoseconds, so that other work on the machine counts little. */
+static double now(void)
+{
+    struct timespec time;
+    clock_gettime(CLOCK_PROCESS_CPUTIME_ID, &time);
+    return (double)time.tv_sec * 1e9 + (double)time.tv_nsec;
+}
+
+static double time_of_calls(void (*call)(void), unsigned count)
+{
+    double start = now();
+    for (unsigned i = 0; i < count; i++)
+        call();
+    return (now() - start) / count;
+}
+
+static unsigned calls_for_a_try(void (*call)(void))
+{
+    call();
+    return (unsigned)(least_time / TRIES / time_of_calls(call, 1)) + 1;
+}
+
+typedef struct {
+    double library, reference; /* nanoseconds of a call */
+} Times;
+
+/* Both take turns, and the least of several tries counts, since whatever disturbs a try only makes it longer. */
+static Times time_both(void (*library)(void), void (*reference)(void))
+{
+    unsigned library_calls = calls_for_a_try(library), reference_calls = calls_for_a_try(reference);
+    Times best = {0, 0};
+    for (int i = 0; i < TRIES; i++) {
+        double one = time_of_calls(library, library_calls), other = time_of_calls(reference, reference_calls);
+        best.library = i == 0 || one < best.library ? one : best.library;
+        best.reference = i == 0 || other < best.reference ? other : best.reference;
+    }
+    return best;
+}
+
+static void set_text(const char *source)
+{
+    text_len = strlen(source);
+    memcpy(text, source, text_len);
+}
+
+static double typical_time; /* of the library, for a byte */
+
+static void time_check(const char *name)
+{
+    Times times = time_both(library_check, reference_check_once);
+    double library = times.library / (double)text_len, reference = times.reference / (double)text_len;
+    if (typical_time == 0)
+        typical_time = library;
+    printf("%-36s %6u %9.1f %9.1f %7.2f %7.2f\n", name, (unsigned)text_len, library, reference, library / reference, library / typical_time);
+}
+
+/* Leaves the steps of the run in `numbers`. */
+static Times time_run(const char *source, uint32_t most_steps)
+{
+    set_text(source);
+    reference_check(text, text_len, numbers);
+    carriers_len = 8 * (size_t)numbers[ISPS_WORDS];
+    budget = most_steps;
+    return time_both(library_run, reference_run_once);
+}
+
+static void time_long_run(const char *name, const char *source)
+{
+    Times times = time_run(source, LONG_RUN);
+    printf("%-36s %6u %9.2f %9.2f %7.2f\n", name, numbers[ISPS_STEPS], numbers[ISPS_STEPS] * 1e3 / times.library,
+           numbers[ISPS_STEPS] * 1e3 / times.reference, times.reference / times.library);
+}
+
+static void time_short_run(const char *name, const char *source)
+{
+    Times times = time_run(source, LONG_RUN);
+    printf("%-36s %6u %9.2f %9.2f %7.2f\n", name, numbers[ISPS_STEPS], 1e6 / times.library, 1e6 / times.reference, times.reference / times.library);
+}
+
+static const char transfers_and_tests[] =
+    "N := BEGIN A<7:0>, B<15:0>, C<7:0>, MAIN P := BEGIN REPEAT BEGIN A = A + 1; B = B<14:0> @ B<15> NEXT C = A XOR B<7:0> NEXT "
+    "IF C EQL A => B = B + 1 NEXT IF NOT A<0> => C = 0 END END END";
+
+static const char choices[] =
+    "N := BEGIN A<7:0>, OP<2:0> := A<7:5>, B<7:0>, MAIN P := BEGIN REPEAT BEGIN A = A + 37 NEXT DECODE OP => BEGIN "
+    "0 := B = B + 1, 1 := B = B - 1, '01? := B = NOT B, [4, 5] := B = B XOR A, 6 := NO.OP(), OTHERWISE := B = 0 END END END END";
+
+static const char activations[] =
+    "N := BEGIN A<7:0>, P0 := BEGIN A = A + 1 END, P1 := BEGIN P0() NEXT P0() END, P2 := BEGIN P1() NEXT P1() END, "
+    "MAIN P := BEGIN REPEAT P2() END END";
+
+static const char jumps[] =
+    "N := BEGIN A<7:0>, MAIN P := BEGIN REPEAT L := BEGIN A = A + 1 NEXT IF A<1> => LEAVE L NEXT IF A<0> => RESTART L NEXT NO.OP() END END END";
+
+static const char arrays[] =
+    "N := BEGIN M[0:15]<15:0>, I<3:0>, MAIN P := BEGIN REPEAT BEGIN M[I] = M[I] + M[(I + 1) AND '1111] NEXT I = I + 1 END END END";
+
+int main(int count, char **arguments)
+{
+    const char *name;
+    least_time = (count > 1 ? (double)strtoul(arguments[1], NULL, 10) : 50) * 1e6;
+    printf("%-36s %6s %9s %9s %7s %7s\n", "Check, nanoseconds a byte", "bytes", "library", "reference", "ratio", "typical");
+    set_text(typical_text);
+    time_check("typical");
+    for (unsigned i = 0; (name = hard_text(i, text, &text_len)) != NULL; i++)
+        time_check(name);
+    printf("\n%-36s %6s %9s %9s %7s\n", "Run, million steps a second", "steps", "library", "reference", "ratio");
+    time_long_run("transfers and tests", transfers_and_tests);
+    time_long_run("DECODE", choices);
+    time_long_run("activations", activations);
+    time_long_run("LEAVE and RESTART", jumps);
+    time_long_run("arrays", arrays);
+    printf("\n%-36s %6s %9s %9s %7s\n", "Run, thousand runs a second", "steps", "library", "reference", "ratio");
+    time_short_run("a resume", typical_text);
+    return 0;
+}

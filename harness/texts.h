@@ -1,0 +1,15 @@
+/* A typical description, and texts that are as hard as the limits allow: as deep, as long or as wide as they can be made. */
+#ifndef TEXTS_H
+#define TEXTS_H
+
+#include <stddef.h>
+#include <stdint.h>
+
+#include "../include/isps.h"
+
+extern const char typical_text[];
+
+/* Writes the text of this number, counted from 0, and gives its name, or NULL if there is none. */
+const char *hard_text(unsigned number, uint8_t text[ISPS_LONGEST_TEXT], size_t *len);
+
+#endif

@@ -1,0 +1,71 @@
+/* Reads texts from standard input, each after its length in 4 little-endian bytes, and writes for each one line:
+ *     check NUMBER PLACE DECLARATIONS WORDS run FIRST-LINE carriers HASH
+ * The run has zero carriers and a budget of 1000; the hash is FNV-1a, 64 bits, of the carriers left, of none after a refusal.
+ * Ends with 1 if a call did with its buffers what it may not do. */
+#include <stdbool.h>
+#include <stdio.h>
+#include <string.h>
+
+#include "../include/isps.h"
+#include "lent.h"
+
+enum { BUDGET = 1000, MOST_WORDS = 4096 };
+
+static uint8_t text[LONGEST_LENT];
+static uint8_t carriers[8 * MOST_WORDS];
+static bool all_good = true;
+
+static bool read_text(size_t *len)
+{
+    uint8_t head[4];
+    if (fread(head, 1, 4, stdin) != 4)
+        return false;
+    *len = (size_t)head[0] | (size_t)head[1] << 8 | (size_t)head[2] << 16 | (size_t)head[3] << 24;
+    return *len <= LONGEST_LENT && fread(text, 1, *len, stdin) == *len;
+}
+
+static unsigned long long hash(const uint8_t *bytes, size_t len)
+{
+    uint64_t h = 0xcbf29ce484222325u;
+    for (size_t i = 0; i < len; i++)
+        h = (h ^ bytes[i]) * 0x100000001b3u;
+    return h;
+}
+
+static void report(const char *broken)
+{
+    if (broken != NULL) {
+        printf("BROKEN: %s\n", broken);
+        all_good = false;
+    }
+}
+
+static void print_run(const uint32_t answer[8], size_t carriers_len)
+{
+    static const char *const words[] = {"done", "stopped", "paused"};
+    if (answer[ISPS_ENDING] == ISPS_REFUSED)
+        printf("refused %u %u", answer[ISPS_NUMBER], answer[ISPS_PLACE]);
+    else if (answer[ISPS_ENDING] == ISPS_FAULT)
+        printf("fault %u %u %u", answer[ISPS_NUMBER], answer[ISPS_PLACE], answer[ISPS_STEPS]);
+    else
+        printf("%s %u", words[answer[ISPS_ENDING]], answer[ISPS_STEPS]);
+    printf(" carriers %016llx\n", hash(carriers, answer[ISPS_ENDING] == ISPS_REFUSED ? 0 : carriers_len));
+}
+
+int main(void)
+{
+    size_t len;
+    while (read_text(&len)) {
+        uint32_t answer[8];
+        const char *broken;
+        lent_check(text, len, answer, &broken);
+        report(broken);
+        printf("check %u %u %u %u run ", answer[ISPS_NUMBER], answer[ISPS_PLACE], answer[ISPS_DECLARATIONS], answer[ISPS_WORDS]);
+        size_t carriers_len = 8 * (size_t)answer[ISPS_WORDS];
+        memset(carriers, 0, carriers_len);
+        lent_run(text, len, carriers, carriers_len, BUDGET, answer, &broken);
+        print_run(answer, carriers_len);
+        report(broken);
+    }
+    return all_good ? 0 : 1;
+}

@@ -1,0 +1,108 @@
+/* Check and Run: the two calls of the reader and runner for a bench subset of ISPS.
+ *
+ * Each byte buffer is lent as a pointer and a length. The calls keep nothing from one call to the next, allocate nothing, and write only
+ * to `carriers`, the three work buffers and `answer`. Lent buffers must not overlap. A call takes at most 32 KiB of stack. */
+#ifndef ISPS_H
+#define ISPS_H
+
+#include <stddef.h>
+#include <stdint.h>
+
+#ifdef __cplusplus
+extern "C" {
+#endif
+
+#define ISPS_WORK_SIZE 65536    /* least length of each of the three work buffers */
+#define ISPS_ANSWER_SIZE 32     /* least length of `answer` */
+#define ISPS_LONGEST_TEXT 32768 /* in bytes */
+
+/* Checks a description. Returns its refusal number, 0 if it is accepted, and fills `answer`. */
+uint32_t isps_check(const uint8_t *text, size_t text_len,
+                    uint8_t *work_a, size_t a_len, uint8_t *work_b, size_t b_len, uint8_t *work_c, size_t c_len,
+                    uint8_t *answer, size_t answer_len);
+
+/* Reads a description afresh and runs it from the given carriers, for at most `budget` steps. Returns the number of the refusal or of the
+ * fault, 0 if there is neither, and fills `answer`.
+ *
+ * `carriers` has 8 bytes for each word, little-endian, in the order of the declarations, the word with the left name first; its length is
+ * 8 times the number of words that isps_check gives. The call leaves in it what the counted steps stored. A refusal leaves it unchanged. */
+uint32_t isps_run(const uint8_t *text, size_t text_len,
+                  uint8_t *carriers, size_t carriers_len, uint32_t budget,
+                  uint8_t *work_a, size_t a_len, uint8_t *work_b, size_t b_len, uint8_t *work_c, size_t c_len,
+                  uint8_t *answer, size_t answer_len);
+
+/* Work memory may hold anything before a call. After it, it is zero over its whole length, also where it is longer than the published size.
+ * Refusals 1 and 2 are the exception: they write nothing anywhere, not even the answer, so that the returned number is all there is. */
+
+/* `answer` takes eight little-endian numbers of 4 bytes; bytes behind its first 32 stay as they are. This is their order. */
+enum {
+    ISPS_ENDING,       /* one of the endings below */
+    ISPS_NUMBER,       /* of the refusal or fault, else 0; the call returns it too */
+    ISPS_PLACE,        /* of the refusal or fault, else 0: an offset into the text (for 61 into the carriers), in bytes */
+    ISPS_STEPS,        /* that Run took, 0 after a refusal */
+    ISPS_DECLARATIONS, /* number of declarations, in Check's answer to an accepted text, else 0 */
+    ISPS_WORDS,        /* number of words of all carriers, likewise */
+    ISPS_LINE,         /* 0 for now */
+    ISPS_COLUMN        /* 0 for now */
+};
+
+/* Endings. */
+enum {
+    ISPS_DONE,    /* the run came to its end; or Check accepted the text */
+    ISPS_STOPPED, /* the run came to a STOP() */
+    ISPS_PAUSED,  /* more steps than the budget were needed */
+    ISPS_FAULT,   /* a step could not be taken: 70 or 71 */
+    ISPS_REFUSED  /* 1 to 61 */
+};
+
+/* Numbers. The comment says when, and the place where it is not the thing itself. */
+enum {
+    /* the call: place 0, and nothing is written */
+    ISPS_WORK_TOO_SHORT = 1, /* a work buffer or `answer` is shorter than published */
+    ISPS_TEXT_TOO_LONG = 2,  /* text over 32,768 bytes */
+
+    /* bytes and tokens */
+    ISPS_BAD_BYTE = 10,        /* byte or mark not allowed */
+    ISPS_LONG_NAME = 11,       /* name over 32 bytes */
+    ISPS_BAD_CONSTANT = 12,    /* constant malformed, or over 64 bits */
+    ISPS_TOO_MANY_TOKENS = 13, /* over 8,192 tokens; at token 8,193 */
+
+    /* grammar */
+    ISPS_NO_DESCRIPTION = 20, /* the tokens up to this one begin no description; at the end of text its length */
+    ISPS_TOO_DEEP = 21,       /* BEGIN, `(` and `[` open over 32 deep; at the opener */
+
+    /* declarations: at the declared name */
+    ISPS_DECLARED_TWICE = 30,        /* name declared twice, the outer name included; at the second */
+    ISPS_TOO_LONG = 31,              /* over 64 bits, or a declared bit or word name over 4,095 */
+    ISPS_TOO_MANY_DECLARATIONS = 32, /* over 256 declarations, or over 4,096 words in total */
+    ISPS_BAD_MAPPING = 33,           /* target unknown, has words or is a mapping; its bits outside, the other way round, or not as many */
+
+    /* bodies */
+    ISPS_UNKNOWN_NAME = 40,   /* name not declared */
+    ISPS_WRONG_USE = 41,      /* `[e]` missing, or given without words; no bits; P() on what is no body; at the name */
+    ISPS_BITS_OUTSIDE = 42,   /* bits outside the declared ones, or running the other way; at the name */
+    ISPS_RESULT_TOO_LONG = 43,/* result or joined destination over 64 bits; at the operator */
+    ISPS_BAD_LABEL = 44,      /* label repeated in a body, or a known name; LEAVE or RESTART aims at nothing around it (at the keyword) */
+    ISPS_BAD_SELECTOR = 45,   /* alternative 65; selector past the tested length; two alternatives overlap; at the (later) alternative */
+    ISPS_STORED_TWICE = 46,   /* one storage carrier twice in a destination; at the second */
+
+    /* the whole description */
+    ISPS_NOT_ONE_MAIN = 50, /* MAIN missing, at 0; or a second MAIN */
+    ISPS_LONG_CHAIN = 51,   /* chain of activations over 16 bodies long, or a cycle; at the first declared body that begins one */
+    ISPS_ESCAPES = 52,      /* in a group of two or more: LEAVE or RESTART aims outside its member (at the keyword), or STOP below a member (at it) */
+    ISPS_RACE = 53,         /* two members of a group race; at the later one */
+
+    /* carriers, in Run only */
+    ISPS_CARRIERS_LENGTH = 60, /* carriers not 8 bytes a word; at 0 */
+    ISPS_CARRIER_BITS = 61,    /* a carrier bit above its length is set; at the word's offset in the carriers */
+
+    /* faults of a run, with the steps before it */
+    ISPS_NO_SUCH_WORD = 70,   /* word name outside the declaration; at the carrier's name */
+    ISPS_NO_ALTERNATIVE = 71  /* no alternative matches; at DECODE */
+};
+
+#ifdef __cplusplus
+}
+#endif
+
+#endif

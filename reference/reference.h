@@ -1,0 +1,19 @@
+/* An independent implementation of the reader and the runner: plain C, shares nothing with the proved one, and is compared with it.
+ * It has no work memory, so refusal 1 does not concern it. `answer` takes eight numbers in the order that include/isps.h lists. */
+#ifndef REFERENCE_H
+#define REFERENCE_H
+
+#include <stddef.h>
+#include <stdint.h>
+
+uint32_t reference_check(const uint8_t *text, size_t text_len, uint32_t answer[8]);
+
+/* Left to right, each member to its end. */
+uint32_t reference_run(const uint8_t *text, size_t text_len, uint8_t *carriers, size_t carriers_len, uint32_t budget, uint32_t answer[8]);
+
+/* At each step some member that has not ended, at every level and through activations, takes the next step. The seed decides which;
+ * seed 0 always takes the last one. */
+uint32_t reference_run_order(const uint8_t *text, size_t text_len, uint8_t *carriers, size_t carriers_len, uint32_t budget, uint64_t seed,
+                             uint32_t answer[8]);
+
+#endif
