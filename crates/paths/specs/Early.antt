@@ -1,0 +1,128 @@
+-- The analysis, on trees. Control is followed from the start of an action with no activation of the test ended: which transfers to the output it comes to,
+-- whether it comes to the action's end, and by which LEAVE it gets out. An activation of the test never comes back; what is inside it counts. REPEAT and
+-- RESTART lead only to what is reached already.
+use Prim.Native.Nat.{ℕ, zero, suc, min}
+use mathlib.Core.Bool.{Bool, true, false, cond, not, _||_, _&&_}
+use mathlib.Core.List.{List, [], _∷_, _++_}
+use mathlib.Core.Option.{Option, none, some}
+use Rattle.rules.specs.Text.Scan.{sameBytes}
+use Rattle.rules.specs.Text.Scan.{scan}
+use Rattle.rules.specs.Grammar.Trees.{Action, Description}
+use Rattle.rules.specs.Declarations.{Name, Table, declarations, bodyOf}
+use Rattle.rules.specs.Steps.Actions.{Access, Act, seq, par, label, ins, Ins, iff, decode, repeat, leave, restart, call, stop, noop, transfer, Alts, end, alt}
+use Rattle.rules.specs.Steps.Runs.{bodyAct}
+use Rattle.rules.specs.Whole.Sets.{longestChain, member, stores}
+use Rattle.rules.specs.Faults.Whole.{mainName}
+use Rattle.rules.specs.Answers.{Verdict, accepted as passes, refused as fails}
+use Rattle.laws.specs.Answers.{descriptionOf, check}
+use Rattle.paths.specs.Paths.{placeOf, storageOf, Answer, accepted, refused, folded}
+
+pub record Report : Type 0 where
+  pub places : List ℕ
+  pub ends : Bool
+  pub leaves : Name → Bool
+
+abbrev pub report : List ℕ → Bool → (Name → Bool) → Report
+report p e l = record { places = p; ends = e; leaves = l }
+
+-- nothing is reached
+abbrev pub nowhere : Report
+nowhere = report [] false (λ k. false)
+
+-- the end is reached, and nothing else
+abbrev pub passed : Report
+passed = report [] true (λ k. false)
+
+-- one or the other
+abbrev pub either : Report → Report → Report
+either x y = report (x .places ++ y .places) (x .ends || y .ends) (λ k. x .leaves k || y .leaves k)
+
+-- what is behind is reached if the end before it is
+abbrev pub inTurn : Report → Report → Report
+inTurn x y = report (x .places ++ cond (x .ends) (y .places) []) (x .ends && y .ends) (λ k. x .leaves k || (x .ends && y .leaves k))
+
+-- a group has ended when both have
+abbrev pub beside : Report → Report → Report
+beside x y = report (x .places ++ y .places) (x .ends && y .ends) (λ k. x .leaves k || y .leaves k)
+
+-- a label, or a body's own name: a LEAVE of it comes to its end
+abbrev pub inside : Name → Report → Report
+inside l x = report (x .places) (x .ends || x .leaves l) (λ k. not (sameBytes k l) && x .leaves k)
+
+-- REPEAT has no end
+abbrev pub turning : Report → Report
+turning x = report (x .places) false (x .leaves)
+
+module _ (test : Name) where
+  -- an activation, by the report of the body
+  abbrev pub activation : Name → Report → Report
+  activation p x = report (x .places) (not (sameBytes p test) && x .ends) (λ k. false)
+
+abbrev pub written : Table → ℕ → List Access → List ℕ
+written ds output d = cond (member output (stores ds d)) (placeOf d ∷ []) []
+
+module _ (ds : Table) (test : Name) (output : ℕ) where
+  -- with what is known of the bodies
+  module _ (known : Name → Report) where
+    unfoldable mutual
+      pub early : Act → Report
+      early (seq a b) = inTurn (early a) (early b)
+      early (par a b) = beside (early a) (early b)
+      early (label l a) = inside l (early a)
+      early (ins i) = earlyI i
+
+      pub earlyI : Ins → Report
+      earlyI (iff e a) = either passed (early a)
+      earlyI (decode p e bs) = earlyAlts bs
+      earlyI (repeat a) = turning (early a)
+      earlyI (leave l) = report [] false (λ k. sameBytes k l)
+      earlyI (restart l) = nowhere
+      earlyI (call p) = activation test p (known p)
+      earlyI stop = nowhere
+      earlyI noop = passed
+      earlyI (transfer d e) = report (written ds output d) true (λ k. false)
+
+      pub earlyAlts : Alts → Report
+      earlyAlts end = nowhere
+      earlyAlts (alt c a bs) = either (early a) (earlyAlts bs)
+
+  -- of a body, down a chain of at most k bodies
+  unfoldable pub bodyEarly : ℕ → Name → Report
+  bodyEarly zero n = nowhere
+  bodyEarly (suc k) n = inside n (early (bodyEarly k) (bodyAct ds n))
+
+  -- the places of the transfers that are too early
+  unfoldable pub earlyPlaces : List ℕ
+  earlyPlaces = bodyEarly longestChain (mainName ds) .places
+
+-- the lowest of them
+unfoldable pub lowest : ℕ → List ℕ → ℕ
+lowest p [] = p
+lowest p (q ∷ qs) = lowest (min p q) qs
+
+abbrev pub verdict : List ℕ → Answer
+verdict [] = accepted
+verdict (p ∷ ps) = refused 92 (lowest p ps)
+
+abbrev pub onStorage : Table → Name → Option ℕ → Answer
+onStorage ds test none = refused 91 0
+onStorage ds test (some o) = verdict (earlyPlaces ds test o)
+
+abbrev pub onBody : Table → Name → Name → Option Action → Answer
+onBody ds test output none = refused 90 0
+onBody ds test output (some a) = onStorage ds test (storageOf ds output)
+
+unfoldable pub profile : Table → Name → Name → Answer
+profile ds test output = onBody ds test output (bodyOf ds test)
+
+-- of a text
+abbrev pub byDescription : Option Description → Name → Name → Answer
+byDescription none test output = refused 0 0
+byDescription (some d) test output = profile (declarations d) test output
+
+abbrev pub byVerdict : Verdict → Option Description → Name → Name → Answer
+byVerdict (fails m p) d test output = refused m p
+byVerdict (passes n w) d test output = byDescription d test output
+
+unfoldable pub answer : List ℕ → List ℕ → List ℕ → Answer
+answer text test output = byVerdict (check text) (descriptionOf (scan text .tokens)) (folded test) (folded output)

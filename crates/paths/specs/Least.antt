@@ -1,0 +1,39 @@
+-- The lowest place as a number that is kept on the way: M, over all places, stands for none.
+use Prim.Native.Nat.{ℕ, min, _≤_, _<_}
+use mathlib.Core.Path.{_≡_, refl, sym, _∙_, ap, ap₂}
+use mathlib.Core.Bool.{Bool, true, false, cond}
+use mathlib.Core.List.{List, [], _∷_, _++_}
+use native.Mathlib.Omega.{arith}
+use lib.Dec.{ltb}
+use borrow.Author.Tests.{lt-ltb, le-ltb}
+use Rattle.paths.specs.Paths.{Answer, accepted, refused}
+use Rattle.paths.specs.Early.{lowest, verdict}
+
+module _ (M : ℕ) where
+  abbrev pub least : List ℕ → ℕ
+  least [] = M
+  least (p ∷ ps) = min p (least ps)
+
+  least-under : (ps : List ℕ) → least ps ≤ M
+  least-under [] = omega arith
+  least-under (p ∷ ps) = omega (arith, least-under ps)
+
+  pub least-append : (xs ys : List ℕ) → least (xs ++ ys) ≡ min (least xs) (least ys)
+  least-append [] ys = omega (arith, least-under ys)
+  least-append (x ∷ xs) ys = ap (min x) (least-append xs ys) ∙ omega arith
+
+  lowest-is : (p : ℕ) (ps : List ℕ) → p ≤ M → lowest p ps ≡ min p (least ps)
+  unfolding lowest
+  lowest-is p [] h = omega arith
+  lowest-is p (q ∷ qs) h = lowest-is (min p q) qs (omega arith) ∙ omega arith
+
+  abbrev pub Under : List ℕ → Type 0
+  Under [] = Unit {0}
+  Under (p ∷ ps) = (p < M) × Under ps
+
+  pub verdict-is : (ps : List ℕ) → Under ps → verdict ps ≡ cond (ltb (least ps) M) (refused 92 (least ps)) accepted
+  verdict-is [] h = ap (λ b. cond b (refused 92 M) accepted) (sym (le-ltb M M (omega arith)))
+  verdict-is (p ∷ ps) h =
+      let q : p < M = h .0 in
+      let l : ℕ = min p (least ps) in
+      ap (refused 92) (lowest-is p ps (omega arith)) ∙ ap (λ b. cond b (refused 92 l) accepted) (sym (lt-ltb l M (omega arith)))

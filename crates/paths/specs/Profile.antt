@@ -1,0 +1,69 @@
+-- THE RESUME PROFILE: what is proved of it. Definitions: Paths.antt. The analysis: Early.antt.
+use Prim.Native.Nat.{ℕ}
+use mathlib.Core.Path.{_≡_}
+use mathlib.Core.Bool.{true, false}
+use mathlib.Core.List.{List}
+use mathlib.Core.Logic.{_↔_}
+use mathlib.Core.Option.{some}
+use Rattle.rules.specs.Text.Scan.{scan}
+use Rattle.rules.specs.Grammar.Trees.{Description, flatten}
+use Rattle.rules.specs.Declarations.{Name, Table, declarations}
+use Rattle.rules.specs.Steps.Evaluation.{Carriers}
+use Rattle.rules.specs.Steps.Control.{Live, Mv, work}
+use Rattle.rules.specs.Steps.Runs.{running, Steps, step, begin}
+use Rattle.rules.specs.Whole.Sets.{member}
+use Rattle.rules.specs.Whole.Orderly.{Orderly}
+use Rattle.rules.specs.Faults.Whole.{mainName}
+use Rattle.rules.specs.Answers.{Checks, accepted as passes}
+use Rattle.laws.specs.Orders.Owners.{ownerAt}
+use Rattle.laws.specs.Orders.Fields.{word}
+use Rattle.paths.specs.Paths.{spot, Path, outset, Writes, TooEarly, storageOf, Answer, accepted, Profiles, testEnded, Answers}
+use Rattle.paths.specs.Early.{earlyPlaces, profile, answer}
+use Rattle.paths.specs.Sound as sound
+use Rattle.paths.specs.Exact as exact
+use Rattle.paths.specs.Verdict as verdict
+use Rattle.paths.specs.Runs as runs
+use Rattle.paths.specs.Kept as kept
+use Rattle.paths.specs.Kept.{carriersIn}
+use Rattle.paths.specs.Texts as texts
+
+-- SOUND and EXACT: in an orderly description the analysis lists exactly the places of the transfers that some path reaches too early.
+pub listed-exactly : (ds : Table) (test : Name) (output : ℕ) → Orderly ds → (p : ℕ) → (member p (earlyPlaces ds test output) ≡ true) ↔ TooEarly ds test output p
+listed-exactly ds test output o p = (exact.exact ds test output p, sound.sound ds test output o p)
+
+-- THE VERDICT: the one that is computed is one that the definitions allow, and they allow one.
+pub profile-right : (ds : Table) (test output : Name) → Orderly ds → Profiles ds test output (profile ds test output)
+profile-right = verdict.right
+
+pub one-answer : (ds : Table) (test output : Name) {x y : Answer} → Profiles ds test output x → Profiles ds test output y → x ≡ y
+one-answer = verdict.one-answer
+
+-- RUNS: any single steps of any members, from any carriers, are a path, and an activation of the test has ended on it if it has in them.
+pub runs-are-paths :
+    (ds : Table) (test : Name) (n : ℕ) (s t : Carriers) (r : Live) (q : Steps ds n (begin ds (mainName ds) s) (running r t))
+    → Path ds test n (outset ds (mainName ds)) (spot r (testEnded ds test n (begin ds (mainName ds) s) (running r t) q))
+runs-are-paths = runs.runs-are-paths
+
+-- Of an accepted profile, whatever steps have been taken in a run (q) and whichever member steps next (m):
+module _ (ds : Table) (test output : Name) (accepts : Profiles ds test output accepted) (o : ℕ) (its : storageOf ds output ≡ some o) where
+  in-no-path : (p : ℕ) → ¬ TooEarly ds test o p
+  in-no-path p w = verdict.accepted-none ds test output accepts o its p w
+
+  module _ (s : Carriers) (n : ℕ) (r : Live) (t : Carriers) (q : Steps ds n (begin ds (mainName ds) s) (running r t)) (m : Mv r) where
+    -- if that step is a transfer to the output, an activation of the test has ended before it;
+    pub no-store-before : (p : ℕ) → Writes ds o (work r m) p → testEnded ds test n (begin ds (mainName ds) s) (running r t) q ≡ true
+    no-store-before = runs.no-early-store ds test o in-no-path n s t r q m
+
+    -- and if none has, each word of the output is behind that step what it was at the start.
+    pub output-unchanged : testEnded ds test n (begin ds (mainName ds) s) (running r t) q ≡ false → (i : ℕ) → ownerAt ds i ≡ o → word (carriersIn (step ds r m t)) i ≡ word s i
+    output-unchanged h i own = kept.kept-through ds test o in-no-path s i own n r t q h m
+
+-- TEXTS: a description that is accepted is orderly; and a text with two names has exactly one answer, which is computed.
+pub accepted-is-orderly : (text : List ℕ) (n w : ℕ) → Checks text (passes n w) → (d : Description) → flatten d ≡ scan text .tokens → Orderly (declarations d)
+accepted-is-orderly = texts.accepted-is-orderly
+
+pub answered : (text test output : List ℕ) → Answers text test output (answer text test output)
+answered = texts.answered
+
+pub only-answer : (text test output : List ℕ) {x y : Answer} → Answers text test output x → Answers text test output y → x ≡ y
+only-answer = texts.only-answer
