@@ -14,9 +14,9 @@ use Rattle.rules.specs.Faults.Whole.{mainName}
 use Rattle.rules.specs.Answers.{littleEndian, wordsFrom, bufferOf, ranNumbers}
 use Rattle.laws.specs.Answers.{Lawful}
 use Rattle.laws.specs.Orders.Ends.{Ended, EveryOrder}
-use Rattle.isps.specs.Memory.{Memory, Enough}
-use Rattle.isps.specs.Check.{CheckCall}
-use Rattle.isps.specs.Run.{RunCall}
+use Rattle.rules.specs.Calls.Memory.{Memory, Enough}
+use Rattle.rules.specs.Calls.Check.{CheckCall}
+use Rattle.rules.specs.Calls.Run.{RunCall}
 use Rattle.isps.specs.Laws.Calls as calls
 use Rattle.isps.specs.Laws.Orders as orders
 

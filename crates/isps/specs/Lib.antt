@@ -1,12 +1,2 @@
-pub mod Memory
-pub mod Check
-pub mod Run
 pub mod Demands
 pub mod Laws
-pub mod Numbers
-pub mod Measured
-pub mod Bytes
-pub mod Settled
-pub mod Checked
-pub mod Prepared
-pub mod Outcome

@@ -1,19 +1,7 @@
 // The public calls.
-mod answers;
-mod checking;
-mod memory;
-mod running;
-mod settling;
-
-use crate::checking::checked;
-use crate::memory::is_enough;
-use crate::running::ran;
-use crate::settling::settle;
-ghost use Rattle.isps.specs.Memory.{memory};
-ghost use Rattle.isps.specs.Check.{CheckCall};
-ghost use Rattle.isps.specs.Run.{RunCall};
-
-const LONGEST_TEXT: usize = 32768;
+ghost use Rattle.rules.specs.Calls.Memory.{memory};
+ghost use Rattle.rules.specs.Calls.Check.{CheckCall};
+ghost use Rattle.rules.specs.Calls.Run.{RunCall};
 
 // Check: judges a text. Returns the number of the answer, which stands in `answer` unless it is 1 or 2.
 #[no_mangle]
@@ -27,15 +15,7 @@ pub extern "C" fn isps_check(
     ensures { λ r. ⌜ CheckCall (now (text .entry)) (memory (now (a .entry)) (now (b .entry)) (now (c .entry)) (now (answer .entry)))
         (memory (now (a .exit)) (now (b .exit)) (now (c .exit)) (now (answer .exit))) r ⌝ }
 {
-    if !is_enough(a, b, c, answer) {
-        return 1;
-    }
-    if LONGEST_TEXT < text.len() {
-        return 2;
-    }
-    let found = checked(text, a, b, c);
-    settle(a, b, c, answer, found);
-    found.number
+    checking::check(text, a, b, c, answer)
 }
 
 // Run: reads a text afresh and runs it from the carriers, left to right, with a budget of steps.
@@ -52,13 +32,5 @@ pub extern "C" fn isps_run(
     ensures { λ r. ⌜ RunCall (now (text .entry)) (now (carriers .entry)) budget (memory (now (a .entry)) (now (b .entry)) (now (c .entry)) (now (answer .entry)))
         (memory (now (a .exit)) (now (b .exit)) (now (c .exit)) (now (answer .exit))) (now (carriers .exit)) r ⌝ }
 {
-    if !is_enough(a, b, c, answer) {
-        return 1;
-    }
-    if LONGEST_TEXT < text.len() {
-        return 2;
-    }
-    let found = ran(text, carriers, budget, a, b, c);
-    settle(a, b, c, answer, found);
-    found.number
+    running::run(text, carriers, budget, a, b, c, answer)
 }

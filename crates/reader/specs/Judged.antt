@@ -8,7 +8,7 @@ use native.Mathlib.Omega.{arith}
 use lib.ListN.{length, length-map, getElem?}
 use Rattle.rules.specs.Text.Scan.{scan}
 use Rattle.rules.specs.Grammar.Trees.{Tokens, Declaration, Description}
-use Rattle.rules.specs.Declarations.{declaredOf, declarations, outerName, totalWords}
+use Rattle.rules.specs.Declarations.{Table, declaredOf, declarations, outerName, totalWords}
 use Rattle.rules.specs.Faults.Fault.{Fault, fault, byPlace, byNumber, least}
 use Rattle.rules.specs.Faults.Declared.{faults30, mostDeclarations, mostWords}
 use Rattle.rules.specs.Faults.Bodies.{faults40}
@@ -40,6 +40,13 @@ pub record Accepts (text records values decls : List ℕ) (m words n : ℕ) : Ty
   pub counted : words ≡ totalWords (declarations (lawful .declares .description))
   pub few-words : words ≤ mostWords
   pub verdict : Checks text (accepted m words)
+
+module _ {text records values decls : List ℕ} {m words n : ℕ} (v : Accepts text records values decls m words n) where
+  abbrev pub described-by : Description
+  described-by = v .lawful .declares .description
+
+  abbrev pub table-by : Table
+  table-by = declarations described-by
 
 pub data Judges (text records values decls : List ℕ) : Verdict → Type 0 where
   refuses : {m p : ℕ} → Refuses text m p → Judges text records values decls (Refused m p)

@@ -7,4 +7,5 @@ pub mod Steps
 pub mod Whole
 pub mod Faults
 pub mod Answers
+pub mod Calls
 pub mod Examples

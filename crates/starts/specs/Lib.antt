@@ -1,3 +1,4 @@
 pub mod Starts
 pub mod Sought
 pub mod Buffers
+pub mod Laws

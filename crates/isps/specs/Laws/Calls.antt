@@ -10,11 +10,11 @@ use Rattle.rules.specs.Text.Scan.{longestText}
 use Rattle.rules.specs.Steps.Runs.{Ending, done, halted, paused, faulted}
 use Rattle.rules.specs.Answers.{Verdict, accepted, refused, Checks, Result, refusal, ended, Runs, littleEndian, bytesOf, verdictNumbers, ranNumbers, resultNumbers}
 use Rattle.laws.specs.Answers.{Lawful, one-verdict, one-result, accepted-iff-lawful}
-use Rattle.isps.specs.Memory.{Memory, Enough, numberBytes, answered, settled}
-use Rattle.isps.specs.Check.{CheckCall, verdictNumber}
-use Rattle.isps.specs.Check as check
-use Rattle.isps.specs.Run.{RunCall, resultNumber, carriersLeft}
-use Rattle.isps.specs.Run as run
+use Rattle.rules.specs.Calls.Memory.{Memory, Enough, numberBytes, answered, settled}
+use Rattle.rules.specs.Calls.Check.{CheckCall, verdictNumber}
+use Rattle.rules.specs.Calls.Check as check
+use Rattle.rules.specs.Calls.Run.{RunCall, resultNumber, carriersLeft}
+use Rattle.rules.specs.Calls.Run as run
 
 pub one-check : {text : List ℕ} {before after after′ : Memory} {n n′ : ℕ} → CheckCall text before after n → CheckCall text before after′ n′
     → (n ≡ n′) × (after ≡ after′)

@@ -20,8 +20,8 @@ use Rattle.laws.specs.Grammar.Exact.{unique}
 use Rattle.laws.specs.Orders.Budget.{run-bounded}
 use Rattle.laws.specs.Orders.Ends.{Ended, Well, EveryOrder}
 use Rattle.laws.specs.Demand3.{accepted-order-free, accepted-none-ends}
-use Rattle.isps.specs.Memory.{Memory, Enough, answered}
-use Rattle.isps.specs.Run.{RunCall, carriersLeft, short-memory, long-text, answer}
+use Rattle.rules.specs.Calls.Memory.{Memory, Enough, answered}
+use Rattle.rules.specs.Calls.Run.{RunCall, carriersLeft, short-memory, long-text, answer}
 use Rattle.isps.specs.Laws.Calls.{code, resultCode, result-code, ran-steps}
 
 abbrev runOf : Table → List ℕ → ℕ → Run

@@ -1,0 +1,4 @@
+pub mod Numbers
+pub mod Measured
+pub mod Settled
+pub mod Laws
