@@ -10,7 +10,7 @@ ghost use Prim.Native.Nat.{_+_, _*_, _≤_};
 ghost use lib.ListN.{length};
 ghost use Rattle.rules.specs.Grammar.Trees.{Tokens, Description};
 ghost use Rattle.rules.specs.Declarations.{declaredOf, declarations};
-ghost use Rattle.rules.specs.Faults.Declared.{mostWords};
+ghost use Rattle.rules.specs.Limits.{mostWords};
 ghost use Rattle.table.specs.Ready.{Ready};
 ghost use Rattle.lines.specs.Appended.{Appended};
 ghost use Rattle.bench.specs.Standing.{Stands, Counted};

@@ -15,7 +15,7 @@ use reader::declaring::Standing;
 use reader::declaring::read;
 ghost use Prim.Native.Nat.{_≤_};
 ghost use lib.ListN.{length};
-ghost use Rattle.rules.specs.Text.Scan.{longestText};
+ghost use Rattle.rules.specs.Limits.{longestText};
 
 const BUDGET: u32 = 1000000;
 

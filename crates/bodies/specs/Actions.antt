@@ -6,7 +6,7 @@ use lib.ListN.{length, drop}
 use Rattle.rules.specs.Text.Tokens.{Kind, Semi, NEXT, END, Comma, Info, Token}
 use Rattle.rules.specs.Grammar.Trees.{Tokens, Operand, Tail}
 use Rattle.rules.specs.Grammar.Trees.{Members, Alternatives, Action, block, labelled, if-then, decode, repeat, leave, restart, activate, stop, no-op, transfer, actionTokens}
-use Rattle.rules.specs.Grammar.Verdict.{deepest}
+use Rattle.rules.specs.Limits.{deepest}
 use Rattle.rules.specs.Faults.Fault.{Fault}
 use Rattle.rules.specs.Faults.Bodies.{actionFaults}
 use Rattle.laws.specs.Grammar.Nesting.{actionNest}

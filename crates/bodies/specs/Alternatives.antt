@@ -7,8 +7,7 @@ use lib.Dec.{eqb}
 use lib.ListN.{length, drop}
 use Rattle.rules.specs.Text.Tokens.{Token}
 use Rattle.rules.specs.Grammar.Trees.{Tokens, Action, Counted, Selected, Alternatives, counted, selected, alternativesTokens}
-use Rattle.rules.specs.Grammar.Verdict.{deepest}
-use Rattle.rules.specs.Values.{mostBits}
+use Rattle.rules.specs.Limits.{mostBits, deepest}
 use Rattle.rules.specs.Faults.Fault.{Fault}
 use Rattle.rules.specs.Faults.Bodies.{alternativesFaults, insideFaults}
 use Rattle.laws.specs.Grammar.Nesting.{alternativesNest}

@@ -4,7 +4,7 @@ use mathlib.Core.Path.{_≡_}
 use mathlib.Core.List.{List}
 use lib.ListN.{length}
 use Rattle.rules.specs.Grammar.Trees.{Declaration}
-use Rattle.rules.specs.Grammar.Verdict.{deepest}
+use Rattle.rules.specs.Limits.{deepest}
 use Rattle.rules.specs.Declarations.{declaredOf}
 use Rattle.rules.specs.Faults.Fault.{Fault}
 use Rattle.rules.specs.Faults.Bodies.{bodyFaults, faults40}

@@ -2,7 +2,7 @@
 use Prim.Native.Nat.{ℕ, _≤_}
 use mathlib.Core.Path.{_≡_}
 use mathlib.Core.List.{List}
-use Rattle.rules.specs.Text.Scan.{longestText}
+use Rattle.rules.specs.Limits.{longestText}
 use Rattle.rules.specs.Answers.{Verdict as Answered, accepted, refused, Checks, verdictNumbers}
 use Rattle.lent.specs.Numbers.{numbersOf}
 use Rattle.lent.specs.declared.answers.Answer.{Answer}

@@ -5,7 +5,7 @@ use reader::judging::Verdict;
 ghost use mathlib.Core.Path.{_≡_};
 ghost use Prim.Native.Nat.{_≤_};
 ghost use lib.ListN.{length};
-ghost use Rattle.rules.specs.Text.Scan.{longestText};
+ghost use Rattle.rules.specs.Limits.{longestText};
 ghost use Rattle.rules.specs.Answers.{verdictNumbers};
 ghost use Rattle.lent.specs.Numbers.{numbersOf};
 ghost use Rattle.checking.specs.Checked.{verdictOf, Near, Told};

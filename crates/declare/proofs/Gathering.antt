@@ -11,7 +11,7 @@ use lib.Seq.{drop-drop, drop-set-lt}
 use Rattle.cells.specs.Cells.{putAt, cell, putCell}
 use Rattle.cells.specs.Laws.{length-put, le-put-same, le-put-below}
 use Rattle.rules.specs.Text.Tokens.{kindNo, Token, tk, Name, Becomes, BEGIN, Comma}
-use Rattle.rules.specs.Text.Scan.{mostTokens}
+use Rattle.rules.specs.Limits.{mostTokens}
 use Rattle.rules.specs.Grammar.Trees.{Tokens, Heading, no-heading, heading, headingTokens, Declaration, plain, main, declarationTokens}
 use Rattle.rules.specs.Grammar.Trees.{Declarations, declared-all, declared-also, declarationsTokens, Description, description, flatten}
 use Rattle.laws.specs.Grammar.Positions.{declaration-writes}

@@ -9,7 +9,8 @@ use native.Mathlib.Omega.{arith}
 use borrow.Author.Tests.{not-true, not-false}
 use Rattle.rules.specs.Grammar.Trees.{Tokens}
 use Rattle.rules.specs.Declarations.{Names as Span-of, declaredOf, Target, storageWords, wordsOf}
-use Rattle.rules.specs.Faults.Declared.{mostWords, largeBits, largeWords, goodTarget}
+use Rattle.rules.specs.Faults.Declared.{largeBits, largeWords, goodTarget}
+use Rattle.rules.specs.Limits.{mostWords}
 use Rattle.table.specs.Shown.{shownWords, shownBits, shownTarget}
 use Rattle.table.specs.Views.{View, TargetAt}
 use Rattle.table.specs.declared.views.Names.{Names}

@@ -9,7 +9,8 @@ use borrow.Author.Tests.{lt-ltb, le-ltb}
 use lib.Dec.{ltb}
 use Rattle.cells.specs.Cells.{cell}
 use Rattle.rules.specs.Declarations.{declaredOf, wordsOf}
-use Rattle.rules.specs.Faults.Declared.{mostWords, isKnown, badMapping}
+use Rattle.rules.specs.Faults.Declared.{isKnown, badMapping}
+use Rattle.rules.specs.Limits.{mostWords}
 use Rattle.table.specs.Views.{View}
 use Rattle.declare.specs.Faults.{isLarge, isTooMany, numberOr, ownNumber}
 use Rattle.declare.specs.Listed.{outerOf, tableOf, knownOf, Chosen, chosenOf}

@@ -13,11 +13,11 @@ use lib.Dec.{ltb}
 use lib.ListN.{length, take, drop, getElem?, drop-of-length-le, length-map}
 use Rattle.cells.specs.Cells.{cell}
 use Rattle.rules.specs.Text.Tokens.{Token}
-use Rattle.rules.specs.Text.Scan.{longestText}
 use Rattle.rules.specs.Grammar.Trees.{Declaration}
 use Rattle.rules.specs.Declarations.{Name, Declared, Table, declaredOf, wordsOf}
 use Rattle.rules.specs.Faults.Fault.{fault}
-use Rattle.rules.specs.Faults.Declared.{mostWords, largeBits, largeWords, isKnown, badMapping, twice, large, tooMany, mappings, faults30}
+use Rattle.rules.specs.Faults.Declared.{largeBits, largeWords, isKnown, badMapping, twice, large, tooMany, mappings, faults30}
+use Rattle.rules.specs.Limits.{mostWords, longestText}
 use Rattle.table.specs.Holds.{placeCell, tokenAt}
 use Rattle.table.specs.Declarations.{declarationList}
 use Rattle.table.specs.Views.{View}

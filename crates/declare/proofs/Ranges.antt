@@ -7,7 +7,7 @@ use native.Mathlib.Omega.{arith}
 use native.Mathlib.Decide.{decLt}
 use borrow.Author.Tests.{lt-ltb, le-ltb, le-leb, lt-leb, eq-eqb, ne-eqb, not-true, not-false, ltb-false}
 use lib.Dec.{leb, ltb, eqb}
-use Rattle.rules.specs.Values.{mostBits}
+use Rattle.rules.specs.Limits.{mostBits}
 use Rattle.rules.specs.Declarations.{names, howMany, these}
 use Rattle.rules.specs.Faults.Declared.{farNames, among, inside}
 use Rattle.table.specs.declared.views.Names.{Names}

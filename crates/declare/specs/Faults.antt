@@ -5,7 +5,8 @@ use mathlib.Core.List.{List, [], _∷_, _++_}
 use lib.Dec.{ltb}
 use Rattle.rules.specs.Declarations.{Name, Declared, Table, wordsOf}
 use Rattle.rules.specs.Faults.Fault.{Fault}
-use Rattle.rules.specs.Faults.Declared.{mostDeclarations, mostWords, isKnown, twice, largeBits, largeWords, large, tooMany, badMapping, mappings}
+use Rattle.rules.specs.Faults.Declared.{isKnown, twice, largeBits, largeWords, large, tooMany, badMapping, mappings}
+use Rattle.rules.specs.Limits.{mostDeclarations, mostWords}
 
 -- the names that are known behind declarations, the latest first
 unfoldable pub knownBehind : List Name → Table → List Name

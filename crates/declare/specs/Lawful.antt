@@ -11,7 +11,8 @@ use lib.Dec.{ltb}
 use lib.ListN.{length, getElem?}
 use Rattle.rules.specs.Declarations.{Name, Declared, Table, wordsOf, totalWords}
 use Rattle.rules.specs.Faults.Fault.{Fault, when}
-use Rattle.rules.specs.Faults.Declared.{mostDeclarations, mostWords, twice, large, tooMany, mappings, faults30}
+use Rattle.rules.specs.Faults.Declared.{twice, large, tooMany, mappings, faults30}
+use Rattle.rules.specs.Limits.{mostDeclarations, mostWords}
 use Rattle.declare.specs.Faults.{isLarge, isTooMany}
 
 -- the parts of an empty list

@@ -5,7 +5,7 @@ use mathlib.Core.Path.{_≡_, refl}
 use mathlib.Core.Bool.{Bool, true, false, _&&_, _||_, and-false}
 use mathlib.Core.Option.{Option, none, some}
 use lib.Dec.{ltb, eqb}
-use Rattle.rules.specs.Values.{mostBits}
+use Rattle.rules.specs.Limits.{mostBits}
 use Rattle.rules.specs.Declarations.{names, howMany, Names as Span-of, BitNames, one-unnamed, these, bitCount, Target, storageWords}
 use Rattle.rules.specs.Faults.Declared.{farNames, largeBits, largeWords, inside, fits}
 use Rattle.table.specs.Shown.{shownWords, shownBits, shownTarget}

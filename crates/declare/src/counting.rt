@@ -6,7 +6,7 @@ ghost use mathlib.Core.List.{List};
 ghost use Prim.Native.Nat.{ℕ, _≤_};
 ghost use Rattle.rules.specs.Grammar.Trees.{Tokens, Description};
 ghost use Rattle.rules.specs.Declarations.{declarations, totalWords};
-ghost use Rattle.rules.specs.Faults.Declared.{mostWords};
+ghost use Rattle.rules.specs.Limits.{mostWords};
 ghost use Rattle.table.specs.Ready.{Ready};
 
 // How many words the m declarations have together.

@@ -6,7 +6,7 @@ ghost use mathlib.Core.List.{List};
 ghost use Prim.Native.Nat.{ℕ, _*_, _<_, _≤_};
 ghost use lib.ListN.{length};
 ghost use Rattle.rules.specs.Text.Tokens.{Kind, kindNo};
-ghost use Rattle.rules.specs.Text.Scan.{mostTokens};
+ghost use Rattle.rules.specs.Limits.{mostTokens};
 ghost use Rattle.rules.specs.Grammar.Trees.{no-heading};
 ghost use Rattle.rules.specs.Grammar.Verdict.{count};
 ghost use Rattle.table.specs.Declarations.{declarationList};

@@ -4,7 +4,8 @@ ghost use mathlib.Core.Path.{_≡_};
 ghost use mathlib.Core.Bool.{false};
 ghost use Prim.Native.Nat.{_+_, _≤_};
 ghost use Rattle.rules.specs.Declarations.{names, howMany, these};
-ghost use Rattle.rules.specs.Faults.Declared.{mostWords, farNames, among, inside as lies-inside};
+ghost use Rattle.rules.specs.Faults.Declared.{farNames, among, inside as lies-inside};
+ghost use Rattle.rules.specs.Limits.{mostWords};
 ghost use Rattle.declare.specs.Spans.{farShown, largeShown, missingShown, countShown, storageShown, sameCount, fitsIn, fitsShown};
 
 const LARGEST_NAME: u64 = 4095;

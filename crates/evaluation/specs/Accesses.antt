@@ -8,7 +8,8 @@ use mathlib.Core.Option.{Option, none, some}
 use native.Mathlib.Omega.{arith}
 use lib.ListN.{length, drop}
 use Rattle.rules.specs.Text.Tokens.{Name, Const, LBra, RBra, Less, kindNo, Info, Token, tk}
-use Rattle.rules.specs.Text.Scan.{sameBytes, mostTokens}
+use Rattle.rules.specs.Text.Scan.{sameBytes}
+use Rattle.rules.specs.Limits.{mostTokens}
 use Rattle.rules.specs.Grammar.Trees.{Tokens, Bits, all-bits, bits, bitsTokens, bitsEndTokens, Operand, operandTokens, Tail, tailTokens, Subscript, no-subscript, subscript, subscriptTokens}
 use Rattle.rules.specs.Grammar.Precedence.{Index, no-index, indexOf, exprOf}
 use Rattle.rules.specs.Values.{Value}

@@ -5,8 +5,8 @@ use mathlib.Core.List.{List}
 use lib.Dec.{eqb}
 use lib.ListN.{length}
 use Rattle.cells.specs.Cells.{cell}
-use Rattle.rules.specs.Text.Scan.{mostTokens}
-use Rattle.rules.specs.Values.{mostBits, notNumber, field}
+use Rattle.rules.specs.Values.{notNumber, field}
+use Rattle.rules.specs.Limits.{mostBits, mostTokens}
 use Rattle.evaluation.specs.declared.accesses.Located.{Located}
 use Rattle.evaluation.specs.declared.accesses.Located.the-variants.{Field as located, Fault as outside}
 use Rattle.evaluation.specs.declared.expressions.Evaluated.{Evaluated}

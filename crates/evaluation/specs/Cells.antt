@@ -14,10 +14,9 @@ use Rattle.cells.specs.Cells as bytes
 use Rattle.cells.specs.Cells.{leAt}
 use Rattle.table.specs.Holds.{valueCell}
 use Rattle.rules.specs.Grammar.Trees.{Bits}
-use Rattle.rules.specs.Values.{mostBits}
 use Rattle.rules.specs.Declarations.{Name, Names, fromLeft, BitNames, Target, Declared, Table, numberOf}
 use Rattle.rules.specs.Declarations.{Reach, reachStorage, reachOf, reachNumber, reach, accessLow, accessBits}
-use Rattle.rules.specs.Faults.Declared.{largestName}
+use Rattle.rules.specs.Limits.{largestName, mostBits}
 use Rattle.rules.specs.Steps.Evaluation.{wordOr70, wordOf}
 use Rattle.laws.specs.Orders.Tests.{impossible}
 use Rattle.laws.specs.Accepted.Declared.{Declares, near-words, few-words}

@@ -7,7 +7,7 @@ use mathlib.Core.List.{List, _∷_}
 use native.Mathlib.Omega.{arith}
 use lib.ListN.{length, drop}
 use Rattle.rules.specs.Text.Tokens.{Info, Token, tk, Op, opKind, kindNo}
-use Rattle.rules.specs.Text.Scan.{mostTokens}
+use Rattle.rules.specs.Limits.{mostTokens}
 use Rattle.rules.specs.Grammar.Trees.{Tokens, Operand, operandTokens, Tail, no-more, with-op, tailTokens}
 use Rattle.rules.specs.Grammar.Precedence.{tightness, factorOf}
 use Rattle.laws.specs.Grammar.Nesting.{operandNest}

@@ -7,10 +7,10 @@ use mathlib.Core.List.{List, [], _∷_}
 use native.Mathlib.Omega.{arith}
 use lib.ListN.{length, drop}
 use Rattle.rules.specs.Text.Tokens.{Info, Token, tk, Op, opKind, kindNo}
-use Rattle.rules.specs.Text.Scan.{mostTokens}
 use Rattle.rules.specs.Grammar.Trees.{Tokens, Operand, operandTokens, Tail, no-more, with-op, tailTokens}
 use Rattle.rules.specs.Grammar.Precedence.{leaf, node, factorOf, linksOf, inserts, insert, arrange, exprOf}
-use Rattle.rules.specs.Values.{mostBits, value, opBits, opNumber}
+use Rattle.rules.specs.Values.{value, opBits, opNumber}
+use Rattle.rules.specs.Limits.{mostBits, mostTokens}
 use Rattle.rules.specs.Steps.Evaluation.{gives, faulty, evaluate, evaluateFactor}
 use Rattle.laws.specs.Grammar.Nesting.{operandNest, tailNest}
 use Rattle.laws.specs.Grammar.Shunting.{waiting, looser, settled, chain}

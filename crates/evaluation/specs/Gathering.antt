@@ -8,10 +8,9 @@ use native.Mathlib.Omega.{arith}
 use lib.ListN.{length, drop, length-append}
 use Rattle.cells.specs.Cells.{putCell}
 use Rattle.rules.specs.Text.Tokens.{Name, Equals, At, kindNo, Info, Token, tk}
-use Rattle.rules.specs.Text.Scan.{mostTokens}
 use Rattle.rules.specs.Grammar.Trees.{Tokens, Bits, bitsTokens, Subscript, subscriptTokens, Joined, alone, joined, joinedTokens}
-use Rattle.rules.specs.Grammar.Verdict.{deepest}
-use Rattle.rules.specs.Values.{mostBits, total}
+use Rattle.rules.specs.Values.{total}
+use Rattle.rules.specs.Limits.{mostBits, deepest, mostTokens}
 use Rattle.rules.specs.Declarations.{Table}
 use Rattle.rules.specs.Steps.Actions.{Access, access, joinedAccesses}
 use Rattle.rules.specs.Steps.Evaluation.{Outcome, gives, faulty, then, Field, evaluateAccess, evaluateAccesses}

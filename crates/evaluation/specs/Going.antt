@@ -5,7 +5,7 @@ use mathlib.Core.Path.{_≡_, refl, sym, ap, _∙_, subst}
 use mathlib.Core.List.{List, [], _∷_}
 use native.Mathlib.Omega.{arith}
 use lib.ListN.{length, set, drop, length-set}
-use Rattle.rules.specs.Text.Scan.{mostTokens}
+use Rattle.rules.specs.Limits.{mostTokens}
 use Rattle.rules.specs.Grammar.Trees.{Tail, no-more, with-op, tailTokens}
 use Rattle.rules.specs.Grammar.Precedence.{tightness, Expr, leaf, node, factorOf, linksOf, exprOf}
 use Rattle.rules.specs.Values.{value}

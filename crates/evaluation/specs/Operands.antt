@@ -9,7 +9,7 @@ use lib.Dec.{eqb}
 use lib.ListN.{length}
 use borrow.Author.Tests.{eq-eqb, ne-eqb}
 use Rattle.rules.specs.Text.Tokens.{Name, Const, LPar, RPar, NOT, kindNo, Info, Token, tk}
-use Rattle.rules.specs.Text.Scan.{mostTokens}
+use Rattle.rules.specs.Limits.{mostTokens}
 use Rattle.rules.specs.Grammar.Trees.{Bits, Operand, constant, access, parens, negated, operandTokens, Tail, Subscript}
 use Rattle.rules.specs.Grammar.Precedence.{factorOf, exprOf}
 use Rattle.rules.specs.Values.{value, truth}

@@ -9,7 +9,8 @@ use lib.ListN.{length, getD, set}
 use lib.Seq.{getD-set-same, getD-set-other}
 use Rattle.rules.specs.Text.Tokens.{opKind, kindNo}
 use Rattle.rules.specs.Grammar.Precedence.{tightness, Expr, leaf, node}
-use Rattle.rules.specs.Values.{mostBits, value, opBits, opNumber}
+use Rattle.rules.specs.Values.{value, opBits, opNumber}
+use Rattle.rules.specs.Limits.{mostBits}
 use Rattle.rules.specs.Declarations.{Name as Word, Table}
 use Rattle.rules.specs.Steps.Evaluation.{Carriers, gives, evaluate}
 use Rattle.laws.specs.Grammar.Shunting.{Waiting, looser, settled}

@@ -6,10 +6,9 @@ use mathlib.Core.List.{List, [], _∷_, _++_}
 use native.Mathlib.Omega.{arith}
 use lib.ListN.{length, take, drop, take-append-drop, length-drop}
 use Rattle.rules.specs.Text.Tokens.{Name, Const, Info, Token, tk}
-use Rattle.rules.specs.Text.Scan.{mostTokens}
 use Rattle.rules.specs.Grammar.Trees.{Tokens, Bits, bitsTokens, operandTokens, tailTokens, Subscript, subscriptTokens, Joined, joinedTokens}
 use Rattle.rules.specs.Grammar.Precedence.{Expr}
-use Rattle.rules.specs.Grammar.Verdict.{deepest}
+use Rattle.rules.specs.Limits.{deepest, mostTokens}
 use Rattle.rules.specs.Values.{value}
 use Rattle.rules.specs.Steps.Evaluation.{gives, faulty, evaluate}
 use Rattle.rules.specs.Faults.Bodies.{judgeDestination, judgeJoined}

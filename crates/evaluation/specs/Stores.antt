@@ -9,7 +9,8 @@ use lib.ListN.{length, getD, set}
 use Rattle.cells.specs.Cells as bytes
 use Rattle.cells.specs.Cells.{cells, putCell}
 use Rattle.cells.specs.Laws.{le-put-same, le-put-below, length-put, cells-get, cells-put}
-use Rattle.rules.specs.Values.{mostBits, field, withField, total, cut}
+use Rattle.rules.specs.Values.{field, withField, total, cut}
+use Rattle.rules.specs.Limits.{mostBits}
 use Rattle.rules.specs.Declarations.{Table, totalWords}
 use Rattle.rules.specs.Steps.Evaluation.{Carriers, Field, writeField, storeAll}
 use Rattle.values.specs.Laws.Cuts.{pieces, cut-pieces}

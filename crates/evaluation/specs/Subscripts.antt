@@ -10,7 +10,7 @@ use lib.Dec.{leb}
 use lib.ListN.{length, drop, length-drop}
 use borrow.Author.Tests.{leb-true}
 use Rattle.rules.specs.Text.Tokens.{Name, kindNo, Info, Token, tk}
-use Rattle.rules.specs.Text.Scan.{mostTokens}
+use Rattle.rules.specs.Limits.{mostTokens}
 use Rattle.rules.specs.Grammar.Trees.{Tokens, bit, upto, Bits, all-bits, bits, bitsTokens}
 use Rattle.rules.specs.Declarations.{Names, names, fromLeft, Reach, accessLow, accessBits}
 use Rattle.rules.specs.Steps.Evaluation.{Outcome, gives, faulty, then, Field, wordOr70, wordOf, fieldIn}

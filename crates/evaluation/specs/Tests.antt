@@ -2,9 +2,8 @@
 -- Assumes nothing.
 use Prim.Native.Nat.{ℕ, _+_, _<_}
 use mathlib.Core.List.{List}
-use Rattle.rules.specs.Text.Scan.{mostTokens}
 use Rattle.rules.specs.Grammar.Precedence.{Expr}
-use Rattle.rules.specs.Grammar.Verdict.{deepest}
+use Rattle.rules.specs.Limits.{deepest, mostTokens}
 use Rattle.promise.specs.Instructions.{ExpressionStands}
 use Rattle.evaluation.specs.declared.expressions.Evaluated.{Evaluated}
 use Rattle.evaluation.specs.Scene.{Scene, ExpressionAt, ExpressionTold}

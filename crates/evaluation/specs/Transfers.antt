@@ -6,11 +6,10 @@ use mathlib.Core.List.{List, [], _∷_}
 use native.Mathlib.Omega.{arith}
 use lib.ListN.{length, drop}
 use Rattle.rules.specs.Text.Tokens.{Name, Equals, kindNo, Info, Token, tk}
-use Rattle.rules.specs.Text.Scan.{mostTokens}
 use Rattle.rules.specs.Grammar.Trees.{Tokens, Bits, bitsTokens, Subscript, subscriptTokens, Joined, alone, joined, joinedTokens}
 use Rattle.rules.specs.Grammar.Precedence.{Expr}
-use Rattle.rules.specs.Grammar.Verdict.{deepest}
-use Rattle.rules.specs.Values.{mostBits, Value, value, cut}
+use Rattle.rules.specs.Values.{Value, value, cut}
+use Rattle.rules.specs.Limits.{mostBits, deepest, mostTokens}
 use Rattle.rules.specs.Declarations.{Table, totalWords}
 use Rattle.rules.specs.Steps.Actions.{Access, access, joinedAccesses}
 use Rattle.rules.specs.Steps.Evaluation.{Carriers, Outcome, gives, faulty, then, evaluateAccesses, storeAll, transferred}

@@ -9,7 +9,8 @@ use Rattle.cells.specs.Laws.{cells-get}
 use Rattle.rules.specs.Text.Tokens.{Info, Op}
 use Rattle.rules.specs.Grammar.Trees.{Bits, Subscript}
 use Rattle.rules.specs.Grammar.Precedence.{Expr, node, Factor, cell, indexOf}
-use Rattle.rules.specs.Values.{mostBits, Value, value, opBits, opNumber, operate, field}
+use Rattle.rules.specs.Values.{Value, value, opBits, opNumber, operate, field}
+use Rattle.rules.specs.Limits.{mostBits}
 use Rattle.rules.specs.Declarations.{Name, Table, totalWords}
 use Rattle.rules.specs.Steps.Actions.{Access, access}
 use Rattle.rules.specs.Steps.Evaluation.{Carriers, Outcome, gives, faulty, then, Field, fieldOf, readField, evaluate, evaluateFactor, evaluateIndex, evaluateAccess}

@@ -7,7 +7,7 @@ use mathlib.Core.Option.{Option, none, some}
 use native.Mathlib.Omega.{arith}
 use borrow.Author.Tests.{ltb-false, leb-true, ne-eqb}
 use lib.Dec.{leb, ltb, eqb}
-use Rattle.rules.specs.Values.{mostBits}
+use Rattle.rules.specs.Limits.{mostBits}
 use Rattle.rules.specs.Grammar.Trees.{bit, upto, Bits, all-bits, bits}
 use Rattle.rules.specs.Declarations.{Names as Span-of, names, howMany, BitNames, one-unnamed, these, bitCount, mainNames}
 use Rattle.rules.specs.Faults.Fault.{when}

@@ -10,7 +10,7 @@ use borrow.Author.Tests.{ne-eqb}
 use lib.Dec.{eqb}
 use lib.ListN.{length, drop}
 use Rattle.rules.specs.Text.Tokens.{Name, kindNo, Info, Token, tk}
-use Rattle.rules.specs.Text.Scan.{longestText}
+use Rattle.rules.specs.Limits.{longestText}
 use Rattle.rules.specs.Grammar.Trees.{Tokens, bit, upto, Bits, all-bits, bits, bitsTokens}
 use Rattle.rules.specs.Grammar.Precedence.{Index, no-index, index}
 use Rattle.rules.specs.Declarations.{Names as Span-of, BitNames, one-unnamed, these, mainNames, declaredOf, numberOf}

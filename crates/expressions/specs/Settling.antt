@@ -6,10 +6,9 @@ use mathlib.Core.List.{List, [], _∷_}
 use native.Mathlib.Omega.{arith}
 use lib.ListN.{length, getD}
 use Rattle.rules.specs.Text.Tokens.{Token, tk, opKind, kindNo}
-use Rattle.rules.specs.Text.Scan.{longestText}
 use Rattle.rules.specs.Grammar.Trees.{Tokens}
 use Rattle.rules.specs.Grammar.Precedence.{tightness, Factor}
-use Rattle.rules.specs.Values.{mostBits}
+use Rattle.rules.specs.Limits.{mostBits, longestText}
 use Rattle.rules.specs.Faults.Bodies.{Judged}
 use Rattle.laws.specs.Grammar.Shunting.{Waiting, looser, settled}
 use Rattle.table.specs.Holds.{Holds, tokenAt, kindByte, placeCell}

@@ -8,7 +8,8 @@ use native.Mathlib.Omega.{arith}
 use borrow.Author.Tests.{ltb-false}
 use lib.Dec.{ltb}
 use Rattle.rules.specs.Text.Tokens.{Info, Op}
-use Rattle.rules.specs.Values.{mostBits, opBits}
+use Rattle.rules.specs.Values.{opBits}
+use Rattle.rules.specs.Limits.{mostBits}
 use Rattle.rules.specs.Grammar.Precedence.{Expr, node}
 use Rattle.rules.specs.Declarations.{Name as Word, Table}
 use Rattle.rules.specs.Faults.Fault.{Fault, when}

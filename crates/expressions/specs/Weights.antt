@@ -7,8 +7,8 @@ use native.Mathlib.Omega.{arith}
 use native.Mathlib.Decide.{decLt}
 use borrow.Author.Tests.{lt-ltb, le-ltb}
 use Rattle.rules.specs.Text.Tokens.{Info, Op}
-use Rattle.rules.specs.Text.Scan.{longestText}
-use Rattle.rules.specs.Values.{mostBits, opBits}
+use Rattle.rules.specs.Values.{opBits}
+use Rattle.rules.specs.Limits.{mostBits, longestText}
 use Rattle.rules.specs.Faults.Fault.{Fault, fault}
 use Rattle.rules.specs.Faults.Bodies.{Judged, judged, soundBits, over}
 use Rattle.values.specs.Laws.Results.{result-some}

@@ -12,7 +12,9 @@ use lib.ListN.{length, getD, set, drop, length-set}
 use lib.Seq.{drop-cons, drop-length, getD-set-same, getD-set-other}
 use Rattle.rules.specs.Text.Tokens.{Token, tk, Name, kindAt}
 use Rattle.rules.specs.Grammar.Trees.{Tokens}
-use Rattle.rules.specs.Grammar.Verdict.{Answer, accepted, refused20, refused21, blank, deepest}
+use Rattle.rules.specs.Grammar.Verdict.{blank}
+use Rattle.laws.specs.Grammar.Answer.{Answer, accepted, refused20, refused21}
+use Rattle.rules.specs.Limits.{deepest}
 use Rattle.laws.specs.Grammar.Kinds.{kindAt-kindNo}
 use Rattle.laws.specs.Grammar.Rows.{State, title, Stack, Move, go, open-to, shut, row, lookup, too-deep, judge, run, recognise}
 use Rattle.grammar.specs.Places.{place}

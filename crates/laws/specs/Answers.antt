@@ -10,12 +10,14 @@ use native.Mathlib.Omega.{arith}
 use borrow.Author.Tests.{le-leb, lt-leb}
 use lib.Dec.{leb}
 use lib.ListN.{length}
-use Rattle.rules.specs.Text.Scan.{longestText, scan, End, fine, refuse}
+use Rattle.rules.specs.Text.Scan.{scan, End, fine, refuse}
+use Rattle.rules.specs.Limits.{longestText}
 use Rattle.rules.specs.Grammar.Trees.{Tokens, Description, flatten}
-use Rattle.rules.specs.Grammar.Verdict.{Answer, accepted, refused20, refused21, Crowded, Accepted, Refused20, Refused21, Right}
+use Rattle.rules.specs.Grammar.Verdict.{Crowded, Accepted, Refused20, Refused21}
+use Rattle.laws.specs.Grammar.Answer.{Answer, accepted, refused20, refused21, Right}
 use Rattle.rules.specs.Declarations.{declarations}
 use Rattle.rules.specs.Answers.{Verdict, accepted as passes, refused, judgement, placeOf, Checks, too-long, unreadable, no-description, too-deep, judged}
-use Rattle.rules.specs.Answers.{Result, refusal, runOn, Runs, not-accepted, ran}
+use Rattle.rules.specs.Answers.{Lawful, Result, refusal, runOn, Runs, not-accepted, ran}
 use Rattle.laws.specs.Grammar.Rows.{title, recognise}
 use Rattle.laws.specs.Grammar.Meanings.{stackL}
 use Rattle.laws.specs.Grammar.Reading.{read}
@@ -98,15 +100,6 @@ module _ (text : List ℕ) where
         | no n ↦ let short : length text ≤ longestText = omega arith in
             subst (Checks text) (sym (ended (scan text .end) short refl)) (by-end (scan text .end) short refl)
       ]
-
--- a description that the rules allow, of n declarations and w words
-pub record Lawful (text : List ℕ) (n w : ℕ) : Type 0 where
-  pub description : Description
-  pub short : length text ≤ longestText
-  pub readable : scan text .end ≡ fine
-  pub stands : flatten description ≡ scan text .tokens
-  pub shallow : (j : ℕ) → ¬ Crowded (flatten description) j
-  pub faultless : judgement description ≡ passes n w
 
 -- ACCEPTED: exactly the texts that the rules allow
 no-refusal : {A : Type 0} {m p n w : ℕ} → refused m p ≡ passes n w → A

@@ -12,12 +12,12 @@ use Rattle.rules.specs.Grammar.Trees.{Description, flatten}
 use Rattle.rules.specs.Declarations.{Table, declarations}
 use Rattle.rules.specs.Steps.Evaluation.{Carriers}
 use Rattle.rules.specs.Steps.Runs.{Conf, Steps, begin, run}
-use Rattle.rules.specs.Whole.Orderly.{Orderly}
+use Rattle.laws.specs.Orders.Orderly.{Orderly}
 use Rattle.rules.specs.Faults.Whole.{mainName}
 use Rattle.rules.specs.Answers.{accepted, Checks}
 use Rattle.laws.specs.Answers.{accepted-iff-lawful}
 use Rattle.laws.specs.Grammar.Exact.{unique}
-use Rattle.laws.specs.Orders.Ends.{Ended, EndsWell, EveryOrder}
+use Rattle.rules.specs.Steps.Orders.{Ended, EndsWell, EveryOrder}
 use Rattle.laws.specs.Orders.Demand3.{order-free, none-ends}
 use Rattle.laws.specs.Accepted.Orderly.{accepted-orderly}
 

@@ -1,3 +1,6 @@
+pub mod Answer
+pub mod Blocks
+pub mod Tight
 pub mod Kinds
 pub mod Rows
 pub mod Meanings

@@ -1,3 +1,4 @@
+pub mod Orderly
 pub mod Foot
 pub mod Ok
 pub mod Diamond

@@ -10,9 +10,8 @@ use native.Mathlib.Decide.{decLt}
 use lib.ListN.{length, drop, getElem?}
 use Rattle.cells.specs.Cells.{cell}
 use Rattle.rules.specs.Text.Tokens.{Token}
-use Rattle.rules.specs.Text.Scan.{mostTokens}
 use Rattle.rules.specs.Grammar.Trees.{Tokens, Action, actionTokens, Declaration, Description}
-use Rattle.rules.specs.Grammar.Verdict.{deepest}
+use Rattle.rules.specs.Limits.{deepest, mostTokens}
 use Rattle.rules.specs.Declarations.{Name as Word, Table, declaredOf, declarations, outerName}
 use Rattle.laws.specs.Grammar.Heads.{action-head}
 use Rattle.laws.specs.Grammar.Nesting.{actionNest}

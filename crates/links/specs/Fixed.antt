@@ -12,7 +12,8 @@ use Rattle.rules.specs.Text.Bytes.{Class, classOf, run, fold, inName, inConstan
 use Rattle.rules.specs.Text.Bytes.{forbidden, blank, exclamation, letter, digit, dot, prefix, query, mark, other}
 use Rattle.rules.specs.Text.Tokens.{kindNo, Const, Token, tk, Spelling, keywords, marks}
 use Rattle.rules.specs.Text.Constants.{malformed, constant, isQuery, isDigitOf, isBasedDigit, all, any, digitBits, valueFrom, freeDigit, freeFrom, decimalBits, decimal, based}
-use Rattle.rules.specs.Text.Scan.{Lexeme, nothing, token, refused, wordKind, markAt, wordLexeme, constantLexeme, maskedKind, markLexeme, lexemeBy, lexeme, Scan, scanFrom, scan, longestName, mostTokens, wordInfo, after, ended, refuse}
+use Rattle.rules.specs.Text.Scan.{Lexeme, nothing, token, refused, wordKind, markAt, wordLexeme, constantLexeme, maskedKind, markLexeme, lexemeBy, lexeme, Scan, scanFrom, scan, wordInfo, after, ended, refuse}
+use Rattle.rules.specs.Limits.{longestName, mostTokens}
 use Rattle.rules.specs.Grammar.Trees.{Tokens}
 use Rattle.laws.specs.Orders.Tests.{or-neither}
 use Rattle.laws.specs.Accepted.Constants.{ConstantOk, ConstantsOk}

@@ -10,7 +10,8 @@ use Rattle.rules.specs.Text.Scan.{scan}
 use Rattle.rules.specs.Grammar.Trees.{Tokens, Action, Description}
 use Rattle.rules.specs.Declarations.{Name as Word, declarations, outerName, bodyOf, totalWords}
 use Rattle.rules.specs.Faults.Fault.{Fault, byPlace, byNumber, least}
-use Rattle.rules.specs.Faults.Declared.{faults30, mostDeclarations}
+use Rattle.rules.specs.Faults.Declared.{faults30}
+use Rattle.rules.specs.Limits.{mostDeclarations}
 use Rattle.rules.specs.Faults.Bodies.{faults40}
 use Rattle.rules.specs.Faults.Whole.{mainName, faults50}
 use Rattle.rules.specs.Answers.{accepted, judgement, orElse}

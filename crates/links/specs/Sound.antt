@@ -19,11 +19,11 @@ use Rattle.rules.specs.Grammar.Trees.{Action, block, labelled, if-then, decode,
 use Rattle.rules.specs.Grammar.Trees.{Alternatives, counted, selected, alternativesTokens, Counted, counted-end, counted-more, countedTokens}
 use Rattle.rules.specs.Grammar.Trees.{Selected, select, otherwise, selectedTokens, SelectedMore, selected-end, selected-more, selectedMoreTokens}
 use Rattle.rules.specs.Grammar.Precedence.{exprOf}
-use Rattle.rules.specs.Grammar.Verdict.{deepest}
 use Rattle.rules.specs.Selectors.{Case, numbered, listed, otherwise as any-value, selectorItems}
 use Rattle.rules.specs.Declarations.{Name as Word, Declared, Table, numberOf}
 use Rattle.rules.specs.Faults.Fault.{Fault, fault, when}
-use Rattle.rules.specs.Faults.Declared.{declaredAt, mostDeclarations}
+use Rattle.rules.specs.Faults.Declared.{declaredAt}
+use Rattle.rules.specs.Limits.{mostDeclarations, deepest}
 use Rattle.rules.specs.Faults.Bodies.{judge, faultsIn, judgeDestination, judgeJoined, storedTwice, ownerOf, activated, alternativesFaults}
 use Rattle.rules.specs.Faults.Bodies.{actionFaults, membersFaults, insideFaults, insideCounted, insideSelected, insideMore}
 use Rattle.rules.specs.Declarations.{reach}

@@ -9,7 +9,7 @@ use table::views::body_of;
 ghost use mathlib.Core.List.{List};
 ghost use Prim.Native.Nat.{ℕ, _+_, _*_, _≤_};
 ghost use lib.ListN.{length};
-ghost use Rattle.rules.specs.Text.Scan.{mostTokens};
+ghost use Rattle.rules.specs.Limits.{mostTokens};
 ghost use Rattle.rules.specs.Grammar.Trees.{Tokens, Description};
 ghost use Rattle.table.specs.Ready.{Ready};
 ghost use Rattle.links.specs.Seeking.{Ground};

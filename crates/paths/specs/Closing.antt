@@ -5,8 +5,9 @@ use mathlib.Core.Bool.{Bool, false, false≢true}
 use Rattle.rules.specs.Declarations.{Name, Table}
 use Rattle.rules.specs.Steps.Actions.{Act, seq, par, label, ins, Ins, iff, decode, repeat, leave, restart, call, stop, noop, transfer, Alts, end, alt}
 use Rattle.rules.specs.Steps.Runs.{bodyAct}
-use Rattle.rules.specs.Whole.Sets.{longestChain, callsIn, callsI, callsAlts, anyName, chainOver}
-use Rattle.rules.specs.Whole.Orderly.{Orderly}
+use Rattle.rules.specs.Whole.Sets.{callsIn, callsI, callsAlts, anyName, chainOver}
+use Rattle.rules.specs.Limits.{longestChain}
+use Rattle.laws.specs.Orders.Orderly.{Orderly}
 use Rattle.laws.specs.Orders.Chains.{none-of, not-this}
 use Rattle.paths.specs.Early.{Report, passed, inTurn, beside, either, inside, turning, activation, early, earlyI, earlyAlts, bodyEarly}
 use Rattle.paths.specs.Reports.{Sub, sub-refl}

@@ -11,7 +11,8 @@ use Rattle.rules.specs.Grammar.Trees.{Action, Description}
 use Rattle.rules.specs.Declarations.{Name, Table, declarations, bodyOf}
 use Rattle.rules.specs.Steps.Actions.{Access, Act, seq, par, label, ins, Ins, iff, decode, repeat, leave, restart, call, stop, noop, transfer, Alts, end, alt}
 use Rattle.rules.specs.Steps.Runs.{bodyAct}
-use Rattle.rules.specs.Whole.Sets.{longestChain, member, stores}
+use Rattle.rules.specs.Whole.Sets.{member, stores}
+use Rattle.rules.specs.Limits.{longestChain}
 use Rattle.rules.specs.Faults.Whole.{mainName}
 use Rattle.rules.specs.Answers.{Verdict, accepted as passes, refused as fails}
 use Rattle.laws.specs.Answers.{descriptionOf, check}

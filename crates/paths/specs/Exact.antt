@@ -13,7 +13,8 @@ use Rattle.rules.specs.Steps.Actions.{Access, Act, seq, par, label, ins, Ins, i
 use Rattle.rules.specs.Steps.Control.{Live, one, seqL, both, left, right, labL, loopL, callL, start, workI}
 use Rattle.rules.specs.Steps.Control.{Sig, ends, goes, leaves, restarts, stops, faults, lost, nextI}
 use Rattle.rules.specs.Steps.Runs.{bodyAct}
-use Rattle.rules.specs.Whole.Sets.{longestChain, member, stores}
+use Rattle.rules.specs.Whole.Sets.{member, stores}
+use Rattle.rules.specs.Limits.{longestChain}
 use Rattle.rules.specs.Faults.Whole.{mainName}
 use Rattle.laws.specs.Orders.Tests.{or-either, member-either}
 use Rattle.laws.specs.Accepted.Named.{and-both, same-equal, same-itself}

@@ -12,7 +12,7 @@ use Rattle.rules.specs.Steps.Evaluation.{Carriers}
 use Rattle.rules.specs.Steps.Control.{Live, Mv, work}
 use Rattle.rules.specs.Steps.Runs.{running, Steps, step, begin}
 use Rattle.rules.specs.Whole.Sets.{member}
-use Rattle.rules.specs.Whole.Orderly.{Orderly}
+use Rattle.laws.specs.Orders.Orderly.{Orderly}
 use Rattle.rules.specs.Faults.Whole.{mainName}
 use Rattle.rules.specs.Answers.{Checks, accepted as passes}
 use Rattle.laws.specs.Orders.Owners.{ownerAt}

@@ -7,7 +7,7 @@ use native.Mathlib.Omega.{arith}
 use Rattle.rules.specs.Text.Scan.{scan}
 use Rattle.rules.specs.Grammar.Trees.{Description, flatten}
 use Rattle.rules.specs.Declarations.{declarations}
-use Rattle.rules.specs.Whole.Orderly.{Orderly}
+use Rattle.laws.specs.Orders.Orderly.{Orderly}
 use Rattle.rules.specs.Answers.{Verdict, Checks, accepted as passes, refused as fails}
 use Rattle.laws.specs.Grammar.Exact.{unique}
 use Rattle.laws.specs.Answers.{descriptionOf, description-of, check, checked, one-verdict, accepted-iff-lawful}

@@ -9,10 +9,9 @@ use lib.ListN.{length, getElem?}
 use Rattle.cells.specs.Cells.{cell}
 use Rattle.rules.specs.Text.Tokens.{Info}
 use Rattle.rules.specs.Grammar.Trees.{Bits, all-bits, bits}
-use Rattle.rules.specs.Values.{mostBits}
 use Rattle.rules.specs.Declarations.{Names as Span-of, BitNames, bitCount, lowBit, howMany, namesOf, mainNames, Target, Declared, Table, declaredOf, numberOf, firstWord}
 use Rattle.rules.specs.Declarations.{Reach, reachStorage, reachOn, reachUnder, reachOf, reachNumber, accessLow, accessBits}
-use Rattle.rules.specs.Faults.Declared.{mostWords}
+use Rattle.rules.specs.Limits.{mostWords, mostBits}
 use Rattle.laws.specs.Orders.Tests.{impossible}
 use Rattle.table.specs.Bits.{accessBits as written-bits}
 use Rattle.table.specs.Shown.{shownWords, shownBits, shownTarget}

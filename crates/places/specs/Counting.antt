@@ -12,7 +12,7 @@ use Rattle.cells.specs.Cells.{leAt, cell, putCell}
 use Rattle.cells.specs.Laws.{length-put, le-put-same, le-put-below}
 use Rattle.rules.specs.Grammar.Trees.{Tokens}
 use Rattle.rules.specs.Declarations.{Names as Span-of, names, howMany, BitNames, one-unnamed, these, Target, Declared, Table, declaredOf, storageWords, wordsOf, totalWords, firstWord}
-use Rattle.rules.specs.Faults.Declared.{mostWords}
+use Rattle.rules.specs.Limits.{mostWords}
 use Rattle.laws.specs.Orders.Tests.{impossible}
 use Rattle.laws.specs.Accepted.Declared.{few-words}
 use Rattle.table.specs.Shown.{shownWords, shownBits}

@@ -12,9 +12,8 @@ use Rattle.cells.specs.Laws.{length-put, le-put-same, le-put-below, le-put-abov
 use Rattle.rules.specs.Text.Tokens.{Name, Const, Masked, LBra, kindAt, kindNo, Info, Token, tk}
 use Rattle.rules.specs.Grammar.Trees.{Tokens, bit, upto, Bits, all-bits, bits, bitsTokens, Subscript, no-subscript, subscript, subscriptTokens, Description, flatten}
 use Rattle.rules.specs.Grammar.Precedence.{indexOf}
-use Rattle.rules.specs.Values.{mostBits}
 use Rattle.rules.specs.Declarations.{Name as Word, Names as Span-of, Table, declarations, outerName, numberOf, Target, Declared, firstWord, mainNames, Reach, reach, reachNumber}
-use Rattle.rules.specs.Faults.Declared.{mostWords, largestName}
+use Rattle.rules.specs.Limits.{mostWords, largestName, mostBits}
 use Rattle.rules.specs.Faults.Bodies.{judgeAccess}
 use Rattle.laws.specs.Grammar.Kinds.{kindAt-kindNo}
 use Rattle.laws.specs.Orders.Tests.{impossible}

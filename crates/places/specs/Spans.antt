@@ -7,7 +7,7 @@ use mathlib.Core.Option.{some}
 use native.Mathlib.Omega.{arith}
 use borrow.Author.Tests.{le-leb, lt-leb}
 use Rattle.rules.specs.Declarations.{names, howMany, fromRight, BitNames, one-unnamed, these, bitCount, lowBit, Names as Span-of}
-use Rattle.rules.specs.Faults.Declared.{mostWords}
+use Rattle.rules.specs.Limits.{mostWords}
 use Rattle.table.specs.Shown.{shownBits}
 use Rattle.table.specs.declared.views.Names.{Names}
 use Rattle.table.specs.declared.views.Names.the-variants.{Missing, Unnamed, Span}

@@ -10,7 +10,7 @@ ghost use mathlib.Core.Path.{_≡_};
 ghost use Prim.Native.Nat.{_*_, _≤_};
 ghost use lib.ListN.{length};
 ghost use Rattle.rules.specs.Declarations.{declaredOf, wordsOf};
-ghost use Rattle.rules.specs.Faults.Declared.{mostWords};
+ghost use Rattle.rules.specs.Limits.{mostWords};
 ghost use Rattle.table.specs.Views.{View};
 ghost use Rattle.places.specs.Scene.{Scene, tableOf};
 ghost use Rattle.places.specs.Bases.{FirstsHold};

@@ -5,7 +5,7 @@ ghost use mathlib.Core.Option.{some};
 ghost use Prim.Native.Nat.{_+_, _<_, _≤_};
 ghost use Rattle.rules.specs.Declarations as rules;
 ghost use Rattle.rules.specs.Declarations.{names, howMany, fromRight, BitNames, bitCount, lowBit};
-ghost use Rattle.rules.specs.Faults.Declared.{mostWords};
+ghost use Rattle.rules.specs.Limits.{mostWords};
 ghost use Rattle.table.specs.Shown.{shownBits};
 ghost use Rattle.places.specs.Spans.{ManyIn, LowIn};
 

@@ -9,10 +9,9 @@ use Rattle.rules.specs.Text.Tokens.{Name, Const, Masked, LPar, LBra, Less, Comm
 use Rattle.rules.specs.Text.Tokens.{Kind, kindNo, Info, Token, tk, Op, opKind}
 use Rattle.rules.specs.Grammar.Trees.{Tokens, Bits, bitsTokens, Subscript, subscriptTokens, Joined, joinedTokens, Operand, operandTokens, Tail, tailTokens, Selector, selectorTokens}
 use Rattle.rules.specs.Grammar.Precedence.{Expr, exprOf}
-use Rattle.rules.specs.Grammar.Verdict.{deepest}
 use Rattle.rules.specs.Selectors.{Case, numbered, listed, otherwise, selectorItems}
 use Rattle.rules.specs.Declarations.{Name as Word, Table}
-use Rattle.rules.specs.Faults.Declared.{mostDeclarations}
+use Rattle.rules.specs.Limits.{mostDeclarations, deepest}
 use Rattle.rules.specs.Steps.Actions.{Access, access, joinedAccesses}
 use Rattle.rules.specs.Faults.Bodies.{judge, judgeDestination, judgeJoined}
 use Rattle.laws.specs.Grammar.Nesting.{operandNest, tailNest, subscriptNest, joinedNest}

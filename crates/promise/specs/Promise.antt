@@ -9,8 +9,8 @@ use Rattle.rules.specs.Text.Tokens.{Const}
 use Rattle.rules.specs.Grammar.Trees.{Tokens}
 use Rattle.rules.specs.Declarations.{Name as Word, Table, totalWords}
 use Rattle.rules.specs.Steps.Runs.{bodyAct}
-use Rattle.rules.specs.Whole.Sets.{longestChain, chainOver}
-use Rattle.rules.specs.Faults.Declared.{mostDeclarations, mostWords}
+use Rattle.rules.specs.Whole.Sets.{chainOver}
+use Rattle.rules.specs.Limits.{mostDeclarations, mostWords, longestChain}
 use Rattle.laws.specs.Accepted.Declared.{Declares}
 use Rattle.laws.specs.Orders.Flat.{Code, HoldsBodies}
 use Rattle.table.specs.Holds.{Holds, tokenAt}

@@ -10,7 +10,8 @@ use Rattle.rules.specs.Text.Scan.{scan}
 use Rattle.rules.specs.Grammar.Trees.{Tokens, Declaration, Description}
 use Rattle.rules.specs.Declarations.{Table, declaredOf, declarations, outerName, totalWords}
 use Rattle.rules.specs.Faults.Fault.{Fault, fault, byPlace, byNumber, least}
-use Rattle.rules.specs.Faults.Declared.{faults30, mostDeclarations, mostWords}
+use Rattle.rules.specs.Faults.Declared.{faults30}
+use Rattle.rules.specs.Limits.{mostDeclarations, mostWords}
 use Rattle.rules.specs.Faults.Bodies.{faults40}
 use Rattle.rules.specs.Faults.Whole.{faults50}
 use Rattle.rules.specs.Answers.{Verdict as Answer, accepted, refused, orElse, judgement, Checks}

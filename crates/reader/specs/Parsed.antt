@@ -8,9 +8,11 @@ use borrow.Author.Tests.{ltb-true, ltb-false}
 use lib.Dec.{ltb}
 use lib.ListN.{length, getD}
 use Rattle.rules.specs.Text.Tokens.{Name, tk}
-use Rattle.rules.specs.Text.Scan.{longestText, scan, Scan, End, fine, refuse, plainInfo}
+use Rattle.rules.specs.Text.Scan.{scan, Scan, End, fine, refuse, plainInfo}
 use Rattle.rules.specs.Grammar.Trees.{Tokens, Description, flatten}
-use Rattle.rules.specs.Grammar.Verdict.{Answer, accepted, refused20, refused21, Crowded, Accepted, Right, blank, deepest}
+use Rattle.rules.specs.Grammar.Verdict.{Crowded, Accepted, blank}
+use Rattle.laws.specs.Grammar.Answer.{Answer, accepted, refused20, refused21, Right}
+use Rattle.rules.specs.Limits.{deepest, longestText}
 use Rattle.rules.specs.Answers.{Verdict, refused, placeOf, Checks, unreadable, no-description, too-deep}
 use Rattle.laws.specs.Grammar.Rows.{recognise}
 use Rattle.laws.specs.Grammar.Exact.{right}

@@ -15,7 +15,8 @@ use Rattle.rules.specs.Text.Bytes.{Class, classOf, run, fold, inName, inConstan
 use Rattle.rules.specs.Text.Bytes.{forbidden, blank, exclamation, letter, digit, dot, prefix, query, mark, other}
 use Rattle.rules.specs.Text.Tokens.{Kind, kindNo, Name, Const, Masked, Info, Token, tk, Spelling, keywords, marks}
 use Rattle.rules.specs.Text.Constants.{Constant, malformed, constant, decimal, decimalBits, based, all, any, isQuery, isDigitOf, isBasedDigit, valueFrom, freeFrom, digitBits, bitsFrom}
-use Rattle.rules.specs.Text.Scan.{Lexeme, nothing, token, refused, sameBytes, wordKind, wordLexeme, wordInfo, constantLexeme, constantInfo, maskedKind, markAt, markLexeme, lexemeBy, lexeme, scanFrom, scan, mostTokens}
+use Rattle.rules.specs.Text.Scan.{Lexeme, nothing, token, refused, sameBytes, wordKind, wordLexeme, wordInfo, constantLexeme, constantInfo, maskedKind, markAt, markLexeme, lexemeBy, lexeme, scanFrom, scan}
+use Rattle.rules.specs.Limits.{mostTokens}
 use Rattle.text.specs.Runs.{length-run, take-run, and-left, and-right}
 use Rattle.text.specs.Constants.{bits-some}
 use Rattle.text.specs.Bounds.{pow-times, value-below, sum-below}

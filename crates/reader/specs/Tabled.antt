@@ -14,7 +14,8 @@ use Rattle.cells.specs.Cells.{leAt, putAt, putCell, cells}
 use Rattle.cells.specs.Laws.{length-put, getD-put-below, cells-get}
 use Rattle.laws.specs.Grammar.Kinds.{kindAt-kindNo}
 use Rattle.rules.specs.Text.Tokens.{Kind, kindNo, kindAt, Name, Const, Masked, Token, tk}
-use Rattle.rules.specs.Text.Scan.{scan, longestText, plainInfo}
+use Rattle.rules.specs.Text.Scan.{scan, plainInfo}
+use Rattle.rules.specs.Limits.{longestText}
 use Rattle.text.specs.Table.{recordOf, recordCells, valueBy, valueOf, valueCells, writeCells}
 use Rattle.text.specs.Writes.{length-written, before-written}
 use Rattle.text.specs.Laws.{Stands, few-tokens, token-stands, places-rise, values-held, length-values}

@@ -5,7 +5,7 @@ use declare::Declared;
 use declare::declare;
 ghost use Prim.Native.Nat.{_*_, _≤_};
 ghost use lib.ListN.{length};
-ghost use Rattle.rules.specs.Text.Scan.{longestText, mostTokens};
+ghost use Rattle.rules.specs.Limits.{longestText, mostTokens};
 ghost use Rattle.reader.specs.Parsed.{Stands};
 ghost use Rattle.reader.specs.Read.{Reads};
 

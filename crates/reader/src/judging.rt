@@ -6,7 +6,7 @@ use declare::counting::words;
 use whole::fault50;
 ghost use Prim.Native.Nat.{_≤_};
 ghost use lib.ListN.{length};
-ghost use Rattle.rules.specs.Faults.Declared.{mostDeclarations};
+ghost use Rattle.rules.specs.Limits.{mostDeclarations};
 ghost use Rattle.reader.specs.Copied.{Copied};
 ghost use Rattle.reader.specs.Read.{Declares};
 ghost use Rattle.reader.specs.Judged.{Judges, Lawful};

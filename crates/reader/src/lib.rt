@@ -9,7 +9,7 @@ use crate::judging::Verdict;
 use crate::judging::judge;
 ghost use Prim.Native.Nat.{_≤_};
 ghost use lib.ListN.{length};
-ghost use Rattle.rules.specs.Text.Scan.{longestText};
+ghost use Rattle.rules.specs.Limits.{longestText};
 ghost use Rattle.reader.specs.Judged.{Judges};
 
 // Reads a text and judges all of it: refusals 10 to 53. An accepted text stands in the table with its names resolved.

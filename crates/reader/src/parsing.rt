@@ -5,7 +5,7 @@ use text::Scanned;
 ghost use mathlib.Core.Path.{_≡_};
 ghost use Prim.Native.Nat.{_*_, _<_, _≤_};
 ghost use lib.ListN.{length};
-ghost use Rattle.rules.specs.Text.Scan.{longestText};
+ghost use Rattle.rules.specs.Limits.{longestText};
 ghost use Rattle.table.specs.Holds.{placeCell};
 ghost use Rattle.reader.specs.Parsed.{placeBy, Scans, Parses};
 

@@ -9,7 +9,8 @@ use lib.Dec.{leb, eqb}
 use lib.ListN.{length, getD, drop, replicate}
 use mathlib.Core.List.{_++_}
 use Rattle.rules.specs.Text.Tokens.{Token, tk}
-use Rattle.rules.specs.Text.Scan.{longestText, scan, End, fine, refuse}
+use Rattle.rules.specs.Text.Scan.{scan, End, fine, refuse}
+use Rattle.rules.specs.Limits.{longestText}
 use Rattle.rules.specs.Grammar.Trees.{Tokens, Description, flatten}
 use Rattle.rules.specs.Grammar.Verdict.{Crowded, Refused20, Refused21}
 use Rattle.rules.specs.Declarations.{Name, Declared, Table, BitNames, bitCount, declarations, outerName, totalWords, wordsOf}
@@ -54,6 +55,15 @@ pub data Checks (text : List ℕ) : Verdict → Type 0 where
       → Checks text (refused 21 (placeOf text (scan text .tokens) k))
   judged : (d : Description) → length text ≤ longestText → scan text .end ≡ fine → flatten d ≡ scan text .tokens
       → ((j : ℕ) → ¬ Crowded (flatten d) j) → Checks text (judgement d)
+
+-- a text that the rules allow: a description without faults stands in it, of n declarations and w words
+pub record Lawful (text : List ℕ) (n w : ℕ) : Type 0 where
+  pub description : Description
+  pub short : length text ≤ longestText
+  pub readable : scan text .end ≡ fine
+  pub stands : flatten description ≡ scan text .tokens
+  pub shallow : (j : ℕ) → ¬ Crowded (flatten description) j
+  pub faultless : judgement description ≡ accepted n w
 
 -- "Words lie in declaration order, left name first, 8 bytes each, little-endian": n words of a byte buffer, and back
 unfoldable pub littleEndian : ℕ → List ℕ → ℕ
@@ -108,10 +118,6 @@ runOn ds buffer budget =
       | true ↦ let ws = wordsFrom (totalWords ds) buffer in
           startOr61 (longWord 0 (wordLengths ds) ws) (resultOf (run ds (mainName ds) budget ws))
     ]
-
-abbrev pub runUnless : Verdict → Result → Result
-runUnless (refused m p) r = refusal m p
-runUnless (accepted n w) r = r
 
 -- what Run may answer to a text, a carrier buffer and a budget
 pub data Runs (text buffer : List ℕ) (budget : ℕ) : Result → Type 0 where

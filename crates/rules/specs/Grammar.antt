@@ -1,4 +1,3 @@
 pub mod Trees
 pub mod Verdict
-pub mod Groups
 pub mod Precedence

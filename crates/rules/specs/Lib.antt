@@ -1,3 +1,4 @@
+pub mod Limits
 pub mod Text
 pub mod Grammar
 pub mod Values
@@ -8,4 +9,5 @@ pub mod Whole
 pub mod Faults
 pub mod Answers
 pub mod Calls
+pub mod Agreement
 pub mod Examples

@@ -4,6 +4,7 @@ use Prim.Native.Nat.{ℕ, zero, suc, _+_, _/_, _%_, max}
 use mathlib.Core.Bool.{Bool, true, false, _&&_, _||_}
 use mathlib.Core.List.{List, [], _∷_}
 use lib.Dec.{leb, ltb, eqb}
+use Rattle.rules.specs.Limits.{mostBits}
 use Rattle.rules.specs.Text.Tokens.{Info}
 use Rattle.rules.specs.Grammar.Trees.{Literal, exact, masked, Range, single, to, Items, close, item, Selector, one-of, any-of}
 
@@ -33,7 +34,7 @@ agree zero v f x = true
 agree (suc n) v f x = (eqb (f % 2) 1 || eqb (v % 2) (x % 2)) && agree n (v / 2) (f / 2) (x / 2)
 
 unfoldable pub matches : Item → ℕ → Bool
-matches (pattern v f) x = agree 64 v f x
+matches (pattern v f) x = agree mostBits v f x
 matches (between l h) x = leb l x && leb x h
 
 -- the highest value that an item matches

@@ -2,3 +2,4 @@ pub mod Actions
 pub mod Evaluation
 pub mod Control
 pub mod Runs
+pub mod Orders

@@ -6,10 +6,6 @@ use mathlib.Core.List.{List, [], _∷_}
 use lib.Dec.{leb, ltb, eqb}
 use Rattle.rules.specs.Text.Tokens.{Op, join, plus, minus, eql, neq, lss, leq, gtr, geq, and, eqv, or, xor}
 
--- the longest value
-abbrev pub mostBits : ℕ
-mostBits = 64
-
 pub record Value : Type 0 where
   pub bits : ℕ
   pub number : ℕ

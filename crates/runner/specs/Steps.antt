@@ -15,7 +15,7 @@ use Rattle.rules.specs.Grammar.Precedence.{Expr}
 use Rattle.rules.specs.Selectors.{takes}
 use Rattle.rules.specs.Values.{value}
 use Rattle.rules.specs.Declarations.{totalWords}
-use Rattle.rules.specs.Faults.Declared.{mostDeclarations}
+use Rattle.rules.specs.Limits.{mostDeclarations}
 use Rattle.rules.specs.Steps.Actions.{Access}
 use Rattle.rules.specs.Steps.Evaluation.{Carriers}
 use Rattle.rules.specs.Steps.Runs.{moved, tested, perform}

@@ -12,7 +12,7 @@ use starts::start;
 ghost use mathlib.Core.List.{List};
 ghost use Prim.Native.Nat.{ℕ, _≤_};
 ghost use lib.ListN.{length};
-ghost use Rattle.rules.specs.Text.Scan.{longestText};
+ghost use Rattle.rules.specs.Limits.{longestText};
 ghost use Rattle.starts.specs.Starts.{Begins};
 ghost use Rattle.reader.specs.Judged.{Accepts, table-by};
 ghost use Rattle.running.specs.Prepared.{Prepared};

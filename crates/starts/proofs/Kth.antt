@@ -10,7 +10,7 @@ use borrow.Author.Tests.{ltb-false}
 use lib.Dec.{ltb}
 use lib.ListN.{length, drop, getElem?}
 use Rattle.cells.specs.Cells.{cell}
-use Rattle.rules.specs.Values.{mostBits}
+use Rattle.rules.specs.Limits.{mostBits}
 use Rattle.rules.specs.Grammar.Trees.{Tokens, Declaration, Description}
 use Rattle.rules.specs.Declarations.{names, howMany, declaredOf, Table, declarations, outerName}
 use Rattle.rules.specs.Faults.Declared.{farNames, largeBits, largeWords}

@@ -10,7 +10,7 @@ use lib.ListN.{length, drop, drop-of-length-le, length-map}
 use Rattle.cells.specs.Cells.{cell}
 use Rattle.rules.specs.Grammar.Trees.{Tokens, Description}
 use Rattle.rules.specs.Declarations.{declaredOf, wordsOf, Table, declarations, outerName, totalWords}
-use Rattle.rules.specs.Faults.Declared.{mostWords}
+use Rattle.rules.specs.Limits.{mostWords}
 use Rattle.rules.specs.Answers.{wordLengths, longWord}
 use Rattle.table.specs.Declarations.{declarationList, all-declared}
 use Rattle.table.specs.Shown.{shownBits}

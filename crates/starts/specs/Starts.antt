@@ -5,7 +5,7 @@ use mathlib.Core.List.{List}
 use lib.ListN.{length}
 use Rattle.rules.specs.Declarations.{Table, totalWords}
 use Rattle.rules.specs.Steps.Runs.{run}
-use Rattle.rules.specs.Faults.Declared.{mostWords}
+use Rattle.rules.specs.Limits.{mostWords}
 use Rattle.rules.specs.Faults.Whole.{mainName}
 use Rattle.rules.specs.Answers.{refusal, resultOf, wordsFrom, runOn}
 use Rattle.starts.specs.declared.Started.{Started}

@@ -7,7 +7,8 @@ use lib.ListN.{length, getD, take, drop}
 use Rattle.cells.specs.Cells.{leAt}
 use Rattle.rules.specs.Text.Bytes.{fold}
 use Rattle.rules.specs.Text.Tokens.{Name, Const, Masked, kindNo, Info, Token, tk}
-use Rattle.rules.specs.Text.Scan.{plainInfo, longestText, mostTokens}
+use Rattle.rules.specs.Text.Scan.{plainInfo}
+use Rattle.rules.specs.Limits.{longestText, mostTokens}
 use Rattle.rules.specs.Grammar.Trees.{Tokens}
 
 abbrev pub kindByte : List ℕ → ℕ → ℕ

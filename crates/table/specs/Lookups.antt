@@ -9,7 +9,8 @@ use native.Mathlib.Omega.{arith}
 use lib.ListN.{length, drop, drop-of-length-le, getElem?}
 use Rattle.cells.specs.Cells.{cell}
 use Rattle.rules.specs.Text.Tokens.{Name, Token, tk}
-use Rattle.rules.specs.Text.Scan.{sameBytes, mostTokens}
+use Rattle.rules.specs.Text.Scan.{sameBytes}
+use Rattle.rules.specs.Limits.{mostTokens}
 use Rattle.rules.specs.Grammar.Trees.{Tokens, Declaration}
 use Rattle.rules.specs.Declarations.{declaredOf, numberFrom, numberOf}
 use Rattle.table.specs.Holds.{tokenAt, Holds}

@@ -4,9 +4,9 @@ use mathlib.Core.Path.{_≡_}
 use mathlib.Core.List.{List, []}
 use lib.ListN.{length}
 use Rattle.rules.specs.Grammar.Trees.{Tokens, Description, flatten}
-use Rattle.rules.specs.Grammar.Verdict.{deepest}
 use Rattle.rules.specs.Declarations.{declarations, outerName}
-use Rattle.rules.specs.Faults.Declared.{faults30, mostDeclarations}
+use Rattle.rules.specs.Faults.Declared.{faults30}
+use Rattle.rules.specs.Limits.{mostDeclarations, deepest}
 use Rattle.laws.specs.Grammar.Nesting.{nest}
 use Rattle.table.specs.Holds.{Holds}
 use Rattle.table.specs.Declarations.{declarationList}

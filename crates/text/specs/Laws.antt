@@ -9,7 +9,8 @@ use lib.Dec.{eqb, ltb}
 use lib.ListN.{length, length-map, getD}
 use Rattle.cells.specs.Cells.{cells}
 use Rattle.rules.specs.Text.Tokens.{Token, kindNo}
-use Rattle.rules.specs.Text.Scan.{longestText, Scan, End, fine, refuse, ended, after, scanFrom, scan, Lexeme, lexeme, nothing, token, refused, mostTokens}
+use Rattle.rules.specs.Text.Scan.{Scan, End, fine, refuse, ended, after, scanFrom, scan, Lexeme, lexeme, nothing, token, refused}
+use Rattle.rules.specs.Limits.{longestText, mostTokens}
 use Rattle.text.specs.Lexemes.{sizeOf}
 use Rattle.text.specs.Sound.{Sound, Placed, lexeme-sound}
 use Rattle.text.specs.Table.{recordOf, recordCells, valueBy, valueCells, writeCells}

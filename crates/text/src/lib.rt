@@ -13,7 +13,8 @@ ghost use mathlib.Core.Path.{_≡_};
 ghost use Prim.Native.Nat.{_+_, _*_, _≤_};
 ghost use lib.ListN.{length};
 ghost use Rattle.cells.specs.Cells.{putCell};
-ghost use Rattle.rules.specs.Text.Scan.{longestText, scan as scanText};
+ghost use Rattle.rules.specs.Text.Scan.{scan as scanText};
+ghost use Rattle.rules.specs.Limits.{longestText};
 ghost use Rattle.text.specs.Table.{valueBy, pack, recordCells, valueCells, writeCells, scannedOf};
 
 // The number of tokens; or a refusal's number and place.

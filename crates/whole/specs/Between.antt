@@ -8,7 +8,7 @@ use native.Mathlib.Omega.{arith}
 use lib.ListN.{length, drop, getElem?}
 use Rattle.cells.specs.Cells.{cell}
 use Rattle.rules.specs.Text.Tokens.{Info, Token, tk, MAIN}
-use Rattle.rules.specs.Text.Scan.{longestText}
+use Rattle.rules.specs.Limits.{longestText}
 use Rattle.rules.specs.Grammar.Trees.{Tokens, bit, upto, OwnBits, unnamed, named, ownBitsTokens, MainBits, bitless, main-bits, mainBitsTokens}
 use Rattle.rules.specs.Grammar.Trees.{Declaration, plain, main, words, with-bits, bare-body, carrier, given, body, mapped, declarationsTokens}
 use Rattle.rules.specs.Grammar.Trees.{Action, block, labelled, if-then, decode, repeat, leave, restart, activate, stop, no-op, transfer, actionTokens, Members, end, also, next, membersTokens}

@@ -12,7 +12,8 @@ use Rattle.cells.specs.Cells.{cell}
 use Rattle.rules.specs.Text.Tokens.{Name, Token, tk, kindNo}
 use Rattle.rules.specs.Declarations.{Name as Word, declaredOf, numberOf, bodyNumber, bodyOf}
 use Rattle.rules.specs.Steps.Runs.{bodyAct, actOr}
-use Rattle.rules.specs.Whole.Sets.{Sets, longestChain, setsOf, bodySets, stopsIn, bodyStops, callsIn, anyName, chainOver, member}
+use Rattle.rules.specs.Whole.Sets.{Sets, setsOf, bodySets, stopsIn, bodyStops, callsIn, anyName, chainOver, member}
+use Rattle.rules.specs.Limits.{longestChain}
 use Rattle.table.specs.Holds.{kindByte, tokenAt}
 use Rattle.table.specs.Words.{wordAt}
 use Rattle.table.specs.Meaning.{meaningCell}

@@ -10,7 +10,8 @@ use lib.ListN.{drop}
 use Rattle.rules.specs.Text.Tokens.{Token}
 use Rattle.rules.specs.Declarations.{Name as Word, Table}
 use Rattle.rules.specs.Grammar.Trees.{Tokens}
-use Rattle.rules.specs.Whole.Sets.{Sets, sets, union, longestChain, bodySets, member, meet, race}
+use Rattle.rules.specs.Whole.Sets.{Sets, sets, union, bodySets, member, meet, race}
+use Rattle.rules.specs.Limits.{longestChain}
 use Rattle.rules.specs.Faults.Fault.{fault, when}
 use Rattle.table.specs.Holds.{placeCell, tokenAt}
 use Rattle.table.specs.Keys.{noKey, numberKey, leastNumberKey, least-append, least-bounded, least-none}

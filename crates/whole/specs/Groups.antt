@@ -10,7 +10,8 @@ use Rattle.rules.specs.Grammar.Trees.{Action, block, labelled, if-then, decode,
 use Rattle.rules.specs.Grammar.Trees.{Alternatives, counted, selected, alternativesTokens, Counted, counted-end, counted-more, countedTokens, Selected, select, otherwise, selectedTokens, SelectedMore, selected-end, selected-more, selectedMoreTokens}
 use Rattle.rules.specs.Declarations.{Table}
 use Rattle.rules.specs.Steps.Actions.{actOf}
-use Rattle.rules.specs.Whole.Sets.{longestChain, Sets, sets, union, race, bodySets, touched, bodyStops, mayStop, member}
+use Rattle.rules.specs.Whole.Sets.{Sets, sets, union, race, bodySets, touched, bodyStops, mayStop, member}
+use Rattle.rules.specs.Limits.{longestChain}
 use Rattle.rules.specs.Faults.Fault.{Fault, when}
 use Rattle.rules.specs.Faults.Bodies.{firstPlace}
 use Rattle.rules.specs.Faults.Whole.{hasMore, memberFaults}

@@ -15,7 +15,8 @@ use Rattle.rules.specs.Text.Scan.{sameBytes}
 use Rattle.rules.specs.Grammar.Trees.{Action}
 use Rattle.rules.specs.Declarations.{Name as Word, Declared, Table, declaredOf, numberFrom, numberOf, bodyNumber, bodyOf, outerName}
 use Rattle.rules.specs.Steps.Runs.{bodyAct, actOr}
-use Rattle.rules.specs.Whole.Sets.{callsIn, anyName, chainOver, longestChain}
+use Rattle.rules.specs.Whole.Sets.{callsIn, anyName, chainOver}
+use Rattle.rules.specs.Limits.{longestChain}
 use Rattle.rules.specs.Faults.Fault.{Fault, fault, when}
 use Rattle.rules.specs.Faults.Declared.{isKnown, twice, faults30}
 use Rattle.rules.specs.Faults.Whole.{beginsChain, chains}

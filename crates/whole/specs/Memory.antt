@@ -12,7 +12,8 @@ use lib.ListN.{length, getD}
 use Rattle.cells.specs.Cells.{cell, putCell}
 use Rattle.cells.specs.Laws.{le-put-same, le-put-below, le-put-above}
 use Rattle.rules.specs.Declarations.{Name as Word, numberOf}
-use Rattle.rules.specs.Whole.Sets.{Sets, longestChain, bodySets, bodyStops, member}
+use Rattle.rules.specs.Whole.Sets.{Sets, bodySets, bodyStops, member}
+use Rattle.rules.specs.Limits.{longestChain}
 use Rattle.whole.specs.Reading.{Reading, tableOf}
 use Rattle.whole.specs.Bits.{holds, same-words}
 

@@ -10,7 +10,8 @@ use lib.Dec.{eqb}
 use lib.ListN.{drop}
 use Rattle.rules.specs.Declarations.{Name as Word, bodyNumber, bodyOf}
 use Rattle.rules.specs.Steps.Runs.{bodyAct, actOr}
-use Rattle.rules.specs.Whole.Sets.{Sets, longestChain, owner, setsOf, bodySets, stopsIn, bodyStops, member}
+use Rattle.rules.specs.Whole.Sets.{Sets, owner, setsOf, bodySets, stopsIn, bodyStops, member}
+use Rattle.rules.specs.Limits.{longestChain}
 use Rattle.table.specs.Holds.{kindByte, tokenAt}
 use Rattle.table.specs.Words.{wordAt}
 use Rattle.table.specs.Meaning.{meaningCell}

@@ -11,7 +11,8 @@ use lib.Seq.{take-at, length-take-le, length-front}
 use Rattle.rules.specs.Grammar.Trees.{Action}
 use Rattle.rules.specs.Declarations.{Name, Table, bodyOf}
 use Rattle.rules.specs.Steps.Runs.{bodyAct}
-use Rattle.rules.specs.Whole.Sets.{longestChain, anyName, callsIn, chainOver}
+use Rattle.rules.specs.Whole.Sets.{anyName, callsIn, chainOver}
+use Rattle.rules.specs.Limits.{longestChain}
 use Rattle.rules.specs.Faults.Fault.{when}
 use Rattle.rules.specs.Faults.Whole.{mains, beginsChain, chains, groupsFaults, faults50}
 use Rattle.table.specs.Keys.{noKey, numberKey, leastNumberKey, least-append, least-bounded, by-number, no-fault}

@@ -7,6 +7,7 @@ use mathlib.Core.List.{List, [], _∷_, _++_}
 use lib.Dec.{T, eqb}
 use lib.ListN.{getD, replicate}
 use Rattle.rules.specs.Text.Bytes.{bytes}
+use Rattle.worked.specs.Edges.{Text, refusesBytes, acceptsBytes, times, carriers, chain, edges}
 use Rattle.rules.specs.Steps.Runs.{Ending, done, halted, paused, faulted}
 use Rattle.rules.specs.Answers.{Verdict, accepted, refused, Result, refusal, ended}
 use Rattle.rules.specs.Answers.{judgement, placeOf, littleEndian, wordsFrom, bytesOf, bufferOf, wordLengths, longWord, runOn}
@@ -22,7 +23,6 @@ use Rattle.rules.specs.Faults.Declared.{isKnown, twice, large, tooMany, among, 
 use Rattle.rules.specs.Faults.Fault.{leastFrom, least}
 use Rattle.rules.specs.Faults.Whole.{mains, mainName, chains, racesAny, groupFaults, membersOf, alternativesGroups, countedGroups, selectedGroups}
 use Rattle.rules.specs.Faults.Whole.{moreGroups, groupsFaults, faults50}
-use Rattle.rules.specs.Grammar.Groups.{also-before, groupsOf}
 use Rattle.rules.specs.Grammar.Precedence.{insert-by, insert, inserts, arrange, factorOf, linksOf, indexOf, exprOf}
 use Rattle.rules.specs.Grammar.Verdict.{opens, closes, counted-by, count, opened}
 use Rattle.rules.specs.Selectors.{itemOf, agree, matches, highest, itemsOf, selectorItems, anyMatches, takes}
@@ -38,13 +38,13 @@ use Rattle.rules.specs.Text.Scan.{sameBytes, wordKind, markAt, wordLexeme, cons
 use Rattle.rules.specs.Values.{opBits, bitwise, opNumber, operate, notNumber, inverse, field, withField, total, cut}
 use Rattle.rules.specs.Whole.Sets.{owner, readsOf, factorReads, indexReads, subscriptReads, stores, setsOf, setsI, setsAlts, bodySets, touched}
 use Rattle.rules.specs.Whole.Sets.{member, meet, race, stopsIn, stopsI, stopsAlts, bodyStops, mayStop, callsIn, callsI, callsAlts, anyName}
-use Rattle.rules.specs.Whole.Sets.{chainOver, without, jumpsOut, jumpsI, jumpsAlts}
+use Rattle.rules.specs.Whole.Sets.{chainOver}
 use Rattle.laws.specs.Answers.{descriptionOf, check, runs}
 use Rattle.laws.specs.Grammar.Rows.{lookup, too-deep, judge as judge-Rows, run as run-Rows, recognise}
 use Rattle.laws.specs.Grammar.Reading.{find, split, put, act, read}
 use native.Mathlib.Decide.{decLt}
 
--- a verdict, and a result without its carriers, as numbers to compare
+-- a verdict, and a result  its carriers, as numbers to compare
 abbrev pub shortVerdict : Verdict → List ℕ
 shortVerdict (accepted n w) = 0 ∷ n ∷ w ∷ []
 shortVerdict (refused m p) = 4 ∷ m ∷ p ∷ []
@@ -56,11 +56,7 @@ shortResult (ended halted n b) = 1 ∷ n ∷ []
 shortResult (ended paused n b) = 2 ∷ n ∷ []
 shortResult (ended (faulted m p) n b) = 3 ∷ m ∷ p ∷ n ∷ []
 
--- a text with the numbers of its answer: of Check; of Run from so many bytes of zero, with a budget
-pub record Text : Type 0 where
-  pub text : String
-  pub numbers : List ℕ
-
+-- a text with the numbers of Run's answer, from so many bytes of zero and with a budget
 pub record Start : Type 0 where
   pub text : String
   pub zeros : ℕ
@@ -68,10 +64,10 @@ pub record Start : Type 0 where
   pub numbers : List ℕ
 
 abbrev refuses : String → ℕ → ℕ → Text
-refuses t m p = record { text = t; numbers = 4 ∷ m ∷ p ∷ [] }
+refuses t m p = refusesBytes (bytes t) m p
 
 abbrev accepts : String → ℕ → ℕ → Text
-accepts t n w = record { text = t; numbers = 0 ∷ n ∷ w ∷ [] }
+accepts t n w = acceptsBytes (bytes t) n w
 
 abbrev starts : String → ℕ → ℕ → List ℕ → Start
 starts t z b ns = record { text = t; zeros = z; budget = b; numbers = ns }
@@ -133,29 +129,29 @@ beginnings =
 
 unfoldable pub checksAgree : List Text → Bool
 checksAgree [] = true
-checksAgree (t ∷ ts) = sameBytes (shortVerdict (check (bytes (t .text)))) (t .numbers) && checksAgree ts
+checksAgree (t ∷ ts) = sameBytes (shortVerdict (check (t .text))) (t .numbers) && checksAgree ts
 
 unfoldable pub runsAgree : List Start → Bool
 runsAgree [] = true
 runsAgree (t ∷ ts) = sameBytes (shortResult (runs (bytes (t .text)) (replicate (t .zeros) 0) (t .budget))) (t .numbers) && runsAgree ts
 
 -- every one of them is as it says
-pub checks-agree : T (checksAgree texts)
+pub checks-agree : T (checksAgree (edges ++ texts))
 unfolding judgement placeOf littleEndian wordsFrom bytesOf bufferOf wordLengths longWord runOn howMany fromLeft fromRight bitCount restOf
     declarations numberFrom numberOf storageWords totalWords firstWord reachStorage lowBit reachOn reachUnder reachOf reachNumber reach bodyNumber
     bodyOf accessLow accessBits judgeName judgeAccess judge judgeFactor judgeIndex faultsIn judgeJoined owned storedTwice patternsMeet reaches
     itemsMeet meetsAny someMeet past countedFaults selectedFaults moreFaults alternativesFaults labels memberLabels alternativeLabels countedLabels
     selectedLabels moreLabels labelFaults actionFaults membersFaults insideFaults insideCounted insideSelected insideMore declaredNames faults40
     isKnown twice large tooMany among inside badMapping mappings faults30 leastFrom least mains mainName chains racesAny groupFaults membersOf
-    alternativesGroups countedGroups selectedGroups moreGroups groupsFaults faults50 also-before groupsOf insert-by insert inserts arrange factorOf
+    alternativesGroups countedGroups selectedGroups moreGroups groupsFaults faults50   insert-by insert inserts arrange factorOf
     linksOf indexOf exprOf opens closes counted-by count opened itemOf agree matches highest itemsOf selectorItems anyMatches takes access
     joinedAccesses actOf groups altsOf countedAlts selectedAlts moreAlts start leftmost workI choose nextI then wordOr70 wordOf fieldIn fieldOf
     evaluate evaluateFactor evaluateIndex evaluateAccess evaluateAccesses storeAll transferred bodyAct begin runFrom run classIn classOf inName
     inConstant inComment fold run-Bytes digitBits digitValue isDigitOf isBasedDigit all any valueFrom freeDigit freeFrom bitsFrom decimalBits decimal
     based sameBytes wordKind markAt wordLexeme constantLexeme markLexeme lexemeBy lexeme scanFrom scan opBits bitwise opNumber operate notNumber
     inverse field withField total cut owner readsOf factorReads indexReads subscriptReads stores setsOf setsI setsAlts bodySets touched member meet
-    race stopsIn stopsI stopsAlts bodyStops mayStop callsIn callsI callsAlts anyName chainOver without jumpsOut jumpsI jumpsAlts descriptionOf check
-    runs lookup too-deep judge-Rows run-Rows recognise find split put act read decLt checksAgree
+    race stopsIn stopsI stopsAlts bodyStops mayStop callsIn callsI callsAlts anyName chainOver     descriptionOf check
+    runs lookup too-deep judge-Rows run-Rows recognise find split put act read decLt checksAgree times carriers chain
 checks-agree = tt
 
 pub runs-agree : T (runsAgree beginnings)
@@ -165,13 +161,13 @@ unfolding judgement placeOf littleEndian wordsFrom bytesOf bufferOf wordLengths 
     itemsMeet meetsAny someMeet past countedFaults selectedFaults moreFaults alternativesFaults labels memberLabels alternativeLabels countedLabels
     selectedLabels moreLabels labelFaults actionFaults membersFaults insideFaults insideCounted insideSelected insideMore declaredNames faults40
     isKnown twice large tooMany among inside badMapping mappings faults30 leastFrom least mains mainName chains racesAny groupFaults membersOf
-    alternativesGroups countedGroups selectedGroups moreGroups groupsFaults faults50 also-before groupsOf insert-by insert inserts arrange factorOf
+    alternativesGroups countedGroups selectedGroups moreGroups groupsFaults faults50   insert-by insert inserts arrange factorOf
     linksOf indexOf exprOf opens closes counted-by count opened itemOf agree matches highest itemsOf selectorItems anyMatches takes access
     joinedAccesses actOf groups altsOf countedAlts selectedAlts moreAlts start leftmost workI choose nextI then wordOr70 wordOf fieldIn fieldOf
     evaluate evaluateFactor evaluateIndex evaluateAccess evaluateAccesses storeAll transferred bodyAct begin runFrom run classIn classOf inName
     inConstant inComment fold run-Bytes digitBits digitValue isDigitOf isBasedDigit all any valueFrom freeDigit freeFrom bitsFrom decimalBits decimal
     based sameBytes wordKind markAt wordLexeme constantLexeme markLexeme lexemeBy lexeme scanFrom scan opBits bitwise opNumber operate notNumber
     inverse field withField total cut owner readsOf factorReads indexReads subscriptReads stores setsOf setsI setsAlts bodySets touched member meet
-    race stopsIn stopsI stopsAlts bodyStops mayStop callsIn callsI callsAlts anyName chainOver without jumpsOut jumpsI jumpsAlts descriptionOf check
+    race stopsIn stopsI stopsAlts bodyStops mayStop callsIn callsI callsAlts anyName chainOver     descriptionOf check
     runs lookup too-deep judge-Rows run-Rows recognise find split put act read decLt runsAgree
 runs-agree = tt

@@ -9,7 +9,7 @@ use native.Mathlib.Numerals.{add-one}
 use lib.ListN.{length, drop, drop-of-length-le, getElem?}
 use Rattle.cells.specs.Cells.{cell}
 use Rattle.rules.specs.Grammar.Trees.{Declaration, Declarations, declared-all, declared-also, Description, description}
-use Rattle.rules.specs.Grammar.Verdict.{deepest}
+use Rattle.rules.specs.Limits.{deepest}
 use Rattle.rules.specs.Declarations.{declaredOf}
 use Rattle.rules.specs.Faults.Fault.{Fault}
 use Rattle.rules.specs.Faults.Bodies.{faults40}

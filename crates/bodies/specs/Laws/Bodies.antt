@@ -15,7 +15,7 @@ use Rattle.rules.specs.Text.Tokens.{Kind, Becomes, Comma, END, Info, Token, tk,
 use Rattle.rules.specs.Grammar.Trees.{Tokens, Action, block, actionTokens, Members, body, mapped, carrier, given, givenTokens}
 use Rattle.rules.specs.Grammar.Trees.{words, with-bits, bare-body, mainBitsTokens, Declaration, plain, main, declarationTokens, headingTokens}
 use Rattle.rules.specs.Grammar.Trees.{Declarations, declared-all, declared-also, declarationsTokens}
-use Rattle.rules.specs.Grammar.Verdict.{deepest}
+use Rattle.rules.specs.Limits.{deepest}
 use Rattle.rules.specs.Declarations.{declaredOf}
 use Rattle.rules.specs.Faults.Bodies.{labels, labelFaults, actionFaults, bodyFaults}
 use Rattle.laws.specs.Grammar.Heads.{action-head}

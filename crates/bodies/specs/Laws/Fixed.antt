@@ -13,7 +13,8 @@ use Rattle.rules.specs.Text.Bytes.{forbidden, blank, exclamation, letter, digit
 use Rattle.rules.specs.Text.Tokens.{Const, Token, tk, Spelling, keywords, marks, kindNo}
 use Rattle.rules.specs.Text.Constants.{malformed, constant, isQuery, isDigitOf, isBasedDigit, all, any, digitBits, valueFrom, freeDigit, freeFrom, decimalBits, decimal, based}
 use Rattle.rules.specs.Text.Scan.{Lexeme, nothing, token, refused, wordKind, markAt, wordInfo, wordLexeme, constantLexeme, maskedKind, markLexeme, lexemeBy, lexeme}
-use Rattle.rules.specs.Text.Scan.{Scan, after, ended, refuse, scanFrom, scan, longestName, mostTokens}
+use Rattle.rules.specs.Text.Scan.{Scan, after, ended, refuse, scanFrom, scan}
+use Rattle.rules.specs.Limits.{longestName, mostTokens}
 use Rattle.rules.specs.Grammar.Trees.{Tokens, Description}
 use Rattle.table.specs.Holds.{tokenAt}
 use Rattle.table.specs.Ready.{Ready}

@@ -9,7 +9,8 @@ use native.Mathlib.Omega.{arith}
 use native.Mathlib.Decide.{ℕ-discrete}
 use lib.ListN.{length}
 use Rattle.rules.specs.Text.Tokens.{Kind, Name, tk}
-use Rattle.rules.specs.Text.Scan.{sameBytes, longestText}
+use Rattle.rules.specs.Text.Scan.{sameBytes}
+use Rattle.rules.specs.Limits.{longestText}
 use Rattle.rules.specs.Grammar.Trees.{Tokens}
 use Rattle.rules.specs.Declarations.{Name as Word, Table, numberFrom, numberOf}
 use Rattle.rules.specs.Faults.Fault.{fault, when}

@@ -8,12 +8,13 @@ use native.Mathlib.Omega.{arith}
 use native.Mathlib.Decide.{decLt}
 use lib.Dec.{ltb}
 use Rattle.rules.specs.Text.Tokens.{RPar, RBra, Info, tk}
-use Rattle.rules.specs.Text.Scan.{longestText, sameBytes}
+use Rattle.rules.specs.Text.Scan.{sameBytes}
 use Rattle.rules.specs.Grammar.Trees.{Tokens, Bits, all-bits, bits, bitsTokens, Operand, constant, access, parens, negated, operandTokens, Tail, no-more, with-op, tailTokens}
 use Rattle.rules.specs.Grammar.Trees.{Subscript, no-subscript, subscript, subscriptTokens, Joined, alone, joined, joinedTokens}
 use Rattle.rules.specs.Grammar.Precedence.{Expr, leaf, node, Factor, number, cell, group, inverse, Index, no-index, index, Link, tightness}
 use Rattle.rules.specs.Grammar.Precedence.{insert-by, insert, inserts, arrange, factorOf, linksOf, indexOf, exprOf}
-use Rattle.rules.specs.Values.{mostBits, opBits}
+use Rattle.rules.specs.Values.{opBits}
+use Rattle.rules.specs.Limits.{mostBits, longestText}
 use Rattle.rules.specs.Declarations.{Name as Word, Names, BitNames, Declared, Table, numberOf, namesOf, reach}
 use Rattle.rules.specs.Faults.Fault.{Fault, fault, when}
 use Rattle.rules.specs.Faults.Declared.{inside, declaredAt}

@@ -10,7 +10,8 @@ use lib.Dec.{leb}
 use lib.ListN.{length, drop, getElem?}
 use Rattle.cells.specs.Cells.{cell}
 use Rattle.rules.specs.Text.Tokens.{Becomes, Equals, Arrow, BEGIN, END, Info, Token, tk}
-use Rattle.rules.specs.Text.Scan.{longestText, sameBytes}
+use Rattle.rules.specs.Text.Scan.{sameBytes}
+use Rattle.rules.specs.Limits.{longestText}
 use Rattle.rules.specs.Grammar.Trees.{Tokens, bitsTokens, operandTokens, tailTokens, subscriptTokens, joinedTokens, exact, masked, Selector, one-of, any-of, selectorTokens}
 use Rattle.rules.specs.Grammar.Trees.{Action, block, labelled, if-then, decode, repeat, leave, restart, activate, stop, no-op, transfer, actionTokens}
 use Rattle.rules.specs.Grammar.Trees.{Members, end, also, next, membersTokens, Alternatives, counted, selected, alternativesTokens, Counted, counted-end, counted-more, countedTokens}

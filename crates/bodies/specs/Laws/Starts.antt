@@ -8,7 +8,7 @@ use lib.ListN.{length, take, drop, length-drop}
 use lib.Seq.{take-all, getD-drop}
 use Rattle.cells.specs.Cells.{leAt, cell}
 use Rattle.rules.specs.Text.Tokens.{Becomes, tk, kindAt}
-use Rattle.rules.specs.Text.Scan.{longestText}
+use Rattle.rules.specs.Limits.{longestText}
 use Rattle.rules.specs.Grammar.Trees.{Tokens}
 use Rattle.rules.specs.Faults.Fault.{fault}
 use Rattle.laws.specs.Grammar.Kinds.{kindAt-kindNo}

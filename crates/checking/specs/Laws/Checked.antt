@@ -5,7 +5,7 @@ use mathlib.Core.Path.{_≡_, refl, sym, ap, _∙_}
 use mathlib.Core.List.{List, [], _∷_}
 use native.Mathlib.Omega.{arith}
 use lib.ListN.{length}
-use Rattle.rules.specs.Text.Scan.{longestText}
+use Rattle.rules.specs.Limits.{longestText}
 use Rattle.rules.specs.Answers.{Verdict as Answered, accepted, refused, verdictNumbers}
 use Rattle.rules.specs.Calls.Memory.{Memory, Enough, settled}
 use Rattle.rules.specs.Calls.Check.{CheckCall, answer, verdictNumber}

@@ -6,10 +6,12 @@ use mathlib.Core.List.{List}
 use mathlib.Core.Logic.{_↔_}
 use native.Mathlib.Omega.{arith}
 use lib.ListN.{length, drop}
-use Rattle.rules.specs.Text.Scan.{longestText}
+use Rattle.rules.specs.Limits.{longestText}
 use Rattle.rules.specs.Steps.Runs.{Ending, done, halted, paused, faulted}
-use Rattle.rules.specs.Answers.{Verdict, accepted, refused, Checks, Result, refusal, ended, Runs, littleEndian, bytesOf, verdictNumbers, ranNumbers, resultNumbers}
-use Rattle.laws.specs.Answers.{Lawful, one-verdict, one-result, accepted-iff-lawful}
+use Rattle.rules.specs.Answers.{Verdict, accepted, refused, Checks, Result, refusal, ended, Runs, littleEndian, bytesOf, verdictNumbers, ranNumbers, resultNumbers, Lawful}
+use Rattle.rules.specs.Agreement.{endingCode, resultCode, endingIn}
+use Rattle.laws.specs.Answers.{one-verdict, one-result, accepted-iff-lawful}
+use Rattle.laws.specs.Refusals.Numbered.{checks-numbered}
 use Rattle.rules.specs.Calls.Memory.{Memory, Enough, numberBytes, answered, settled}
 use Rattle.rules.specs.Calls.Check.{CheckCall, verdictNumber}
 use Rattle.rules.specs.Calls.Check as check
@@ -45,16 +47,6 @@ one-run {text} {carriers} {budget = budget} {before = before} (run.answer x m l 
     (e ∙ ap resultNumber same ∙ sym e′, a ∙ ap (λ y. settled (resultNumbers y) before) same ∙ sym a′, c ∙ ap (carriersLeft carriers) same ∙ sym c′)
 
 -- the first number of an answer
-abbrev pub code : Ending → ℕ
-code done = 0
-code halted = 1
-code paused = 2
-code (faulted m p) = 3
-
-abbrev pub resultCode : Result → ℕ
-resultCode (refusal m p) = 4
-resultCode (ended e n b) = code e
-
 abbrev verdictCode : Verdict → ℕ
 verdictCode (accepted n w) = 0
 verdictCode (refused m p) = 4
@@ -64,7 +56,7 @@ unfolding littleEndian answered numberBytes bytesOf
 verdict-code (accepted n w) b = refl
 verdict-code (refused m p) b = refl
 
-ran-code : (e : Ending) (n : ℕ) (b : List ℕ) → littleEndian 4 (answered (ranNumbers e n) b) ≡ code e
+ran-code : (e : Ending) (n : ℕ) (b : List ℕ) → littleEndian 4 (answered (ranNumbers e n) b) ≡ endingCode e
 unfolding littleEndian answered numberBytes bytesOf
 ran-code done n b = refl
 ran-code halted n b = refl
@@ -107,10 +99,24 @@ exact-by {text} (refused m p) c = (
 )
 
 pub exact : {text : List ℕ} {before after : Memory} {n : ℕ} → CheckCall text before after n → Enough before → length text ≤ longestText
-    → (littleEndian 4 (after .answer) ≡ 0) ↔ ((m : ℕ) × (w : ℕ) × Lawful text m w)
+    → (endingIn (after .answer) ≡ 0) ↔ ((m : ℕ) × (w : ℕ) × Lawful text m w)
 exact (check.short-memory s e a) enough short = absurd (s enough)
 exact (check.long-text m l e a) enough short = absurd (omega arith)
 exact {before = before} (check.answer v m l c e a) enough short =
-    let is = ap (λ x. littleEndian 4 (x .answer)) a ∙ verdict-code v (before .answer) in
+    let is = ap (λ x. endingIn (x .answer)) a ∙ verdict-code v (before .answer) in
     let both = exact-by v c in
     (λ z. both .0 (sym is ∙ z), λ l. is ∙ both .1 l)
+
+-- the returned number is 0 exactly where the ending is
+number-code : {text : List ℕ} (v : Verdict) → Checks text v → (verdictNumber v ≡ 0) ↔ (verdictCode v ≡ 0)
+number-code (accepted m w) c = (λ e. refl, λ e. refl)
+number-code (refused m p) c = (λ e. absurd (omega (arith, checks-numbered c)), λ e. absurd (omega arith))
+
+pub exact-number : {text : List ℕ} {before after : Memory} {n : ℕ} → CheckCall text before after n → Enough before → length text ≤ longestText
+    → (n ≡ 0) ↔ ((m : ℕ) × (w : ℕ) × Lawful text m w)
+exact-number (check.short-memory s e a) enough short = absurd (s enough)
+exact-number (check.long-text m l e a) enough short = absurd (omega arith)
+exact-number (check.answer v m l c e a) enough short =
+    let both = exact-by v c in
+    let zero = number-code v c in
+    (λ z. both .0 (zero .0 (sym e ∙ z)), λ l. e ∙ zero .1 (both .1 l))

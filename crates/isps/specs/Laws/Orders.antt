@@ -1,28 +1,30 @@
 -- Demand 3, from the contract of the call to the orders of the rules.
 -- Assumes nothing.
-use Prim.Native.Nat.{ℕ, _<_, _≤_}
+use Prim.Native.Nat.{ℕ, zero, suc, _*_, _<_, _≤_}
 use mathlib.Core.Path.{_≡_, refl, sym, ap, _∙_, subst}
 use mathlib.Core.Bool.{Bool, true, false}
 use mathlib.Core.List.{List}
 use mathlib.Core.Option.{Option, none, some}
 use native.Mathlib.Omega.{arith}
 use lib.Dec.{eqb}
-use lib.ListN.{length, drop}
-use Prim.Native.Nat.{_*_}
-use Rattle.rules.specs.Text.Scan.{longestText, scan}
+use lib.ListN.{length}
+use Rattle.rules.specs.Text.Scan.{scan}
+use Rattle.rules.specs.Limits.{longestText}
 use Rattle.rules.specs.Grammar.Trees.{Description, flatten}
 use Rattle.rules.specs.Declarations.{Table, declarations, totalWords}
 use Rattle.rules.specs.Steps.Runs as steps
-use Rattle.rules.specs.Steps.Runs.{Conf, Run, Ending, done, halted, paused, faulted, Steps, begin}
+use Rattle.rules.specs.Steps.Runs.{Conf, running, finished, stopped, fault, Run, Ending, done, halted, paused, faulted, step, Steps, begin}
+use Rattle.rules.specs.Steps.Evaluation.{Carriers}
+use Rattle.rules.specs.Steps.Orders.{Ended, Well, endAs, endOf, NoStep}
 use Rattle.rules.specs.Faults.Whole.{mainName}
-use Rattle.rules.specs.Answers.{accepted, Checks, Result, refusal, ended, resultOf, Runs, not-accepted, ran, runOn, longWord, wordLengths, wordsFrom, bufferOf, littleEndian, resultNumbers}
+use Rattle.rules.specs.Answers.{accepted, Checks, Result, refusal, ended, resultOf, Runs, not-accepted, ran, runOn, longWord, wordLengths, wordsFrom, bufferOf, resultNumbers}
+use Rattle.rules.specs.Agreement.{endingCode, resultCode, endingIn, stepsIn, Agrees, codeAt, carriersAt, SameEnd}
 use Rattle.laws.specs.Grammar.Exact.{unique}
 use Rattle.laws.specs.Orders.Budget.{run-bounded}
-use Rattle.laws.specs.Orders.Ends.{Ended, Well, EveryOrder}
 use Rattle.laws.specs.Demand3.{accepted-order-free, accepted-none-ends}
 use Rattle.rules.specs.Calls.Memory.{Memory, Enough, answered}
 use Rattle.rules.specs.Calls.Run.{RunCall, carriersLeft, short-memory, long-text, answer}
-use Rattle.isps.specs.Laws.Calls.{code, resultCode, result-code, ran-steps}
+use Rattle.isps.specs.Laws.Calls.{result-code, ran-steps}
 
 abbrev runOf : Table → List ℕ → ℕ → Run
 runOf ds buffer budget = steps.run ds (mainName ds) budget (wordsFrom (totalWords ds) buffer)
@@ -60,13 +62,13 @@ ran-by {carriers = carriers} {budget} {e = e} {n} {left} d stands (ran d′ read
       is = run-ended (declarations d) carriers budget (subst (λ x. runOn (declarations x) carriers budget ≡ ended e n left) same q);
     }
 
-well : (e : Ending) → code e < 2 → Well e
+well : (e : Ending) → endingCode e < 2 → Well e
 well done l = tt
 well halted l = tt
 well paused l = absurd (omega arith)
 well (faulted m p) l = absurd (omega arith)
 
-not-well : (e : Ending) → 2 ≤ code e → Well e → ⊥
+not-well : (e : Ending) → 2 ≤ endingCode e → Well e → ⊥
 not-well done l w = absurd (omega arith)
 not-well halted l w = absurd (omega arith)
 not-well paused l w = w
@@ -76,7 +78,7 @@ not-well (faulted m p) l w = w
 record Answers (text carriers : List ℕ) (budget : ℕ) (before after : Memory) (left : List ℕ) : Type 0 where
   pub result : Result
   pub runs : Runs text carriers budget result
-  pub ending : littleEndian 4 (after .answer) ≡ resultCode result
+  pub ending : endingIn (after .answer) ≡ resultCode result
   pub answer : after .answer ≡ answered (resultNumbers result) (before .answer)
   pub left-is : left ≡ carriersLeft carriers result
 
@@ -85,7 +87,49 @@ answers : {text carriers left : List ℕ} {budget n : ℕ} {before after : Memor
 answers (short-memory s e a c) enough short = absurd (s enough)
 answers (long-text m l e a c) enough short = absurd (omega arith)
 answers {before = before} (answer x m l r e a c) enough short =
-    record { result = x; runs = r; ending = ap (λ y. littleEndian 4 (y .answer)) a ∙ result-code x (before .answer); answer = ap (λ y. y .answer) a; left-is = c }
+    record { result = x; runs = r; ending = ap (λ y. endingIn (y .answer)) a ∙ result-code x (before .answer); answer = ap (λ y. y .answer) a; left-is = c }
+
+-- the description that a call has read, if it is no refusal
+description-by : {text carriers : List ℕ} {budget : ℕ} {x : Result} → Runs text carriers budget x → resultCode x < 4 → (d : Description) × flatten d ≡ scan text .tokens
+description-by (not-accepted c) l = absurd (omega arith)
+description-by (ran d stands c) l = (d, stands)
+
+pub ran-description : {text carriers left : List ℕ} {budget n : ℕ} {before after : Memory} → RunCall text carriers budget before after left n → Enough before
+    → length text ≤ longestText → endingIn (after .answer) < 4 → (d : Description) × flatten d ≡ scan text .tokens
+ran-description call enough short l = let g = answers call enough short in description-by (g .runs) (omega (arith, g .ending))
+
+-- where no step can follow, none has
+no-more : (ds : Table) (j : ℕ) (c d : Conf) → NoStep ds c → Steps ds j c d → (j ≡ 0) × (c ≡ d)
+no-more ds zero c d h e = (refl, e)
+no-more ds (suc j) (running r s) d h e = absurd (h (step ds r (e .0) s) (e .0, refl))
+no-more ds (suc j) (finished s) d h e = absurd e
+no-more ds (suc j) (stopped s) d h e = absurd e
+no-more ds (suc j) (fault m p s) d h e = absurd e
+
+-- the end of a run that ended well, as a place where an order has come to
+end-code : (e : Ending) (s : Carriers) → Well e → codeAt (endAs e s) ≡ endingCode e
+end-code done s w = refl
+end-code halted s w = refl
+end-code paused s w = absurd w
+end-code (faulted m p) s w = absurd w
+
+end-carriers : (e : Ending) (s : Carriers) → carriersAt (endAs e s) ≡ s
+end-carriers done s = refl
+end-carriers halted s = refl
+end-carriers paused s = refl
+end-carriers (faulted m p) s = refl
+
+pub agrees-same : {ds : Table} {answer left : List ℕ} {k : ℕ} {c : Conf} → Agrees ds answer left k c → endingIn answer < 2 → NoStep ds c → SameEnd answer left k c
+agrees-same {ds} {c = c} a l h =
+    let r : Run = a .end in
+    let w : Well (r .ending) = well (r .ending) (omega (arith, a .ending)) in
+    let g = a .order .goes-on in
+    let z = no-more ds (g .0) c (endOf r) h (g .2) in
+    record {
+      ending = ap codeAt (z .1) ∙ end-code (r .ending) (r .carriers) w ∙ a .ending;
+      steps = omega (arith, g .1, z .0, a .steps);
+      carriers-left = ap (λ x. bufferOf (carriersAt x)) (z .1) ∙ ap bufferOf (end-carriers (r .ending) (r .carriers)) ∙ a .carriers-left;
+    }
 
 module _ {text carriers left : List ℕ} {budget n : ℕ} {before after : Memory} (call : RunCall text carriers budget before after left n)
     (enough : Enough before) (short : length text ≤ longestText) (small : budget < 4294967296) (d : Description) (stands : flatten d ≡ scan text .tokens) where
@@ -95,24 +139,16 @@ module _ {text carriers left : List ℕ} {budget n : ℕ} {before after : Memory
   abbrev start : Conf
   start = begin ds (mainName ds) (wordsFrom (totalWords ds) carriers)
 
-  -- an order of k steps that has come to c agrees with the call
-  pub record Agrees (k : ℕ) (c : Conf) : Type 0 where
-    pub end : Run
-    pub order : EveryOrder ds end k c
-    pub ending : code (end .ending) ≡ littleEndian 4 (after .answer)
-    pub steps : end .steps ≡ littleEndian 4 (drop 12 (after .answer))
-    pub carriers-left : bufferOf (end .carriers) ≡ left
-
   given : Answers text carriers budget before after left
   given = answers call enough short
 
   few-steps : (r : Run) {e : Ending} {k : ℕ} {b : List ℕ} → resultOf r ≡ ended e k b → (r .ending ≡ e) × (r .steps ≡ k) × (bufferOf (r .carriers) ≡ b)
   few-steps r q = (cc, cc, cc)
 
-  pub every-order : littleEndian 4 (after .answer) < 2 → (k : ℕ) (c : Conf) → Steps ds k start c → Agrees k c
+  pub every-order : endingIn (after .answer) < 2 → (k : ℕ) (c : Conf) → Steps ds k start c → Agrees ds (after .answer) left k c
   every-order l k c s = by (given .result) refl
     where
-      by : (x : Result) → given .result ≡ x → Agrees k c
+      by : (x : Result) → given .result ≡ x → Agrees ds (after .answer) left k c
       by (refusal m p) q = absurd (omega (arith, given .ending, ap resultCode q))
       by (ended e count b) q =
           let r = runOf ds carriers budget in
@@ -124,12 +160,12 @@ module _ {text carriers left : List ℕ} {budget n : ℕ} {before after : Memory
           record {
             end = r;
             order = accepted-order-free text _ _ (g .checks) d stands (wordsFrom (totalWords ds) carriers) budget w k c s;
-            ending = ap code (f .0) ∙ sym is;
-            steps = f .1 ∙ sym (ap (λ y. littleEndian 4 (drop 12 y)) (given .answer ∙ ap (λ x. answered (resultNumbers x) (before .answer)) q) ∙ ran-steps e count (before .answer) bound);
+            ending = ap endingCode (f .0) ∙ sym is;
+            steps = f .1 ∙ sym (ap (λ y. stepsIn y) (given .answer ∙ ap (λ x. answered (resultNumbers x) (before .answer)) q) ∙ ran-steps e count (before .answer) bound);
             carriers-left = f .2 ∙ sym (given .left-is ∙ ap (carriersLeft carriers) q);
           }
 
-  pub no-order-ends : 2 ≤ littleEndian 4 (after .answer) → littleEndian 4 (after .answer) < 4 → (k : ℕ) (c : Conf) → k ≤ budget → Steps ds k start c → Ended c → ⊥
+  pub no-order-ends : 2 ≤ endingIn (after .answer) → endingIn (after .answer) < 4 → (k : ℕ) (c : Conf) → k ≤ budget → Steps ds k start c → Ended c → ⊥
   no-order-ends l h k c m s z = by (given .result) refl
     where
       by : (x : Result) → given .result ≡ x → ⊥

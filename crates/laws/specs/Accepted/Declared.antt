@@ -9,12 +9,12 @@ use lib.Dec.{ltb}
 use lib.ListN.{length, getElem?}
 use borrow.Author.Tests.{ltb-false, not-false}
 use Rattle.rules.specs.Text.Scan.{sameBytes}
-use Rattle.rules.specs.Values.{mostBits}
 use Rattle.rules.specs.Grammar.Trees.{carrier, given, body, mapped, words, with-bits, bare-body, Declaration, plain, main, Declarations, declared-all, declared-also, Description, description}
 use Rattle.rules.specs.Declarations.{Name, Names, howMany, BitNames, one-unnamed, these, bitCount, Target, Declared, declaredOf}
 use Rattle.rules.specs.Declarations.{Table, restOf, declarations, outerName, numberOf, wordsOf, totalWords}
 use Rattle.rules.specs.Faults.Fault.{when}
-use Rattle.rules.specs.Faults.Declared.{largestName, mostDeclarations, mostWords, twice, farNames, largeBits, largeWords, large, tooMany}
+use Rattle.rules.specs.Faults.Declared.{twice, farNames, largeBits, largeWords, large, tooMany}
+use Rattle.rules.specs.Limits.{largestName, mostDeclarations, mostWords, mostBits}
 use Rattle.rules.specs.Faults.Declared.{goodTarget, declaredAt, badMapping, mappings, faults30}
 use Rattle.rules.specs.Answers.{accepted, judgement}
 use Rattle.laws.specs.Orders.Tests.{impossible, or-neither}

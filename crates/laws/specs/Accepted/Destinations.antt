@@ -6,7 +6,8 @@ use native.Mathlib.Omega.{arith}
 use Rattle.rules.specs.Text.Tokens.{Info}
 use Rattle.rules.specs.Grammar.Trees.{Tokens, Bits, bitsTokens, Subscript, subscriptTokens, Joined, alone, joined, joinedTokens}
 use Rattle.rules.specs.Grammar.Precedence.{cell, indexOf}
-use Rattle.rules.specs.Values.{mostBits, total}
+use Rattle.rules.specs.Values.{total}
+use Rattle.rules.specs.Limits.{mostBits}
 use Rattle.rules.specs.Declarations.{Name, Table}
 use Rattle.rules.specs.Steps.Actions.{Access, access, joinedAccesses}
 use Rattle.rules.specs.Steps.Evaluation.{Carriers, gives, then, Field, fieldOf, evaluateIndex, evaluateAccess, evaluateAccesses}

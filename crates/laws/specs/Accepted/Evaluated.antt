@@ -8,7 +8,8 @@ use lib.Pow.{pow-pos, ones-sub-lt}
 use Rattle.rules.specs.Text.Tokens.{Info, Op}
 use Rattle.rules.specs.Grammar.Trees.{Bits}
 use Rattle.rules.specs.Grammar.Precedence.{Expr, leaf, node, Factor, number, cell, group, inverse as inverse-factor, Index}
-use Rattle.rules.specs.Values.{mostBits, Value, value, opBits, opNumber, operate, notNumber, inverse, field}
+use Rattle.rules.specs.Values.{Value, value, opBits, opNumber, operate, notNumber, inverse, field}
+use Rattle.rules.specs.Limits.{mostBits}
 use Rattle.rules.specs.Declarations.{Name, Table, totalWords, Reach, accessLow, accessBits}
 use Rattle.rules.specs.Steps.Evaluation.{Carriers, Outcome, gives, faulty, then, Field, wordOf, fieldIn, fieldOf, readField, evaluate, evaluateFactor, evaluateIndex}
 use Rattle.rules.specs.Faults.Bodies.{judge, judgeFactor, judgeAccess}

@@ -10,8 +10,8 @@ use Rattle.rules.specs.Declarations.{Name, Table}
 use Rattle.rules.specs.Selectors.{Case, numbered, listed, otherwise as any-value, selectorItems}
 use Rattle.rules.specs.Steps.Actions.{Act, par, Alts, end as no-alternative, alt, whole, inTurn, actOf, groups, altsOf, countedAlts, selectedAlts, moreAlts}
 use Rattle.rules.specs.Steps.Actions.{Groups as Block}
-use Rattle.rules.specs.Whole.Sets.{Sets, setsOf, touched, race, stopsIn, mayStop, without, jumpsOut, jumpsI, jumpsAlts}
-use Rattle.rules.specs.Whole.Orderly.{Groups, GroupsAlts}
+use Rattle.rules.specs.Whole.Sets.{Sets, setsOf, touched, race, stopsIn, mayStop}
+use Rattle.laws.specs.Orders.Orderly.{AllApart, AllApartAlts, without, jumpsOut, jumpsI, jumpsAlts}
 use Rattle.rules.specs.Faults.Fault.{when}
 use Rattle.rules.specs.Faults.Bodies.{firstPlace}
 use Rattle.rules.specs.Faults.Whole.{Scope, labelled-in, aimsOut, hasMore, racesAny, memberFaults, memberScope}
@@ -51,12 +51,12 @@ module _ (ds : Table) where
 
   -- an action in a scope
   record Grouped (s : Scope) (x : Act) : Type 0 where
-    groups : Groups ds x
+    groups : AllApart ds x
     stays : Stay s (jumpsOut x)
 
   -- a member behind others that touch these sets, in a group of two or more or alone in its group
   record Member (many : Bool) (s : Scope) (before : List Sets) (x : Act) : Type 0 where
-    groups : Groups ds x
+    groups : AllApart ds x
     stays : Stay (memberScope ds many s) (jumpsOut x)
     goes-on : many ≡ true → mayStop ds x ≡ false
     no-race : many ≡ true → racesAny (touched ds x) before ≡ false
@@ -71,7 +71,7 @@ module _ (ds : Table) where
     behind : Behind s (g .behind)
 
   record Alternatively (s : Scope) (bs : Alts) : Type 0 where
-    groups : GroupsAlts ds bs
+    groups : AllApartAlts ds bs
     stays : Stay s (jumpsAlts bs)
 
   member : (many : Bool) (s : Scope) (before : List Sets) (a : Action) → memberFaults ds many before a ≡ [] → Grouped (memberScope ds many s) (actOf a)
@@ -198,5 +198,5 @@ module _ (ds : Table) where
     more-grouped (selected-more i x) s e = selected-grouped x s e
 
   -- the groups of a body
-  pub body-groups : (a : Action) → groupFaults ds none a ≡ [] → Groups ds (actOf a)
+  pub body-groups : (a : Action) → groupFaults ds none a ≡ [] → AllApart ds (actOf a)
   body-groups a e = grouped a none e .groups

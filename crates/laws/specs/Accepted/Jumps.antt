@@ -11,7 +11,7 @@ use Rattle.rules.specs.Grammar.Trees.{Alternatives, counted, selected, Counted,
 use Rattle.rules.specs.Grammar.Precedence.{exprOf}
 use Rattle.rules.specs.Declarations.{Name, Table}
 use Rattle.rules.specs.Steps.Actions.{Act, par, inTurn, whole, actOf, groups, altsOf, countedAlts, selectedAlts, moreAlts}
-use Rattle.rules.specs.Whole.Sets.{without, jumpsOut, jumpsI, jumpsAlts}
+use Rattle.laws.specs.Orders.Orderly.{without, jumpsOut, jumpsI, jumpsAlts}
 use Rattle.rules.specs.Faults.Fault.{when}
 use Rattle.rules.specs.Faults.Declared.{isKnown}
 use Rattle.rules.specs.Faults.Bodies.{judge, faultsIn, alternativesFaults, actionFaults, membersFaults, insideFaults, insideCounted, insideSelected, insideMore}

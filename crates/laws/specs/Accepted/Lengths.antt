@@ -12,7 +12,8 @@ use Rattle.rules.specs.Text.Tokens.{Info, Op, join, plus, minus, eql, neq, lss,
 use Rattle.rules.specs.Text.Scan.{sameBytes}
 use Rattle.rules.specs.Grammar.Trees.{Bits, all-bits, bits}
 use Rattle.rules.specs.Grammar.Precedence.{Expr, leaf, node, Factor, number, cell, group, inverse, Index, no-index, index}
-use Rattle.rules.specs.Values.{mostBits, opBits}
+use Rattle.rules.specs.Values.{opBits}
+use Rattle.rules.specs.Limits.{mostBits}
 use Rattle.rules.specs.Declarations.{Name, Names, howMany, BitNames, bitCount, namesOf, Declared, Table, numberOf, Reach, reachNumber, reach, accessLow, accessBits}
 use Rattle.rules.specs.Faults.Fault.{Fault, when}
 use Rattle.rules.specs.Faults.Declared.{inside, declaredAt}

@@ -8,8 +8,9 @@ use Rattle.rules.specs.Grammar.Trees.{Action, Description}
 use Rattle.rules.specs.Declarations.{Name, Table, bodyOf, declarations, outerName}
 use Rattle.rules.specs.Steps.Actions.{actOf}
 use Rattle.rules.specs.Steps.Runs.{actOr, bodyAct}
-use Rattle.rules.specs.Whole.Sets.{longestChain, anyName, callsIn, callsI, chainOver, without, jumpsOut, jumpsI}
-use Rattle.rules.specs.Whole.Orderly.{Groups, Orderly}
+use Rattle.rules.specs.Whole.Sets.{anyName, callsIn, callsI, chainOver}
+use Rattle.rules.specs.Limits.{longestChain}
+use Rattle.laws.specs.Orders.Orderly.{AllApart, Orderly, without, jumpsOut, jumpsI}
 use Rattle.rules.specs.Faults.Fault.{when}
 use Rattle.rules.specs.Faults.Bodies.{labels, labelFaults, actionFaults, declaredNames, bodyFaults, faults40}
 use Rattle.rules.specs.Faults.Whole.{mains, beginsChain, chains, bodyGroups, groupsFaults, faults50}
@@ -45,7 +46,7 @@ module _ (outer : Name) (ds : Table) (of40 : faults40 outer ds ds ≡ []) (of50 
         let h = both-empty (actionFaults outer ds (n ∷ []) a) (labelFaults (declaredNames outer ds ds) (labels a [])) q in
         none-known (without n (jumpsOut (actOf a))) (all-known-without n [] (jumpsOut (actOf a)) (jumps-aim outer ds a (n ∷ []) (h .0)))
 
-    body-grouped : Groups ds (actOf a)
+    body-grouped : AllApart ds (actOf a)
     unfolding groupsFaults
     body-grouped =
         let e = each-empty (λ d. bodyGroups ds (d .body)) (groupsFaults ds) (λ d ds. refl) ds (f .number) (f .declared) (no-chains-groups .1) (f .there) in
@@ -69,7 +70,7 @@ module _ (outer : Name) (ds : Table) (of40 : faults40 outer ds ds ≡ []) (of50 
       jumping n none e = refl
       jumping n (some a) e = body-jumps n a (found-body ds n a e)
 
-      grouped : (n : Name) (o : Option Action) → bodyOf ds n ≡ o → Groups ds (actOr o)
+      grouped : (n : Name) (o : Option Action) → bodyOf ds n ≡ o → AllApart ds (actOr o)
       grouped n none e = tt
       grouped n (some a) e = body-grouped n a (found-body ds n a e)
 

@@ -9,7 +9,7 @@ use native.Mathlib.Decide.{decLt}
 use lib.Dec.{leb, eqb}
 use lib.ListN.{length, getElem?}
 use borrow.Author.Tests.{leb-true, leb-false, eqb-true, le-ltb}
-use Rattle.rules.specs.Values.{mostBits}
+use Rattle.rules.specs.Limits.{mostBits}
 use Rattle.rules.specs.Declarations.{Name, Names, howMany, fromRight, BitNames, one-unnamed, these, bitCount, Target, Declared, Table, numberOf, wordsOf, totalWords, firstWord}
 use Rattle.rules.specs.Declarations.{Reach, reachStorage, lowBit, reachOn, reachUnder, reachOf, reachNumber, reach}
 use Rattle.rules.specs.Steps.Evaluation.{gives, wordOf}

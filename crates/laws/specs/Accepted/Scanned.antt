@@ -16,7 +16,8 @@ use Rattle.rules.specs.Text.Bytes.{Class, classOf, run, fold, inName, inConstan
 use Rattle.rules.specs.Text.Bytes.{forbidden, blank, exclamation, letter, digit, dot, prefix, query, mark, other}
 use Rattle.rules.specs.Text.Tokens.{Kind, Const, Token, tk, Spelling, keywords, marks, same}
 use Rattle.rules.specs.Text.Constants.{Constant, malformed, constant, isQuery, isDigitOf, isBasedDigit, all, any, digitBits, digitValue, valueFrom, freeFrom, bitsFrom, decimalBits, decimal, based}
-use Rattle.rules.specs.Text.Scan.{Lexeme, nothing, token, refused, wordKind, markAt, wordLexeme, constantLexeme, maskedKind, markLexeme, lexemeBy, lexeme, Scan, scanFrom, scan, sameBytes, longestName, mostTokens, wordInfo, after, ended, refuse}
+use Rattle.rules.specs.Text.Scan.{Lexeme, nothing, token, refused, wordKind, markAt, wordLexeme, constantLexeme, maskedKind, markLexeme, lexemeBy, lexeme, Scan, scanFrom, scan, sameBytes, wordInfo, after, ended, refuse}
+use Rattle.rules.specs.Limits.{longestName, mostTokens}
 use Rattle.laws.specs.Orders.Tests.{impossible, or-neither, or-either}
 use Rattle.laws.specs.Accepted.Named.{and-both}
 use Rattle.laws.specs.Accepted.Constants.{InBits, ConstantOk, ConstantsOk}

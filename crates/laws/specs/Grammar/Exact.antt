@@ -12,7 +12,6 @@ use lib.Seq.{take-append-seam, getD-append-seam, take-take, take-all}
 use Rattle.rules.specs.Text.Tokens.{Kind, Token, tk, Name}
 use Rattle.rules.specs.Grammar.Trees.{Tokens, Description, flatten}
 use Rattle.laws.specs.Grammar.Rows.{State, title, Stack, Move, after, row, lookup, too-deep, judge, run, recognise}
-use Rattle.rules.specs.Grammar.Verdict.{Answer, accepted, refused20, refused21}
 use Rattle.laws.specs.Grammar.Meanings.{stackL}
 use Rattle.laws.specs.Grammar.Reading.{read, sound}
 use Rattle.laws.specs.Grammar.Complete.{complete}
@@ -21,7 +20,8 @@ use Rattle.rules.specs.Grammar.Verdict.{blank}
 use Rattle.laws.specs.Grammar.Samples.{samples}
 use Rattle.rules.specs.Grammar.Verdict.{opens, count, opened}
 use Rattle.laws.specs.Grammar.Depth.{opened-append, opened-one, Deep, deep-title, step-deep, too-deep-full, full-too-deep}
-use Rattle.rules.specs.Grammar.Verdict.{IsDescription, Begins, Crowded, Accepted, Refused20, Refused21, Right}
+use Rattle.rules.specs.Grammar.Verdict.{IsDescription, Begins, Crowded, Accepted, Refused20, Refused21}
+use Rattle.laws.specs.Grammar.Answer.{Right, Answer, accepted, refused20, refused21}
 
 abbrev start : Stack
 start = title ∷ []

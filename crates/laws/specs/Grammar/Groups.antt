@@ -3,7 +3,7 @@ use mathlib.Core.Path.{_≡_, refl, ap, _∙_}
 use mathlib.Core.List.{_∷_}
 use Rattle.rules.specs.Text.Tokens.{Info, tk, Semi, NEXT}
 use Rattle.rules.specs.Grammar.Trees.{Tokens, Action, actionTokens, Members, end, also, next, membersTokens}
-use Rattle.rules.specs.Grammar.Groups.{Group, lone, with-also, Groups, last-group, next-group, groupsTokens, also-before, groupsOf}
+use Rattle.laws.specs.Grammar.Blocks.{Group, lone, with-also, Groups, last-group, next-group, groupsTokens, also-before, groupsOf}
 
 also-before-tokens : (a : Action) (i : Info) (gs : Groups) (ts : Tokens) → groupsTokens (also-before a i gs) ts ≡ actionTokens a (tk Semi i ∷ groupsTokens gs ts)
 unfolding also-before

@@ -33,7 +33,7 @@ use Rattle.laws.specs.Grammar.Rows.{operand, access-rest, access-bits, b
 use Rattle.laws.specs.Grammar.Rows.{Move, go, open-to, shut, Stack, after}
 use Rattle.rules.specs.Grammar.Trees.{flatten}
 use Rattle.laws.specs.Grammar.Rows.{recognise}
-use Rattle.rules.specs.Grammar.Verdict.{accepted}
+use Rattle.laws.specs.Grammar.Answer.{accepted}
 use Rattle.rules.specs.Grammar.Verdict.{blank}
 use Rattle.rules.specs.Grammar.Verdict.{opens, closes, down, counted-by, count, opened}
 use Rattle.rules.specs.Grammar.Verdict.{IsDescription, Crowded, Accepted}

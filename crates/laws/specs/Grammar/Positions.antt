@@ -29,7 +29,7 @@ use Rattle.laws.specs.Grammar.Rows.{selector-rest, selector-second, sele
 use Rattle.laws.specs.Grammar.Rows.{operand, access-rest, access-bits, bits-first, bits-more, bits-second, bits-close, part-done}
 use Rattle.laws.specs.Grammar.Rows.{Move, go, open-to, shut, Stack, after}
 use Rattle.laws.specs.Grammar.Rows.{recognise}
-use Rattle.rules.specs.Grammar.Verdict.{accepted}
+use Rattle.laws.specs.Grammar.Answer.{accepted}
 use Rattle.rules.specs.Grammar.Verdict.{IsDescription}
 use Rattle.laws.specs.Grammar.Exact.{description-of-accepted}
 

@@ -6,7 +6,8 @@ use native.Mathlib.Omega.{arith}
 use native.Mathlib.Decide.{decLt}
 use Rattle.rules.specs.Text.Tokens.{Info, Op, join, plus, minus, eql, neq, lss, leq, gtr, geq, and, eqv, or, xor}
 use Rattle.rules.specs.Grammar.Precedence.{tightness, Expr, leaf, node, Factor, number, group, inverse, Link, link, insert-by, insert, inserts, arrange}
-use Rattle.rules.specs.Grammar.Precedence.{factorOf, exprOf, head, links, Tight}
+use Rattle.rules.specs.Grammar.Precedence.{factorOf, exprOf}
+use Rattle.laws.specs.Grammar.Tight.{head, links, Tight}
 use Rattle.rules.specs.Grammar.Trees.{constant, parens, negated, no-more, with-op}
 
 tight-less : (n m : ℕ) (e : Expr) → n ≤ m → Tight m e → Tight n e

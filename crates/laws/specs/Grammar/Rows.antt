@@ -11,7 +11,8 @@ use Rattle.rules.specs.Text.Tokens.{Name, Const, Masked, LPar, RPar, LBra, RBra
 use Rattle.rules.specs.Text.Tokens.{BEGIN, END, NEXT, IF, DECODE, OTHERWISE, REPEAT, LEAVE, RESTART, MAIN, STOP, NO-OP}
 use Rattle.rules.specs.Text.Tokens.{NOT, AND, EQV, OR, XOR, EQL, NEQ, LSS, LEQ, GTR, GEQ}
 use Rattle.rules.specs.Grammar.Trees.{Tokens}
-use Rattle.rules.specs.Grammar.Verdict.{Answer, accepted, refused20, refused21, deepest}
+use Rattle.laws.specs.Grammar.Answer.{Answer, accepted, refused20, refused21}
+use Rattle.rules.specs.Limits.{deepest}
 
 -- where an action stands: in a block, in an alternative without selector, with one, behind OTHERWISE
 pub data Site : Type 0 where

@@ -9,7 +9,8 @@ use native.Mathlib.Decide.{decLt}
 use borrow.Author.Tests.{le-leb, lt-leb}
 use lib.Dec.{leb}
 use Rattle.rules.specs.Text.Tokens.{Info, Op}
-use Rattle.rules.specs.Grammar.Precedence.{tightness, Expr, leaf, node, Factor, Link, insert-by, insert, inserts, arrange, Tight}
+use Rattle.rules.specs.Grammar.Precedence.{tightness, Expr, leaf, node, Factor, Link, insert-by, insert, inserts, arrange}
+use Rattle.laws.specs.Grammar.Tight.{Tight}
 use Rattle.laws.specs.Grammar.Precedence.{insert-tight}
 
 -- an operator with its left operand

@@ -9,7 +9,7 @@ use Rattle.rules.specs.Steps.Control.{Live, callL, start, Sig, ends, goes, leav
 use Rattle.rules.specs.Steps.Runs.{Conf, running, finished, stopped, fault, Worked, perform, told, after, bodyAct, step, begin}
 use Rattle.rules.specs.Steps.Runs.{done, halted, paused, faulted, Run, ran, runFrom, run}
 use Rattle.laws.specs.Orders.Effect.{work-length}
-use Rattle.laws.specs.Orders.Ends.{Ended, EndsWell, endOf}
+use Rattle.rules.specs.Steps.Orders.{Ended, EndsWell, endOf}
 use Rattle.laws.specs.Orders.Descent.{LeftSteps, allowed, fault-stuck}
 use Rattle.laws.specs.Orders.Carriers.{frames}
 

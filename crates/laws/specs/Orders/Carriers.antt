@@ -10,7 +10,8 @@ use Rattle.rules.specs.Values.{Value, cut}
 use Rattle.rules.specs.Declarations.{Table}
 use Rattle.rules.specs.Steps.Actions.{Access}
 use Rattle.rules.specs.Steps.Evaluation.{Carriers, Outcome, gives, faulty, then, Field, storeAll, evaluate, evaluateAccesses, transferred}
-use Rattle.rules.specs.Whole.Sets.{longestChain, Sets, sets, readsOf, subscriptReads, stores, bodySets, bodyStops}
+use Rattle.rules.specs.Whole.Sets.{Sets, sets, readsOf, subscriptReads, stores, bodySets, bodyStops}
+use Rattle.rules.specs.Limits.{longestChain}
 use Rattle.laws.specs.Orders.Foot.{Foot, foot, Prints}
 use Rattle.laws.specs.Orders.Effect.{Agree, Frames}
 use Rattle.laws.specs.Orders.Fields.{word, stores-length, stores-keep, stores-agree}
@@ -33,18 +34,18 @@ module _ (ds : Table) where
       }
 
   -- the values that are stored, one for each field
-  abbrev parts : List Field → Value → List ℕ
+  abbrev pub parts : List Field → Value → List ℕ
   parts fs v = cut (map (λ f. f .size) fs) (v .number)
 
   -- a transfer that goes through, in its parts
-  record Moved (d : List Access) (e : Expr) (s t : Carriers) : Type 0 where
-    right-side : Value
-    fields : List Field
-    evaluated : evaluate ds s e ≡ gives right-side
-    located : evaluateAccesses ds s d ≡ gives fields
-    result : storeAll s fields (parts fields right-side) ≡ t
+  pub record Moved (d : List Access) (e : Expr) (s t : Carriers) : Type 0 where
+    pub right-side : Value
+    pub fields : List Field
+    pub evaluated : evaluate ds s e ≡ gives right-side
+    pub located : evaluateAccesses ds s d ≡ gives fields
+    pub result : storeAll s fields (parts fields right-side) ≡ t
 
-  moved-by : (d : List Access) (e : Expr) (s t : Carriers) → transferred ds s d e ≡ gives t → Moved d e s t
+  pub moved-by : (d : List Access) (e : Expr) (s t : Carriers) → transferred ds s d e ≡ gives t → Moved d e s t
   unfolding transferred
   moved-by d e s t h =
       let x = then-gave (evaluate ds s e) _ t h in
@@ -63,22 +64,22 @@ module _ (ds : Table) where
     sources : Alike ds s u (readsOf ds e ++ subscriptReads ds d)
     sources = alike-left ds s u (readsOf ds e ++ subscriptReads ds d) (stores ds d) a
 
-    targets : Alike ds s u (stores ds d)
+    pub targets : Alike ds s u (stores ds d)
     targets = alike-right ds s u (readsOf ds e ++ subscriptReads ds d) (stores ds d) a
 
-    same-value : evaluate ds s e ≡ evaluate ds u e
+    pub same-value : evaluate ds s e ≡ evaluate ds u e
     same-value = evaluate-agrees ds s u e (alike-left ds s u (readsOf ds e) (subscriptReads ds d) sources)
 
-    same-fields : evaluateAccesses ds s d ≡ evaluateAccesses ds u d
+    pub same-fields : evaluateAccesses ds s d ≡ evaluateAccesses ds u d
     same-fields = accesses-agree ds s u d (alike-right ds s u (readsOf ds e) (subscriptReads ds d) sources)
 
-    same-fault : (m p : ℕ) → transferred ds s d e ≡ faulty m p → transferred ds u d e ≡ faulty m p
+    pub same-fault : (m p : ℕ) → transferred ds s d e ≡ faulty m p → transferred ds u d e ≡ faulty m p
     unfolding transferred
     same-fault m p h =
         rw (← same-value, ← same-fields)
         (then-faulty (evaluate ds s e) _ _ m p (λ v. then-faulty (evaluateAccesses ds s d) _ _ m p (λ fs q. cc)) h)
 
-    same-stores :
+    pub same-stores :
         (t : Carriers) → length s ≡ length u → transferred ds s d e ≡ gives t
         → (v : Carriers) × (transferred ds u d e ≡ gives v) × Agree word (wordsIn ds (stores ds d)) t v
     unfolding transferred then
@@ -92,7 +93,7 @@ module _ (ds : Table) where
         )
 
   -- The frame facts of footprints by whole carriers.
-  pub frames : Frames ds printsOf
+  unfoldable pub frames : Frames ds printsOf
   frames =
       record {
         get = word;

@@ -5,8 +5,8 @@ use Prim.Native.Nat.{ℕ, _≤_}
 use Rattle.rules.specs.Declarations.{Name, Table}
 use Rattle.rules.specs.Steps.Evaluation.{Carriers}
 use Rattle.rules.specs.Steps.Runs.{Conf, Steps, begin, run}
-use Rattle.rules.specs.Whole.Orderly.{Orderly}
-use Rattle.laws.specs.Orders.Ends.{Ended, EndsWell, EveryOrder}
+use Rattle.laws.specs.Orders.Orderly.{Orderly}
+use Rattle.rules.specs.Steps.Orders.{Ended, EndsWell, EveryOrder}
 use Rattle.laws.specs.Orders.Carriers.{frames}
 use Rattle.laws.specs.Orders.Static.{bodies-ok}
 use Rattle.laws.specs.Orders.Theorem

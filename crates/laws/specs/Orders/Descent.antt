@@ -11,7 +11,7 @@ use Rattle.laws.specs.Orders.Foot.{Prints}
 use Rattle.laws.specs.Orders.Ok.{Env, OkL, OkS, BodiesOk, next-ok}
 use Rattle.laws.specs.Orders.Diamond.{Free, diamond}
 use Rattle.laws.specs.Orders.Effect.{Frames}
-use Rattle.laws.specs.Orders.Ends.{Ended, Fault}
+use Rattle.rules.specs.Steps.Orders.{Ended, Faulted}
 use Rattle.laws.specs.Orders.Joins.{Joined, k-faults, m-faults, joins, join}
 
 module _ (ds : Table) where
@@ -32,7 +32,7 @@ module _ (ds : Table) where
   allowed (suc n) (fault m p s) d e = e
 
   -- a fault never comes to an end
-  pub fault-stuck : (n : ℕ) (c d : Conf) → Ended d → Steps ds n c d → Fault c → ⊥
+  pub fault-stuck : (n : ℕ) (c d : Conf) → Ended d → Steps ds n c d → Faulted c → ⊥
   fault-stuck zero (running r s) d h e q = q
   fault-stuck zero (finished s) d h e q = q
   fault-stuck zero (stopped s) d h e q = q
@@ -61,7 +61,7 @@ module _ (ds : Table) where
   after-ok P E s f h (faulty m p) = tt
 
   module _ {P : Prints} (M : Frames ds P) (bodies : BodiesOk P (bodyAct ds)) (E : Env) where
-    step-ok : (r : Live) (m : Mv r) (s : Carriers) → OkL P E r → OkC P E (step ds r m s)
+    pub step-ok : (r : Live) (m : Mv r) (s : Carriers) → OkL P E r → OkC P E (step ds r m s)
     step-ok r m s h = after-ok P E s (next (bodyAct ds) r m) (λ v. next-ok P (bodyAct ds) bodies E r m v h) (perform ds (work r m) s)
 
     module _ (d : Conf) (h : Ended d) where

@@ -60,7 +60,7 @@ module _ {ds : Table} {P : Prints} (M : Frames ds P) where
   work-length (tests e) s w h = ap length (sym (tested-gives s (evaluate ds s e) w h))
   work-length nothing s w h = let q : w .carriers ≡ s = cc in ap length q
 
-  work-keeps : (o : Work) (s : Carriers) (w : Worked) → perform ds o s ≡ gives w → (i : ℕ) → workFoot P o .wr i ≡ false → get (w .carriers) i ≡ get s i
+  pub work-keeps : (o : Work) (s : Carriers) (w : Worked) → perform ds o s ≡ gives w → (i : ℕ) → workFoot P o .wr i ≡ false → get (w .carriers) i ≡ get s i
   work-keeps (moves d e) s w h i q = M .move-keeps d e s (w .carriers) (moved-gives (transferred ds s d e) w h .0) i q
   work-keeps (tests e) s w h i q = ap (λ z. get z i) (sym (tested-gives s (evaluate ds s e) w h))
   work-keeps nothing s w h i q = let z : w .carriers ≡ s = cc in ap (λ z. get z i) z
@@ -71,12 +71,12 @@ module _ {ds : Table} {P : Prints} (M : Frames ds P) where
   work-faults nothing s u m p a h = cc
 
   -- what a work gives on other carriers: the same number, and the same in what it writes
-  record Again (o : Work) (w : Worked) (u : Carriers) : Type 0 where
-    carriers : Carriers
-    gives-so : perform ds o u ≡ gives (worked carriers (w .number))
-    agrees : Agree get (workFoot P o .wr) (w .carriers) carriers
+  pub record Again (o : Work) (w : Worked) (u : Carriers) : Type 0 where
+    pub carriers : Carriers
+    pub gives-so : perform ds o u ≡ gives (worked carriers (w .number))
+    pub agrees : Agree get (workFoot P o .wr) (w .carriers) carriers
 
-  work-gives : (o : Work) (s u : Carriers) (w : Worked) → length s ≡ length u → Agree get (workFoot P o .rd) s u → perform ds o s ≡ gives w → Again o w u
+  pub work-gives : (o : Work) (s u : Carriers) (w : Worked) → length s ≡ length u → Agree get (workFoot P o .rd) s u → perform ds o s ≡ gives w → Again o w u
   work-gives (moves d e) s u w l a h =
       let x = moved-gives (transferred ds s d e) w h in
       let y = M .move-gives d e s u (w .carriers) l a (x .0) in
@@ -89,7 +89,7 @@ module _ {ds : Table} {P : Prints} (M : Frames ds P) where
       }
   work-gives nothing s u w l a h = record { carriers = u; gives-so = cc; agrees = λ i p. absurd (false≢true p) }
 
-  outside : (F G : Cells) → Disjoint F G → (i : ℕ) → G i ≡ true → F i ≡ false
+  pub outside : (F G : Cells) → Disjoint F G → (i : ℕ) → G i ≡ true → F i ≡ false
   outside F G x i p = go (F i) refl
     where
       go : (b : Bool) → F i ≡ b → F i ≡ false

@@ -1,53 +1,10 @@
--- How runs end, as configurations and as answers, and what is said of every order of the steps.
-use Prim.Native.Nat.{ℕ, _+_, _≤_}
-use mathlib.Core.Path.{_≡_}
-use Rattle.rules.specs.Declarations.{Table}
+-- The configuration in which a run has ended well is an end.
 use Rattle.rules.specs.Steps.Evaluation.{Carriers}
-use Rattle.rules.specs.Steps.Runs.{Conf, running, finished, stopped, fault, Steps, Ending, done, halted, paused, faulted, Run}
-
--- it has ended, and well
-abbrev pub Ended : Conf → Type 0
-Ended (running r s) = ⊥
-Ended (finished s) = Unit {0}
-Ended (stopped s) = Unit {0}
-Ended (fault m p s) = ⊥
-
-abbrev pub Fault : Conf → Type 0
-Fault (running r s) = ⊥
-Fault (finished s) = ⊥
-Fault (stopped s) = ⊥
-Fault (fault m p s) = Unit {0}
-
--- "Done or Stopped"
-abbrev pub Well : Ending → Type 0
-Well done = Unit {0}
-Well halted = Unit {0}
-Well paused = ⊥
-Well (faulted m p) = ⊥
-
-abbrev pub EndsWell : Run → Type 0
-EndsWell r = Well (r .ending)
-
--- The configuration in which a run has ended well. Of any other run nothing is said by it: a fault stands there.
-abbrev pub endAs : Ending → Carriers → Conf
-endAs done s = finished s
-endAs halted s = stopped s
-endAs paused s = fault 0 0 s
-endAs (faulted m p) s = fault m p s
-
-abbrev pub endOf : Run → Conf
-endOf r = endAs (r .ending) (r .carriers)
+use Rattle.rules.specs.Steps.Runs.{Ending, done, halted, paused, faulted}
+use Rattle.rules.specs.Steps.Orders.{Ended, Well, endAs}
 
 pub end-ended : (e : Ending) (s : Carriers) → Well e → Ended (endAs e s)
 end-ended done s h = tt
 end-ended halted s h = tt
 end-ended paused s h = absurd h
 end-ended (faulted m p) s h = absurd h
-
--- An order of k steps that has come to c, against a run r that ended well: it is not longer, it has not faulted, it can always go on to the end of r, and
--- if it has ended, it has ended there.
-pub record EveryOrder (ds : Table) (r : Run) (k : ℕ) (c : Conf) : Type 0 where
-  pub short : k ≤ r .steps
-  pub sound : Fault c → ⊥
-  pub goes-on : (j : ℕ) × (k + j ≡ r .steps) × Steps ds j c (endOf r)
-  pub same : Ended c → (k ≡ r .steps) × (c ≡ endOf r)

@@ -8,7 +8,7 @@ use Rattle.rules.specs.Steps.Runs.{running, Worked, worked, perform, told, afte
 use Rattle.laws.specs.Orders.Foot.{Prints, Indep·sym}
 use Rattle.laws.specs.Orders.Diamond.{Faulty, After, Meet, neither, first, second, meet, Free}
 use Rattle.laws.specs.Orders.Effect.{Frames, Both, later-faults, commute}
-use Rattle.laws.specs.Orders.Ends.{Fault}
+use Rattle.rules.specs.Steps.Orders.{Faulted}
 
 module _ (ds : Table) where
   step-by :
@@ -16,18 +16,18 @@ module _ (ds : Table) where
       → next (bodyAct ds) r m (w .number) ≡ x → step ds r m s ≡ told s (w .carriers) x
   step-by r m s w x e q = ap (after s (next (bodyAct ds) r m)) e ∙ ap (told s (w .carriers)) q
 
-  step-faults : (r : Live) (m : Mv r) (s : Carriers) (n p : ℕ) → perform ds (work r m) s ≡ faulty n p → Fault (step ds r m s)
-  step-faults r m s n p e = subst Fault (sym (ap (after s (next (bodyAct ds) r m)) e)) tt
+  step-faults : (r : Live) (m : Mv r) (s : Carriers) (n p : ℕ) → perform ds (work r m) s ≡ faulty n p → Faulted (step ds r m s)
+  step-faults r m s n p e = subst Faulted (sym (ap (after s (next (bodyAct ds) r m)) e)) tt
 
   next-faults :
       (r : Live) (m : Mv r) (s : Carriers) (w : Worked) → perform ds (work r m) s ≡ gives w
-      → Faulty (next (bodyAct ds) r m (w .number)) → Fault (step ds r m s)
-  next-faults r m s w e h = subst Fault (sym (step-by r m s w (faults (h .number) (h .place)) e (h .is))) tt
+      → Faulty (next (bodyAct ds) r m (w .number)) → Faulted (step ds r m s)
+  next-faults r m s w e h = subst Faulted (sym (step-by r m s w (faults (h .number) (h .place)) e (h .is))) tt
 
   -- two moves from one configuration, seen from the move k: it faults; or m faults after it; or the two orders meet
   pub data Joined (r : Live) (m k : Mv r) (s : Carriers) : Type 0 where
-    k-faults : Fault (step ds r k s) → Joined r m k s
-    m-faults : (r₁ : Live) (m₁ : Mv r₁) (s₁ : Carriers) → step ds r k s ≡ running r₁ s₁ → Fault (step ds r₁ m₁ s₁) → Joined r m k s
+    k-faults : Faulted (step ds r k s) → Joined r m k s
+    m-faults : (r₁ : Live) (m₁ : Mv r₁) (s₁ : Carriers) → step ds r k s ≡ running r₁ s₁ → Faulted (step ds r₁ m₁ s₁) → Joined r m k s
     joins :
         (r₁ : Live) (m₁ : Mv r₁) (s₁ : Carriers) (r₂ : Live) (k₂ : Mv r₂) (s₂ : Carriers)
         → step ds r k s ≡ running r₁ s₁ → step ds r m s ≡ running r₂ s₂ → step ds r₁ m₁ s₁ ≡ step ds r₂ k₂ s₂ → Joined r m k s
@@ -39,10 +39,10 @@ module _ (ds : Table) where
       → step ds r₁ m₁ s₁ ≡ told s₁ u x → step ds r₂ k₂ s₂ ≡ told s₂ u x → Joined r m k s
   met r m k s r₁ m₁ r₂ k₂ s₁ s₂ u ends e b p q = joins r₁ m₁ s₁ r₂ k₂ s₂ e b (p ∙ sym q)
   met r m k s r₁ m₁ r₂ k₂ s₁ s₂ u (goes t) e b p q = joins r₁ m₁ s₁ r₂ k₂ s₂ e b (p ∙ sym q)
-  met r m k s r₁ m₁ r₂ k₂ s₁ s₂ u (leaves l) e b p q = m-faults r₁ m₁ s₁ e (subst Fault (sym p) tt)
-  met r m k s r₁ m₁ r₂ k₂ s₁ s₂ u (restarts l) e b p q = m-faults r₁ m₁ s₁ e (subst Fault (sym p) tt)
+  met r m k s r₁ m₁ r₂ k₂ s₁ s₂ u (leaves l) e b p q = m-faults r₁ m₁ s₁ e (subst Faulted (sym p) tt)
+  met r m k s r₁ m₁ r₂ k₂ s₁ s₂ u (restarts l) e b p q = m-faults r₁ m₁ s₁ e (subst Faulted (sym p) tt)
   met r m k s r₁ m₁ r₂ k₂ s₁ s₂ u stops e b p q = joins r₁ m₁ s₁ r₂ k₂ s₂ e b (p ∙ sym q)
-  met r m k s r₁ m₁ r₂ k₂ s₁ s₂ u (faults n p′) e b p q = m-faults r₁ m₁ s₁ e (subst Fault (sym p) tt)
+  met r m k s r₁ m₁ r₂ k₂ s₁ s₂ u (faults n p′) e b p q = m-faults r₁ m₁ s₁ e (subst Faulted (sym p) tt)
 
   module _ {P : Prints} (M : Frames ds P) where
     module _ (r : Live) (m k : Mv r) (s : Carriers) (d : Free (bodyAct ds) P r m k) where

@@ -10,7 +10,8 @@ use Rattle.rules.specs.Steps.Actions.{ins, Ins}
 use Rattle.rules.specs.Steps.Control.{Live, one, seqL, both, left, right, labL, loopL, callL, start, leftmost}
 use Rattle.rules.specs.Steps.Control.{Sig, ends, goes, leaves, restarts, stops, faults, next}
 use Rattle.rules.specs.Steps.Runs.{bodyAct}
-use Rattle.rules.specs.Whole.Sets.{longestChain, chainOver}
+use Rattle.rules.specs.Whole.Sets.{chainOver}
+use Rattle.rules.specs.Limits.{longestChain}
 use Rattle.laws.specs.Orders.Tests.{impossible}
 use Rattle.laws.specs.Orders.Flat.{Link, at, exit, Code, At, pc, push, nextM, Labels, outer, bind, leaveTo, restartTo, HoldsI, ownLabel, HoldsBodies}
 use Rattle.laws.specs.Orders.Stands.{Stands, Says, next-says, call-stands}

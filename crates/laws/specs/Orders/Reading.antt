@@ -40,7 +40,7 @@ then-gave (gives a) f b h = (a, refl, h)
 then-gave (faulty m p) f b h = impossible (cc)
 
 module _ (ds : Table) where
-  field-lands : (i : Info) (b : Bits) (n : ℕ) (f : Field) → fieldOf ds i b n ≡ gives f → Lands (wordsIn ds (owner ds (i .word))) f
+  pub field-lands : (i : Info) (b : Bits) (n : ℕ) (f : Field) → fieldOf ds i b n ≡ gives f → Lands (wordsIn ds (owner ds (i .word))) f
   unfolding fieldOf fieldIn owner member
   field-lands i b n f h = by (reach ds (i .word)) refl h
     where

@@ -9,9 +9,10 @@ use Rattle.rules.specs.Grammar.Precedence.{Expr}
 use Rattle.rules.specs.Declarations.{Name, Table}
 use Rattle.rules.specs.Steps.Actions.{Act, seq, par, label, ins, Ins, iff, decode, repeat, leave, restart, call, stop, noop, transfer, Alts, end, alt}
 use Rattle.rules.specs.Steps.Runs.{bodyAct}
-use Rattle.rules.specs.Whole.Sets.{longestChain, Sets, sets, union, member, race, meet, readsOf, setsOf, setsI, setsAlts, bodySets, touched}
-use Rattle.rules.specs.Whole.Sets.{stopsIn, stopsI, stopsAlts, bodyStops, mayStop, without, jumpsOut, jumpsI, jumpsAlts}
-use Rattle.rules.specs.Whole.Orderly.{Groups, GroupsI, GroupsAlts, Orderly}
+use Rattle.rules.specs.Whole.Sets.{Sets, sets, union, member, race, meet, readsOf, setsOf, setsI, setsAlts, bodySets, touched}
+use Rattle.rules.specs.Limits.{longestChain}
+use Rattle.rules.specs.Whole.Sets.{stopsIn, stopsI, stopsAlts, bodyStops, mayStop}
+use Rattle.laws.specs.Orders.Orderly.{AllApart, AllApartI, AllApartAlts, Orderly, without, jumpsOut, jumpsI, jumpsAlts}
 use Rattle.laws.specs.Orders.Foot.{Within, Sub, Indep, Sub·refl, Sub·trans}
 use Rattle.laws.specs.Orders.Ok.{Env, under, In, OkA, OkI, OkAlts, BodiesOk, inBody}
 use Rattle.laws.specs.Orders.Ok.{member as as-member}
@@ -139,7 +140,7 @@ module _ (ds : Table) where
   mutual
     unfolding setsOf setsI setsAlts stopsIn stopsI stopsAlts jumpsOut jumpsI jumpsAlts touched mayStop
 
-    fits-ok : (a : Act) (E : Env) → Groups ds a → Fits (deedsOf a) E → OkA (printsOf ds) E a
+    fits-ok : (a : Act) (E : Env) → AllApart ds a → Fits (deedsOf a) E → OkA (printsOf ds) E a
     fits-ok (seq a b) E g f = (fits-ok a E (g .0) (fits-left (deedsOf a) (deedsOf b) E f), fits-ok b E (g .1) (fits-right (deedsOf a) (deedsOf b) E f))
     fits-ok (par a b) E g f = (
       footOf ds (touched ds a),
@@ -155,7 +156,7 @@ module _ (ds : Table) where
     fits-ok (label l a) E g f = fits-ok a (under l E) g (fits-label l (deedsOf a) E f)
     fits-ok (ins i) E g f = fitsI-ok i E g f
 
-    fitsI-ok : (i : Ins) (E : Env) → GroupsI ds i → Fits (deedsI i) E → OkI (printsOf ds) E i
+    fitsI-ok : (i : Ins) (E : Env) → AllApartI ds i → Fits (deedsI i) E → OkI (printsOf ds) E i
     fitsI-ok (iff e a) E g f = (test-reads e (deedsOf a) E f, fits-ok a E g (fits-right (testing e) (deedsOf a) E f))
     fitsI-ok (decode p e bs) E g f = (test-reads e (deedsAlts bs) E f, fitsAlts-ok bs E g (fits-right (testing e) (deedsAlts bs) E f))
     fitsI-ok (repeat a) E g f = fits-ok a E g f
@@ -166,7 +167,7 @@ module _ (ds : Table) where
     fitsI-ok noop E g f = tt
     fitsI-ok (transfer d e) E g f = f .within
 
-    fitsAlts-ok : (bs : Alts) (E : Env) → GroupsAlts ds bs → Fits (deedsAlts bs) E → OkAlts (printsOf ds) E bs
+    fitsAlts-ok : (bs : Alts) (E : Env) → AllApartAlts ds bs → Fits (deedsAlts bs) E → OkAlts (printsOf ds) E bs
     fitsAlts-ok end E g f = tt
     fitsAlts-ok (alt c a bs) E g f =
         (fits-ok a E (g .0) (fits-left (deedsOf a) (deedsAlts bs) E f), fitsAlts-ok bs E (g .1) (fits-right (deedsOf a) (deedsAlts bs) E f))

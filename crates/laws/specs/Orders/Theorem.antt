@@ -11,7 +11,8 @@ use Rattle.rules.specs.Steps.Runs.{Conf, running, finished, stopped, fault, Ste
 use Rattle.laws.specs.Orders.Foot.{Prints, Sub·refl}
 use Rattle.laws.specs.Orders.Ok.{Env, OkL, BodiesOk, call-ok}
 use Rattle.laws.specs.Orders.Effect.{Frames}
-use Rattle.laws.specs.Orders.Ends.{Ended, EndsWell, endOf, end-ended, EveryOrder}
+use Rattle.laws.specs.Orders.Ends.{end-ended}
+use Rattle.rules.specs.Steps.Orders.{Ended, EndsWell, endOf, EveryOrder}
 use Rattle.laws.specs.Orders.Descent.{allowed, every, leftward, fault-stuck}
 use Rattle.laws.specs.Orders.Budget.{Took, took, ends-well}
 

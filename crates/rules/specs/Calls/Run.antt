@@ -3,7 +3,7 @@ use Prim.Native.Nat.{ℕ, _<_, _≤_}
 use mathlib.Core.Path.{_≡_}
 use mathlib.Core.List.{List}
 use lib.ListN.{length}
-use Rattle.rules.specs.Text.Scan.{longestText}
+use Rattle.rules.specs.Limits.{longestText}
 use Rattle.rules.specs.Steps.Runs.{Ending, done, halted, paused, faulted}
 use Rattle.rules.specs.Answers.{Result, refusal, ended, Runs, resultNumbers}
 use Rattle.rules.specs.Calls.Memory.{Memory, Enough, settled}

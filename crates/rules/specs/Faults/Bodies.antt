@@ -4,20 +4,17 @@ use mathlib.Core.Bool.{Bool, true, false, not, _&&_, _||_}
 use mathlib.Core.List.{List, [], _∷_, _++_}
 use mathlib.Core.Option.{Option, none, some}
 use lib.Dec.{leb, ltb, eqb}
+use Rattle.rules.specs.Limits.{mostAlternatives, mostBits}
 use Rattle.rules.specs.Text.Tokens.{Info}
 use Rattle.rules.specs.Text.Scan.{sameBytes}
 use Rattle.rules.specs.Grammar.Trees.{Bits, all-bits, bits, Subscript, Joined, alone, joined, Literal, Selector, one-of, any-of, Action, block, labelled, if-then, decode, repeat, leave, restart, activate, stop, no-op, transfer, Members, end, also, next}
 use Rattle.rules.specs.Grammar.Trees.{Alternatives, counted, selected, Counted, counted-end, counted-more, Selected, select, otherwise, SelectedMore, selected-end, selected-more, Operand, Tail}
 use Rattle.rules.specs.Grammar.Precedence.{Expr, leaf, node, Factor, number, cell, group, inverse, Index, no-index, index, exprOf, indexOf}
-use Rattle.rules.specs.Values.{mostBits, opBits}
+use Rattle.rules.specs.Values.{opBits}
 use Rattle.rules.specs.Selectors.{Item, pattern, between, highest, selectorItems, literalInfo}
 use Rattle.rules.specs.Declarations.{Name, Names, howMany, BitNames, bitCount, Declared, Table, numberOf, namesOf, Reach, reach}
 use Rattle.rules.specs.Faults.Fault.{Fault, fault, when}
 use Rattle.rules.specs.Faults.Declared.{isKnown, inside, declaredAt}
-
--- the most alternatives
-abbrev pub mostAlternatives : ℕ
-mostAlternatives = 64
 
 -- its faults, and its length if it has none
 pub record Judged : Type 0 where
@@ -55,10 +52,13 @@ abbrev pub accessJudged : ℕ → Option Names → Option BitNames → Index →
 accessJudged p w none x b = judged (fault 41 p ∷ []) 0
 accessJudged p w (some c) x b = let j = bitsJudged p c b in judged (when (not (subscripted w x)) 41 p ++ j .faults) (j .bits)
 
+-- 40: "unknown name"; the outer name is known, and has neither bits nor body
+abbrev pub undeclared : Name → Info → List Fault
+undeclared outer i = when (not (sameBytes outer (i .word))) 40 (i .place) ++ when (sameBytes outer (i .word)) 41 (i .place)
+
 module _ (outer : Name) (ds : Table) where
-  -- 40: "unknown name"; the outer name is known, and has neither bits nor body
   unfoldable pub judgeName : Info → Index → Bits → Option Declared → Judged
-  judgeName i x b none = judged (when (not (sameBytes outer (i .word))) 40 (i .place) ++ when (sameBytes outer (i .word)) 41 (i .place)) 0
+  judgeName i x b none = judged (undeclared outer i) 0
   judgeName i x b (some d) = accessJudged (i .place) (d .words) (d .bits) x b
 
   unfoldable pub judgeAccess : Info → Index → Bits → Judged
@@ -116,10 +116,11 @@ module _ (outer : Name) (ds : Table) where
 
   -- "`P()` on no body"
   abbrev pub activated : Info → Option Declared → List Fault
-  activated n none = when (not (sameBytes outer (n .word))) 40 (n .place) ++ when (sameBytes outer (n .word)) 41 (n .place)
+  activated n none = undeclared outer n
   activated n (some d) = elim (d .body) [ none ↦ fault 41 (n .place) ∷ [] | some a ↦ [] ]
 
--- 45: whether some value lies in both of two items. Two patterns: they agree in each bit that is free in neither.
+-- 45: whether some value lies in both of two items; that it is so is the law `meet-share` with `share-meet` (crates/selectors, Laws/Exact.antt).
+-- Two patterns: they agree in each bit that is free in neither.
 unfoldable pub patternsMeet : ℕ → ℕ → ℕ → ℕ → ℕ → Bool
 patternsMeet zero v f w g = true
 patternsMeet (suc n) v f w g = (eqb (f % 2) 1 || (eqb (g % 2) 1 || eqb (v % 2) (w % 2))) && patternsMeet n (v / 2) (f / 2) (w / 2) (g / 2)
@@ -140,9 +141,9 @@ reaches (suc n) v f l h =
     ]
 
 unfoldable pub itemsMeet : Item → Item → Bool
-itemsMeet (pattern v f) (pattern w g) = patternsMeet 64 v f w g
-itemsMeet (pattern v f) (between l h) = reaches 64 v f l h
-itemsMeet (between l h) (pattern v f) = reaches 64 v f l h
+itemsMeet (pattern v f) (pattern w g) = patternsMeet mostBits v f w g
+itemsMeet (pattern v f) (between l h) = reaches mostBits v f l h
+itemsMeet (between l h) (pattern v f) = reaches mostBits v f l h
 itemsMeet (between l h) (between m k) = leb (max l m) (min h k)
 
 unfoldable pub meetsAny : Item → List Item → Bool

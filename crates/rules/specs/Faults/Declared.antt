@@ -5,20 +5,10 @@ use mathlib.Core.List.{List, [], _∷_, _++_}
 use mathlib.Core.Option.{Option, none, some}
 use lib.Dec.{leb, ltb, eqb}
 use lib.ListN.{getElem?}
+use Rattle.rules.specs.Limits.{largestName, mostDeclarations, mostWords, mostBits}
 use Rattle.rules.specs.Text.Scan.{sameBytes}
-use Rattle.rules.specs.Values.{mostBits}
 use Rattle.rules.specs.Declarations.{Name, Names, howMany, BitNames, one-unnamed, these, bitCount, Target, Declared, Table, numberOf, wordsOf}
 use Rattle.rules.specs.Faults.Fault.{Fault, when}
-
--- the largest bit or word name, the most declarations and words
-abbrev pub largestName : ℕ
-largestName = 4095
-
-abbrev pub mostDeclarations : ℕ
-mostDeclarations = 256
-
-abbrev pub mostWords : ℕ
-mostWords = 4096
 
 -- 30: "name declared twice, outer name included"; the names before it are known
 unfoldable pub isKnown : Name → List Name → Bool

@@ -8,7 +8,8 @@ use Rattle.rules.specs.Grammar.Trees.{Action, block, labelled, if-then, 
 use Rattle.rules.specs.Grammar.Trees.{Alternatives, counted, selected, Counted, counted-end, counted-more, Selected, select, otherwise, SelectedMore, selected-end, selected-more}
 use Rattle.rules.specs.Declarations.{Name, Declared, Table}
 use Rattle.rules.specs.Steps.Actions.{Act, actOf}
-use Rattle.rules.specs.Whole.Sets.{Sets, touched, race, mayStop, chainOver, longestChain}
+use Rattle.rules.specs.Whole.Sets.{Sets, touched, race, mayStop, chainOver}
+use Rattle.rules.specs.Limits.{longestChain}
 use Rattle.rules.specs.Faults.Fault.{Fault, fault, when}
 use Rattle.rules.specs.Faults.Declared.{isKnown}
 use Rattle.rules.specs.Faults.Bodies.{firstPlace}

@@ -1,7 +1,7 @@
 -- "Binding, tightest first: NOT; `@`; `+ -`; relations; AND EQV; OR XOR. Each associates to the left; parentheses override." The tree of a chain
--- `operand op operand op ..` is the one tree that has its operands and operators in their order and is tight, as defined below.
+-- `operand op operand op ..` is the one tree that has its operands and operators in their order and in which operators bind so: `Tight` and `arranged-only` of the laws.
 use mathlib.Core.List.{List, [], _∷_}
-use Prim.Native.Nat.{ℕ, suc, _≤_}
+use Prim.Native.Nat.{ℕ}
 use native.Mathlib.Decide.{decLt}
 use Rattle.rules.specs.Text.Tokens.{Info, Op, join, plus, minus, eql, neq, lss, leq, gtr, geq, and, eqv, or, xor}
 use Rattle.rules.specs.Grammar.Trees.{Bits, Operand, constant, access, parens, negated, Tail, no-more, with-op, Subscript, no-subscript, subscript}
@@ -83,17 +83,3 @@ unfoldable mutual
 
 unfoldable pub exprOf : Operand → Tail → Expr
 exprOf o t = arrange (factorOf o) (linksOf t)
-
--- a tree's first operand, and its links in front of others
-abbrev pub head : Expr → Factor
-head (leaf f) = f
-head (node o i l r) = head l
-
-abbrev pub links : Expr → List Link → List Link
-links (leaf f) ks = ks
-links (node o i l r) ks = links l (link o i (head r) ∷ links r ks)
-
--- every operator binds as tightly as n, one on its left as tightly as itself, and one on its right tighter
-abbrev pub Tight : ℕ → Expr → Type 0
-Tight n (leaf f) = Unit {0}
-Tight n (node o i l r) = (n ≤ tightness o) × (Tight (tightness o) l × Tight (suc (tightness o)) r)

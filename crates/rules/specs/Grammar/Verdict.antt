@@ -5,16 +5,9 @@ use mathlib.Core.List.{List, [], _∷_, _++_}
 use Prim.Native.Nat.{ℕ, zero, suc, _≤_, _<_}
 use lib.Dec.{T}
 use lib.ListN.{length, take, getD}
+use Rattle.rules.specs.Limits.{deepest}
 use Rattle.rules.specs.Text.Tokens.{Kind, Info, Token, tk, Name, same, BEGIN, END, LPar, RPar, LBra, RBra}
 use Rattle.rules.specs.Grammar.Trees.{Tokens, Description, flatten}
-
--- the deepest nesting
-abbrev pub deepest : ℕ
-deepest = 32
-
-pub data Answer : Type 0 where
-  accepted : Answer
-  refused20 refused21 : ℕ → Answer
 
 abbrev pub blank : Info
 blank = record { place = 0; word = []; value = 0; free = 0; bits = 0 }
@@ -82,8 +75,3 @@ pub record Refused21 (ts : Tokens) (k : ℕ) : Type 0 where
   pub crowded : Crowded ts k
   pub begins : Begins (take (suc k) ts)
   pub shallow : (j : ℕ) → j < k → ¬ Crowded ts j
-
-abbrev pub Right : Tokens → Answer → Type 0
-Right ts accepted = Accepted ts
-Right ts (refused20 k) = Refused20 ts k
-Right ts (refused21 k) = Refused21 ts k

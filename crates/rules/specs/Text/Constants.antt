@@ -5,6 +5,7 @@ use mathlib.Core.Bool.{Bool, true, false, _&&_, _||_}
 use mathlib.Core.List.{List, [], _∷_}
 use lib.Dec.{leb, ltb, eqb}
 use lib.ListN.{length}
+use Rattle.rules.specs.Limits.{mostBits}
 use Rattle.rules.specs.Text.Bytes.{fold}
 
 -- the bits of a digit, by the prefix: binary, octal, hexadecimal
@@ -62,7 +63,7 @@ bitsFrom (suc n) k v = elim (ltb v (2 ^ k)) [ true ↦ k | false ↦ bitsFrom n 
 unfoldable pub decimalBits : ℕ → ℕ
 decimalBits v = bitsFrom 63 1 v
 
--- what the bytes of a constant come to: its value, its free bits and its length, or that it is malformed or over 64 bits
+-- what the bytes of a constant come to: its value, its free bits and its length, or that it is malformed or too long
 pub data Constant : Type 0 where
   malformed : Constant
   constant : ℕ → ℕ → ℕ → Constant
@@ -70,11 +71,11 @@ pub data Constant : Type 0 where
 -- the digits of a decimal
 unfoldable pub decimal : List ℕ → Constant
 decimal ds =
-    elim (all (isDigitOf 10) ds && ltb (valueFrom 10 0 ds) (2 ^ 64))
+    elim (all (isDigitOf 10) ds && ltb (valueFrom 10 0 ds) (2 ^ mostBits))
     [ true ↦ constant (valueFrom 10 0 ds) 0 (decimalBits (valueFrom 10 0 ds)) | false ↦ malformed ]
 
 -- the digits behind a prefix, of n bits each
 unfoldable pub based : ℕ → List ℕ → Constant
 based n ds =
-    elim (all (isBasedDigit (2 ^ n)) ds && (ltb 0 (length ds) && leb (n * length ds) 64))
+    elim (all (isBasedDigit (2 ^ n)) ds && (ltb 0 (length ds) && leb (n * length ds) mostBits))
     [ true ↦ constant (valueFrom (2 ^ n) 0 ds) (freeFrom (2 ^ n) 0 ds) (n * length ds) | false ↦ malformed ]

@@ -6,20 +6,11 @@ use mathlib.Core.List.{List, [], _∷_, map}
 use mathlib.Core.Option.{Option, none, some}
 use lib.Dec.{leb, ltb, eqb}
 use lib.ListN.{length, take}
+use Rattle.rules.specs.Limits.{longestName, mostTokens}
 use Rattle.rules.specs.Text.Bytes.{Class, classOf, run, fold, inName, inConstant, inComment}
 use Rattle.rules.specs.Text.Bytes.{forbidden, blank, exclamation, letter, digit, dot, prefix, query, mark, other}
 use Rattle.rules.specs.Text.Tokens.{Kind, Name, Const, Masked, Info, Token, tk, Spelling, keywords, marks}
 use Rattle.rules.specs.Text.Constants.{Constant, malformed, constant, isQuery, any, digitBits, decimal, based}
-
--- the limits of a text, of a name and of a token table
-abbrev pub longestText : ℕ
-longestText = 32768
-
-abbrev pub longestName : ℕ
-longestName = 32
-
-abbrev pub mostTokens : ℕ
-mostTokens = 8192
 
 -- What stands at a place. Each takes its first byte and as many behind it as it says: nothing (a blank, a comment) or a token; or it is refused.
 pub data Lexeme : Type 0 where

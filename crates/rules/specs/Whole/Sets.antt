@@ -6,15 +6,11 @@ use mathlib.Core.Bool.{Bool, true, false, _||_}
 use mathlib.Core.List.{List, [], _∷_, _++_}
 use mathlib.Core.Option.{Option, none, some}
 use lib.Dec.{eqb}
-use Rattle.rules.specs.Text.Scan.{sameBytes}
+use Rattle.rules.specs.Limits.{longestChain}
 use Rattle.rules.specs.Grammar.Precedence.{Expr, leaf, node, Factor, number, cell, group, inverse, Index, no-index, index}
 use Rattle.rules.specs.Declarations.{Name, Table, Reach, reach}
 use Rattle.rules.specs.Steps.Actions.{Access, Act, seq, par, label, ins, Ins, iff, decode, repeat, leave, restart, call, stop, noop, transfer, Alts, end, alt}
 use Rattle.rules.specs.Steps.Runs.{bodyAct}
-
--- the longest chain of activations
-abbrev pub longestChain : ℕ
-longestChain = 16
 
 pub record Sets : Type 0 where
   pub reads : List ℕ
@@ -165,30 +161,3 @@ anyName p (n ∷ ns) = p n || anyName p ns
 unfoldable pub chainOver : Table → ℕ → Name → Bool
 chainOver ds zero n = true
 chainOver ds (suc k) n = anyName (chainOver ds k) (callsIn (bodyAct ds n))
-
--- the targets of LEAVE and RESTART that lie outside an action
-unfoldable pub without : Name → List Name → List Name
-without l [] = []
-without l (n ∷ ns) = elim (sameBytes n l) [ true ↦ without l ns | false ↦ n ∷ without l ns ]
-
-unfoldable mutual
-  pub jumpsOut : Act → List Name
-  jumpsOut (seq a b) = jumpsOut a ++ jumpsOut b
-  jumpsOut (par a b) = jumpsOut a ++ jumpsOut b
-  jumpsOut (label l a) = without l (jumpsOut a)
-  jumpsOut (ins i) = jumpsI i
-
-  pub jumpsI : Ins → List Name
-  jumpsI (iff e a) = jumpsOut a
-  jumpsI (decode p e bs) = jumpsAlts bs
-  jumpsI (repeat a) = jumpsOut a
-  jumpsI (leave l) = l ∷ []
-  jumpsI (restart l) = l ∷ []
-  jumpsI (call n) = []
-  jumpsI stop = []
-  jumpsI noop = []
-  jumpsI (transfer d e) = []
-
-  pub jumpsAlts : Alts → List Name
-  jumpsAlts end = []
-  jumpsAlts (alt c a bs) = jumpsOut a ++ jumpsAlts bs

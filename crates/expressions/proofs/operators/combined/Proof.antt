@@ -4,8 +4,8 @@ use borrow.Author.Needs.{needs}
 use mathlib.Core.Path.{_≡_, ap, _∙_}
 use Prim.Native.Nat.{ℕ, _<_, _≤_, min}
 use Rattle.rules.specs.Text.Tokens.{Info, Op, opKind, kindNo}
-use Rattle.rules.specs.Text.Scan.{longestText}
-use Rattle.rules.specs.Values.{mostBits, opBits}
+use Rattle.rules.specs.Values.{opBits}
+use Rattle.rules.specs.Limits.{mostBits, longestText}
 use Rattle.rules.specs.Faults.Fault.{fault}
 use Rattle.rules.specs.Faults.Bodies.{Judged}
 use Rattle.values.specs.Operators.{opAt, opAt-kind}

@@ -1,0 +1,13 @@
+-- The answer to the tokens, as one thing: what rows 20 and 21 ask of it.
+use Prim.Native.Nat.{ℕ}
+use Rattle.rules.specs.Grammar.Trees.{Tokens}
+use Rattle.rules.specs.Grammar.Verdict.{Accepted, Refused20, Refused21}
+
+pub data Answer : Type 0 where
+  accepted : Answer
+  refused20 refused21 : ℕ → Answer
+
+abbrev pub Right : Tokens → Answer → Type 0
+Right ts accepted = Accepted ts
+Right ts (refused20 k) = Refused20 ts k
+Right ts (refused21 k) = Refused21 ts k
