@@ -1,23 +1,21 @@
 -- Laws of the lines of declarations one after the other.
 -- Assumes nothing.
-use Prim.Native.Nat.{ℕ, zero, suc, _+_, _*_, _<_, _≤_}
-use mathlib.Core.Path.{_≡_, refl, sym, ap, _∙_}
-use mathlib.Core.List.{List, [], _∷_, map}
-use mathlib.Core.Option.{some, Option·none-ne-some, Option·some-injective}
+use Prim.Native.Nat.{ℕ, _+_, _*_, _<_, _≤_}
+use mathlib.Core.Path.{_≡_, refl, ap, _∙_}
+use mathlib.Core.List.{List}
 use native.Mathlib.Omega.{arith}
 use native.Mathlib.Numerals.{add-one}
-use lib.ListN.{length, drop, getElem?, drop-of-length-le, length-map}
+use lib.ListN.{length, drop, drop-of-length-le, length-map}
 use Rattle.cells.specs.Cells.{cell}
-use Rattle.rules.specs.Grammar.Trees.{Tokens, Declaration, Description}
+use Rattle.rules.specs.Grammar.Trees.{Tokens, Description}
 use Rattle.rules.specs.Declarations.{declaredOf, outerName, Table, declarations, wordsOf, totalWords}
-use Rattle.rules.specs.Faults.Declared.{largeBits, largeWords}
 use Rattle.rules.specs.Limits.{mostWords}
 use Rattle.table.specs.Declarations.{declarationList, all-declared}
 use Rattle.table.specs.Views.{View}
-use Rattle.table.specs.Lookups.{Nth, nth}
 use Rattle.table.specs.Ready.{Ready}
-use Rattle.declare.specs.Lawful.{both-false, lawful-large, lawful-words}
-use Rattle.declare.specs.Listed.{SmallView}
+use Rattle.table.specs.Laws.Kth.{kth-next, kth-view}
+use Rattle.declare.specs.Lawful.{lawful-words}
+use Rattle.declare.specs.Small.{few-words}
 use Rattle.lines.specs.Appended.{Appended, Left, all-left, less-left, none-left}
 use Rattle.bench.specs.Standing.{Stands, Counted}
 use Rattle.bench.specs.Listing.{declarationLines, tableLines}
@@ -42,46 +40,13 @@ none-listed = record {
   rest = λ ts d r. record { words = omega arith; lines = all-left };
 }
 
-drop-map : (k : ℕ) (l : List Declaration) → drop k (map declaredOf l) ≡ map declaredOf (drop k l)
-drop-map zero l = refl
-drop-map (suc k) [] = refl
-drop-map (suc k) (d ∷ l) = drop-map k l
-
-map-element : (l : List Declaration) (k : ℕ) (d : Declaration) → getElem? l k ≡ some d → getElem? (map declaredOf l) k ≡ some (declaredOf d)
-map-element [] k d e = absurd (Option·none-ne-some d e)
-map-element (x ∷ l) zero d e = ap (λ (y : Declaration). some (declaredOf y)) (Option·some-injective x d e)
-map-element (x ∷ l) (suc k) d e = map-element l k d e
-
 -- the k-th declaration
 module _ {text records values decls : List ℕ} {ts : Tokens} {d : Description} {m k : ℕ} (r : Ready text records values decls ts d m) (l : k < m) where
-  abbrev this : Nth (declarationList d) k
-  this = nth (declarationList d) k (omega (arith, r .count))
-
-  pub cell-room : 2 * k + 2 ≤ length decls
-  cell-room = omega (arith, r .declared .room, r .count)
-
-  next : drop k (declarations d) ≡ declaredOf (this .declaration) ∷ drop (suc k) (declarations d)
-  next =
-      rw (all-declared d)
-      (drop-map k (declarationList d) ∙ ap (map declaredOf) (this .split) ∙ ap (λ (t : Table). declaredOf (this .declaration) ∷ t) (sym (drop-map (suc k) (declarationList d))))
-
-  element : getElem? (declarations d) k ≡ some (declaredOf (this .declaration))
-  element = rw (all-declared d) (map-element (declarationList d) k (this .declaration) (this .found))
-
   module _ {p : ℕ} (e : p ≡ cell 2 decls k) where
     abbrev there : Stands text records values p
     there =
-        let x = declaredOf (this .declaration) in
-        record {
-          tokens = ts;
-          holds = r .holds;
-          declaration = this .declaration;
-          stands = rw e (r .declared .each k (this .declaration) (this .found));
-          small = both-false (largeBits (x .bits)) (largeWords (x .words)) (lawful-large (outerName d .word) (declarations d) (r .lawful) k x element) .1;
-        }
-
-    pub small-there : SmallView records values p
-    small-there = record { view = viewOf there; small = there .small }
+        let v = kth-view r l e in
+        record { tokens = ts; holds = r .holds; declaration = v .declaration; stands = v .stands; small = few-words r l }
 
     counted-there : {n : ℕ} → ((v : View records values p) → n ≡ wordsOf (declaredOf (v .declaration))) → Counted text records values p n
     counted-there adds = record { stands = there; words = λ v. adds (viewOf v) }
@@ -91,7 +56,7 @@ module _ {text records values decls : List ℕ} {ts : Tokens} {d : Description} 
         → w + totalWords (drop k (declarations d)) ≡ totalWords (declarations d) → w + n ≤ mostWords
     unfolding totalWords
     total-there w adds sum =
-        omega (arith, ap totalWords next, adds (viewOf there), sum, lawful-words (outerName d .word) (declarations d) (r .lawful))
+        omega (arith, ap totalWords (kth-next r l), adds (viewOf there), sum, lawful-words (outerName d .word) (declarations d) (r .lawful))
 
     rest-there : {before now after : List ℕ} {start at s w n : ℕ} (carriers : List ℕ) → ((v : View records values p) → n ≡ wordsOf (declaredOf (v .declaration)))
         → Rest before now start at carriers (declarations d) w k
@@ -99,8 +64,8 @@ module _ {text records values decls : List ℕ} {ts : Tokens} {d : Description} 
         → Rest before after start s carriers (declarations d) (w + n) (k + 1)
     unfolding totalWords tableLines
     rest-there {n = n} carriers adds q h = record {
-      words = rw add-one (omega (arith, ap totalWords next, adds (viewOf there), q .words));
-      lines = rw (add-one, adds (viewOf there)) (less-left (rw (next, tableLines) at (q .lines)) (h there));
+      words = rw add-one (omega (arith, ap totalWords (kth-next r l), adds (viewOf there), q .words));
+      lines = rw (add-one, adds (viewOf there)) (less-left (rw (kth-next r l, tableLines) at (q .lines)) (h there));
     }
 
 -- a declaration more

@@ -2,25 +2,12 @@
 use lines::bytes::put_byte;
 use table::records::place_at;
 use table::records::size_at;
-ghost use mathlib.Core.Path.{_≡_};
+use table::words::upper;
 ghost use Prim.Native.Nat.{_+_, _≤_};
 ghost use lib.ListN.{length};
-ghost use Rattle.rules.specs.Text.Bytes.{fold};
 ghost use Rattle.table.specs.Holds.{foldedAt};
 ghost use Rattle.lines.specs.Appended.{Appended};
 ghost use Rattle.bench.specs.Standing.{nameBytes, NameStands};
-
-fn capital(b: u8) -> u8
-    ensures { λ r. ⌜ r ≡ fold b ⌝ }
-{
-    if b < 97 {
-        return b;
-    }
-    if 122 < b {
-        return b;
-    }
-    b - 32
-}
 
 // n bytes of the text.
 fn put_run(out: &mut [u8], at: usize, text: &[u8], from: usize, n: usize) -> usize
@@ -30,7 +17,7 @@ fn put_run(out: &mut [u8], at: usize, text: &[u8], from: usize, n: usize) -> usi
     let mut next = at;
     let mut k: usize = 0;
     while k < n {
-        next = put_byte(out, next, capital(text[from + k]));
+        next = put_byte(out, next, upper(text[from + k]));
         k += 1;
     }
     next

@@ -8,6 +8,7 @@ use mathlib.Core.List.{List, [], _∷_}
 use Prim.Native.Nat.{ℕ, _+_, _-_, _*_, _<_, _≤_, min}
 use lib.Dec.{leb}
 use lib.ListN.{length}
+use Rattle.rules.specs.Text.Tokens.{BEGIN, DECODE, END, kindNo}
 use Rattle.rules.specs.Selectors.{between}
 use Rattle.rules.specs.Faults.Fault.{when}
 use Rattle.rules.specs.Faults.Bodies.{past}
@@ -57,30 +58,30 @@ module _ {text records values decls room₀ room : List ℕ} {i count depth : �
   action-keeps k v = bare.whole-keeps (p .0) (p .1 text v) k
 
   module _ {c : ℕ} (is-kind : c ≡ kindByte records (front .at)) where
-    abbrev pub block-asked : c ≡ 19 → ActionView text records values decls room₀ i count depth
+    abbrev pub block-asked : c ≡ kindNo BEGIN → ActionView text records values decls room₀ i count depth
         → (w : ActionView text records values decls room (front .at) (front .count) depth) × IsBlock (w .action)
     block-asked e v = (bare.bare-view (p .0) (p .1 text v), bare.block-behind (p .0) (p .1 text v) is-kind e)
 
-    abbrev pub decode-asked : c ≡ 23 → ActionView text records values decls room₀ i count depth
+    abbrev pub decode-asked : c ≡ kindNo DECODE → ActionView text records values decls room₀ i count depth
         → (w : ActionView text records values decls room (front .at) (front .count) depth) × IsDecode (w .action)
     decode-asked e v = (bare.bare-view (p .0) (p .1 text v), bare.decode-behind (p .0) (p .1 text v) is-kind e)
 
-    abbrev pub simple-asked : (c ≡ 19 → ⊥) → (c ≡ 23 → ⊥) → ActionView text records values decls room₀ i count depth
+    abbrev pub simple-asked : (c ≡ kindNo BEGIN → ⊥) → (c ≡ kindNo DECODE → ⊥) → ActionView text records values decls room₀ i count depth
         → (w : ActionView text records values decls room (front .at) (front .count) depth) × Simple (w .action)
     simple-asked x y v = (bare.bare-view (p .0) (p .1 text v), bare.simple-behind (p .0) (p .1 text v) is-kind x y)
 
     module _ {r : Walked} {k : ℕ} (is-key : k ≡ min (front .key) (r .key)) (v : ActionView text records values decls room₀ i count depth) where
-      pub block-answers : c ≡ 19
+      pub block-answers : c ≡ kindNo BEGIN
           → ((w : ActionView text records values decls room (front .at) (front .count) depth) → IsBlock (w .action) → ActionAnswer w r)
           → ActionAnswer v (record { key = k; next = r .next })
       block-answers e f = bare.whole-answer (p .0) (p .1 text v) (f (block-asked e v .0) (block-asked e v .1)) is-key
 
-      pub decode-answers : c ≡ 23
+      pub decode-answers : c ≡ kindNo DECODE
           → ((w : ActionView text records values decls room (front .at) (front .count) depth) → IsDecode (w .action) → ActionAnswer w r)
           → ActionAnswer v (record { key = k; next = r .next })
       decode-answers e f = bare.whole-answer (p .0) (p .1 text v) (f (decode-asked e v .0) (decode-asked e v .1)) is-key
 
-      pub simple-answers : (c ≡ 19 → ⊥) → (c ≡ 23 → ⊥)
+      pub simple-answers : (c ≡ kindNo BEGIN → ⊥) → (c ≡ kindNo DECODE → ⊥)
           → ((w : ActionView text records values decls room (front .at) (front .count) depth) → Simple (w .action) → ActionAnswer w r)
           → ActionAnswer v (record { key = k; next = r .next })
       simple-answers x y f = bare.whole-answer (p .0) (p .1 text v) (f (simple-asked x y v .0) (simple-asked x y v .1)) is-key
@@ -114,11 +115,11 @@ module _ {text records values decls room₀ room : List ℕ} {i count depth k at
     block-keeps = kept-then (h .kept) (kept-less (q .0) (omega arith) (omega arith))
 
     module _ {c k′ : ℕ} (is-kind : c ≡ kindByte records (r .next)) (is-key : k′ ≡ min k (r .key)) where
-      pub block-ends : c ≡ 20 → (v : ActionView text records values decls room₀ i count depth) → IsBlock (v .action)
+      pub block-ends : c ≡ kindNo END → (v : ActionView text records values decls room₀ i count depth) → IsBlock (v .action)
           → ActionAnswer v (record { key = k′; next = r .next + 1 })
       block-ends e v b = members.block-ends (h .left v b) (h .kept) (q .1 (members.member-view (h .left v b) (h .kept))) is-kind is-key e
 
-      pub block-again : (c ≡ 20 → ⊥) → InBlock text records values decls room₀ i count depth room′ k′ (r .next + 1)
+      pub block-again : (c ≡ kindNo END → ⊥) → InBlock text records values decls room₀ i count depth room′ k′ (r .next + 1)
       block-again n = record {
         kept = block-keeps;
         left = λ v b. members.block-goes-on (h .left v b) (h .kept) (q .1 (members.member-view (h .left v b) (h .kept))) is-kind is-key n;
@@ -203,11 +204,11 @@ module _ {text records values decls room₀ room : List ℕ} {i count depth bits
     counted-keeps = kept-then (h .kept) (kept-less (q .0) (omega arith) (omega arith))
 
     module _ {c k′ : ℕ} (is-kind : c ≡ kindByte records (r .next)) (is-key : k′ ≡ min k (min f (r .key))) where
-      pub counted-ends : c ≡ 20 → (v : ChoicesView text records values decls room₀ i count depth bits) → IsCounted (v .alternatives)
+      pub counted-ends : c ≡ kindNo END → (v : ChoicesView text records values decls room₀ i count depth bits) → IsCounted (v .alternatives)
           → ChoicesAnswer v (record { key = k′; next = r .next + 1 })
       counted-ends e v p = let w = h .left v p in counting.counted-ends w (h .kept) (q .1 (counting.counted-action w (h .kept))) is-fault is-kind is-key e
 
-      pub counted-again : (c ≡ 20 → ⊥) → InCounted text records values decls room₀ i count depth bits room′ k′ (number + 1) (r .next + 1)
+      pub counted-again : (c ≡ kindNo END → ⊥) → InCounted text records values decls room₀ i count depth bits room′ k′ (number + 1) (r .next + 1)
       counted-again n = record {
         kept = counted-keeps;
         left = λ v p. let w = h .left v p in counting.counted-goes-on w (h .kept) (q .1 (counting.counted-action w (h .kept))) is-fault is-kind is-key n;
@@ -268,14 +269,14 @@ module _ {text records values decls room₀ room : List ℕ} {i count depth bits
 
       module _ {f c k′ : ℕ} (is-fault : (w : AlternativeView records values at) → f ≡ leastKey (when (leb 64 number || past bits (w .items)) 45 (placeCell records at)))
           (is-kind : c ≡ kindByte records (r .next)) (is-key : k′ ≡ min k (min f (r .key))) where
-        pub selected-ends : c ≡ 20 → {o k″ : ℕ} → ((w : StartsView records values room₂ depth (number + 1)) → OverlapAnswer w o) → k″ ≡ min k′ o
+        pub selected-ends : c ≡ kindNo END → {o k″ : ℕ} → ((w : StartsView records values room₂ depth (number + 1)) → OverlapAnswer w o) → k″ ≡ min k′ o
             → (v : ChoicesView text records values decls room₀ i count depth bits) → IsSelected (v .alternatives) → ChoicesAnswer v (record { key = k″; next = r .next + 1 })
         selected-ends e o is-last v p =
             let w = h .left v p in
             selecting.selected-ends w (h .kept) is-room (behind v p) (q .0) (inside v p) (is-fault (selecting.alternative-view w (h .kept))) is-kind is-key e
             (o (selecting.overlap-view w (h .kept) is-room (behind v p) (q .0) (inside v p))) is-last
 
-        pub selected-again : (c ≡ 20 → ⊥) → SelectedAsked text records values decls room₀ i count depth bits
+        pub selected-again : (c ≡ kindNo END → ⊥) → SelectedAsked text records values decls room₀ i count depth bits
             → InSelected text records values decls room₀ i count depth bits room₂ k′ (number + 1) (r .next + 1)
         selected-again n a = record {
           kept = selected-keeps a;

@@ -5,7 +5,7 @@ use mathlib.Core.Bool.{Bool, _||_}
 use mathlib.Core.List.{List, _∷_, _++_}
 use lib.Dec.{eqb}
 use lib.ListN.{length, drop}
-use Rattle.rules.specs.Text.Tokens.{Token}
+use Rattle.rules.specs.Text.Tokens.{Token, Const, Masked, LBra, OTHERWISE, kindNo}
 use Rattle.rules.specs.Grammar.Trees.{Tokens, Action, Counted, Selected, Alternatives, counted, selected, alternativesTokens}
 use Rattle.rules.specs.Limits.{mostBits, deepest}
 use Rattle.rules.specs.Faults.Fault.{Fault}
@@ -19,7 +19,7 @@ use Rattle.bodies.specs.Actions.{levelBase}
 
 -- the kinds that begin a selector: a constant, a constant with `?`, `[`, OTHERWISE
 abbrev pub isSelector : ℕ → Bool
-isSelector k = ((eqb k 1 || eqb k 2) || eqb k 5) || eqb k 24
+isSelector k = ((eqb k (kindNo Const) || eqb k (kindNo Masked)) || eqb k (kindNo LBra)) || eqb k (kindNo OTHERWISE)
 
 abbrev pub IsCounted : Alternatives → Type 0
 IsCounted v = (a : Action) × (c : Counted) × (v ≡ counted a c)

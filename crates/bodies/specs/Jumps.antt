@@ -5,7 +5,7 @@ use mathlib.Core.Bool.{Bool, not, _||_}
 use mathlib.Core.List.{List, [], _∷_}
 use lib.Dec.{eqb}
 use lib.ListN.{drop}
-use Rattle.rules.specs.Text.Tokens.{Info, Token}
+use Rattle.rules.specs.Text.Tokens.{Info, Token, LEAVE, RESTART, kindNo}
 use Rattle.rules.specs.Grammar.Trees.{Tokens, Bits, Operand, Tail, Subscript, Joined, transfer, actionTokens}
 use Rattle.rules.specs.Declarations.{numberOf}
 use Rattle.rules.specs.Faults.Fault.{Fault, when}
@@ -22,7 +22,7 @@ use Rattle.bodies.specs.Actions.{EndsAction}
 
 -- the kinds of LEAVE and RESTART
 abbrev pub isJump : ℕ → Bool
-isJump k = eqb k 26 || eqb k 27
+isJump k = eqb k (kindNo LEAVE) || eqb k (kindNo RESTART)
 
 -- a keyword is the token i, and its target the next
 pub record JumpView (text records room : List ℕ) (i count : ℕ) : Type 0 where

@@ -5,7 +5,7 @@ use mathlib.Core.Bool.{Bool, false, _&&_}
 use mathlib.Core.List.{List, [], _∷_, _++_}
 use lib.Dec.{eqb}
 use lib.ListN.{drop}
-use Rattle.rules.specs.Text.Tokens.{Becomes, same, Token}
+use Rattle.rules.specs.Text.Tokens.{Becomes, same, Token, Name, kindNo}
 use Rattle.rules.specs.Grammar.Trees.{Tokens, Action, actionTokens}
 use Rattle.rules.specs.Declarations.{Name as Word}
 use Rattle.rules.specs.Faults.Fault.{Fault, when}
@@ -18,7 +18,7 @@ use Rattle.bodies.specs.Stacks.{Stacked, stackedWords}
 
 -- whether the token i of a table is a label
 abbrev pub labelAt : List ℕ → ℕ → Bool
-labelAt records i = eqb (kindByte records i) 0 && eqb (kindByte records (i + 1)) 12
+labelAt records i = eqb (kindByte records i) (kindNo Name) && eqb (kindByte records (i + 1)) (kindNo Becomes)
 
 -- all declared names, and the outer name
 abbrev pub knownNames : {text records values decls : List ℕ} → Stage text records values decls → List Word

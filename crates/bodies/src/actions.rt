@@ -7,9 +7,16 @@ use crate::choices::overlap_fault;
 use crate::choices::selected_fault;
 use crate::prefixes::prefixes;
 use crate::simple::simple;
-use expressions::NO_KEY;
 use expressions::judge::expression;
+use table::keys::NO_KEY;
 use table::keys::earlier;
+use table::kinds::BEGIN;
+use table::kinds::CONST;
+use table::kinds::DECODE;
+use table::kinds::END;
+use table::kinds::LBRA;
+use table::kinds::MASKED;
+use table::kinds::OTHERWISE;
 use table::records::kind_at;
 ghost use mathlib.Core.Path.{_≡_};
 ghost use Prim.Native.Nat.{_+_};
@@ -17,17 +24,11 @@ ghost use Rattle.bodies.specs.Actions.{levelBase, ActionView, ActionAnsw
 ghost use Rattle.bodies.specs.Stacks.{Kept};
 ghost use Rattle.bodies.specs.Alternatives.{isSelector, ChoicesView, ChoicesAnswer, IsCounted, IsSelected};
 
-const BEGIN: u8 = 19;
-
-const END: u8 = 20;
-
-const DECODE: u8 = 23;
-
 // Whether a token of this kind begins a selector: a constant, `[` or OTHERWISE.
 fn has_selector(kind: u8) -> bool
     ensures { λ r. ⌜ r ≡ isSelector kind ⌝ }
 {
-    (kind == 1) | (kind == 2) | (kind == 5) | (kind == 24)
+    (kind == CONST) | (kind == MASKED) | (kind == LBRA) | (kind == OTHERWISE)
 }
 
 // An action, with what stands in front of it.

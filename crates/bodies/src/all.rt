@@ -3,7 +3,7 @@ use crate::actions::action;
 use crate::labels::labels_fault;
 use cells::get16;
 use cells::put16;
-use expressions::NO_KEY;
+use table::keys::NO_KEY;
 use table::keys::earlier;
 use table::views::body_of;
 ghost use mathlib.Core.Path.{_≡_};

@@ -1,14 +1,17 @@
 // The alternatives of one DECODE, each by itself and against the others: 45.
 use cells::get16;
 use cells::put16;
-use expressions::NO_KEY;
 use selectors::alternatives;
 use selectors::alternatives::first_overlap;
 use selectors::items;
 use selectors::items::Item;
+use table::keys::NO_KEY;
 use table::keys::fault_key;
+use table::kinds::BECOMES;
 use table::records::kind_at;
 use table::records::place_at;
+use table::room::STARTS;
+use table::room::STARTS_SIZE;
 ghost use mathlib.Core.Path.{_≡_};
 ghost use mathlib.Core.Bool.{_||_};
 ghost use mathlib.Core.List.{[], _∷_};
@@ -23,8 +26,6 @@ ghost use Rattle.table.specs.Holds.{placeCell};
 ghost use Rattle.table.specs.Keys.{leastKey};
 ghost use Rattle.bodies.specs.Actions.{levelBase};
 ghost use Rattle.bodies.specs.Choices.{withStart, StartsView, OverlapAnswer, BehindView, BehindAnswer};
-
-const BECOMES: u8 = 12;
 
 // 45 for an alternative behind `number` others, where it is the 65th or a later one, or past the tested length.
 fn choice_fault(records: &[u8], at: usize, number: usize, past: bool) -> u32
@@ -70,8 +71,8 @@ pub fn keep_start(room: &mut [u8], depth: usize, number: usize, at: usize)
     requires { ⌜ (2 * levelBase (depth + 1) ≤ length (now room)) × (at < 65536) ⌝ }
     ensures { λ _. ⌜ now (room .exit) ≡ withStart (now (room .entry)) depth number at ⌝ }
 {
-    if number < 64 {
-        put16(room, 8192 + 64 * depth + number, at as u16);
+    if number < STARTS_SIZE {
+        put16(room, STARTS + STARTS_SIZE * depth + number, at as u16);
     }
 }
 
@@ -79,7 +80,11 @@ pub fn keep_start(room: &mut [u8], depth: usize, number: usize, at: usize)
 fn compared(number: usize) -> usize
     ensures { λ r. ⌜ r ≡ min number 64 ⌝ }
 {
-    if number < 64 { number } else { 64 }
+    if number < STARTS_SIZE {
+        number
+    } else {
+        STARTS_SIZE
+    }
 }
 
 // 45 at the first alternative that overlaps an earlier one.
@@ -88,7 +93,7 @@ pub fn overlap_fault(records: &[u8], values: &[u8], room: &[u8], depth: usize, n
     ensures { λ r. ⌜ ((v : StartsView (now (records .entry)) (now (values .entry)) (now (room .entry)) depth number) → OverlapAnswer v r) ⌝ }
 {
     let count = compared(number);
-    let base = 8192 + 64 * depth;
+    let base = STARTS + STARTS_SIZE * depth;
     let from = 2 * base;
     let later = first_overlap(records, values, &room[from..], count);
     if later == count {

@@ -1,10 +1,13 @@
 // Labels and other names, kept as the numbers of their tokens in cells of lent bytes.
 use cells::get16;
 use cells::put16;
-use expressions::NO_KEY;
-use expressions::names::meaning_at;
+use table::keys::NO_KEY;
 use table::keys::earlier;
 use table::keys::fault_key;
+use table::kinds::BECOMES;
+use table::kinds::NAME;
+use table::lookups::UNKNOWN;
+use table::records::inside16_at;
 use table::records::kind_at;
 use table::records::place_at;
 use table::words::same_word;
@@ -17,12 +20,6 @@ ghost use Rattle.table.specs.Keys.{leastKey};
 ghost use Rattle.table.specs.Words.{wordAt};
 ghost use Rattle.bodies.specs.Stacks.{NameView, stackedWords};
 ghost use Rattle.bodies.specs.Labels.{labelAt, LabelView, labelFault, LabelsView, allLabelFaults};
-
-const UNKNOWN: u16 = 65535;
-
-const NAME: u8 = 0;
-
-const BECOMES: u8 = 12;
 
 // Whether the name i has the word of one of the first `count` names.
 pub fn is_stacked(text: &[u8], records: &[u8], room: &[u8], count: usize, i: usize) -> bool
@@ -56,7 +53,7 @@ fn label_fault(text: &[u8], records: &[u8], room: &[u8], count: usize, i: usize)
         → r ≡ leastKey (labelFault v)) ⌝ }
 {
     let key = fault_key(44, place_at(records, i));
-    if meaning_at(records, i) != UNKNOWN {
+    if inside16_at(records, i) != UNKNOWN {
         return key;
     }
     if is_stacked(text, records, room, count, i) {

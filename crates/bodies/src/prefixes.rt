@@ -1,19 +1,17 @@
 // Labels, IFs and REPEATs in front of an action.
 use crate::labels::is_label;
 use cells::put16;
-use expressions::NO_KEY;
 use expressions::judge::expression;
+use table::keys::NO_KEY;
 use table::keys::earlier;
+use table::kinds::IF;
+use table::kinds::REPEAT;
 use table::records::kind_at;
 ghost use mathlib.Core.List.{List};
 ghost use Prim.Native.Nat.{ℕ};
 ghost use Rattle.bodies.specs.Actions.{labelCells, ActionView};
 ghost use Rattle.bodies.specs.Prefixes.{PrefixAnswer};
 ghost use Rattle.bodies.specs.Stacks.{Kept};
-
-const IF: u8 = 22;
-
-const REPEAT: u8 = 25;
 
 // The key of the least fault in front of an action, where the action begins, and how many names stand around it.
 pub struct Prefixed {

@@ -2,12 +2,18 @@
 use crate::Walked;
 use crate::labels::is_stacked;
 use cells::get16;
-use expressions::NO_KEY;
 use expressions::destinations::destination;
 use expressions::judge::expression;
-use expressions::names::meaning_at;
+use table::keys::NO_KEY;
 use table::keys::earlier;
 use table::keys::fault_key;
+use table::kinds::LEAVE;
+use table::kinds::LPAR;
+use table::kinds::NAME;
+use table::kinds::RESTART;
+use table::lookups::OUTER_ONLY;
+use table::lookups::UNKNOWN;
+use table::records::inside16_at;
 use table::records::kind_at;
 use table::records::place_at;
 use table::views::body_of;
@@ -15,18 +21,6 @@ ghost use mathlib.Core.Path.{_≡_};
 ghost use Rattle.table.specs.Keys.{leastKey};
 ghost use Rattle.bodies.specs.Actions.{ActionView, ActionAnswer, Simple};
 ghost use Rattle.bodies.specs.Jumps.{isJump, JumpView, jumpFaults, CallView, callFaults, TransferView, TransferAnswer};
-
-const NAME: u8 = 0;
-
-const LPAR: u8 = 3;
-
-const LEAVE: u8 = 26;
-
-const RESTART: u8 = 27;
-
-const OUTER_ONLY: u16 = 65534;
-
-const UNKNOWN: u16 = 65535;
 
 fn is_jump(kind: u8) -> bool
     ensures { λ r. ⌜ r ≡ isJump kind ⌝ }
@@ -51,7 +45,7 @@ fn call_fault(records: &[u8], decls: &[u8], i: usize) -> u32
     ensures { λ r. ⌜ ((v : CallView (now (records .entry)) (now (decls .entry)) i) → r ≡ leastKey (callFaults v)) ⌝ }
 {
     let place = place_at(records, i);
-    let number = meaning_at(records, i);
+    let number = inside16_at(records, i);
     if number == UNKNOWN {
         return fault_key(40, place);
     }

@@ -8,18 +8,18 @@ use native.Mathlib.Omega.{arith}
 use native.Mathlib.Numerals.{add-one}
 use borrow.Author.Tests.{ne-eqb}
 use lib.Dec.{eqb}
-use Rattle.rules.specs.Text.Tokens.{Kind, kindNo, same, Comma}
+use Rattle.rules.specs.Text.Tokens.{Kind, kindNo, same, Comma, LPar, LBra, BEGIN, RPar, RBra, END}
 use Rattle.rules.specs.Grammar.Verdict.{either, opens, closes, down, counted-by, count}
 use Rattle.declare.specs.Skipping.{noneOpen, ends}
 
 abbrev Opener : ℕ → Type 0
-Opener x = (x ≡ 3) ⊎ ((x ≡ 5) ⊎ (x ≡ 19))
+Opener x = (x ≡ kindNo LPar) ⊎ ((x ≡ kindNo LBra) ⊎ (x ≡ kindNo BEGIN))
 
 abbrev Closer : ℕ → Type 0
-Closer x = (x ≡ 4) ⊎ ((x ≡ 6) ⊎ (x ≡ 20))
+Closer x = (x ≡ kindNo RPar) ⊎ ((x ≡ kindNo RBra) ⊎ (x ≡ kindNo END))
 
 abbrev Ender : ℕ → Type 0
-Ender x = (x ≡ 4) ⊎ ((x ≡ 6) ⊎ ((x ≡ 9) ⊎ (x ≡ 20)))
+Ender x = (x ≡ kindNo RPar) ⊎ ((x ≡ kindNo RBra) ⊎ ((x ≡ kindNo Comma) ⊎ (x ≡ kindNo END)))
 
 differs : {x : ℕ} (k : Kind) (m : ℕ) → x ≡ kindNo k → (x ≡ m → ⊥) → eqb m (kindNo k) ≡ false
 differs k m h f = ne-eqb m (kindNo k) (λ e. f (h ∙ sym e))

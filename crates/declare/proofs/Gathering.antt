@@ -10,7 +10,7 @@ use lib.ListN.{length, drop, length-drop, length-append, getElem?}
 use lib.Seq.{drop-drop, drop-set-lt}
 use Rattle.cells.specs.Cells.{putAt, cell, putCell}
 use Rattle.cells.specs.Laws.{length-put, le-put-same, le-put-below}
-use Rattle.rules.specs.Text.Tokens.{kindNo, Token, tk, Name, Becomes, BEGIN, Comma}
+use Rattle.rules.specs.Text.Tokens.{kindNo, Token, tk, Name, Becomes, BEGIN, Comma, END}
 use Rattle.rules.specs.Limits.{mostTokens}
 use Rattle.rules.specs.Grammar.Trees.{Tokens, Heading, no-heading, heading, headingTokens, Declaration, plain, main, declarationTokens}
 use Rattle.rules.specs.Grammar.Trees.{Declarations, declared-all, declared-also, declarationsTokens, Description, description, flatten}
@@ -212,12 +212,12 @@ record Another (ts : Tokens) (e : ℕ) (ds : Declarations) : Type 0 where
   pub rest : followingList ds ≡ declaration ∷ followingList following
 
 module _ {text records values : List ℕ} {ts : Tokens} (h : Holds text records values ts) {e : ℕ} where
-  no-more : (ds : Declarations) → Follow ts e ds → kindByte records e ≡ 20 → followingList ds ≡ []
+  no-more : (ds : Declarations) → Follow ts e ds → kindByte records e ≡ kindNo END → followingList ds ≡ []
   unfolding followingList
   no-more (declared-all i) r k = refl
   no-more (declared-also c i d ds) r k = absurd (omega (arith, first h {i = e} (r .reads) .kind))
 
-  another : 2 < e → (ds : Declarations) → Follow ts e ds → (kindByte records e ≡ 20 → ⊥) → Another ts e ds
+  another : 2 < e → (ds : Declarations) → Follow ts e ds → (kindByte records e ≡ kindNo END → ⊥) → Another ts e ds
   unfolding followingList
   another l (declared-all i) r k = absurd (k (first h (r .reads) .kind))
   another l (declared-also c i d ds) r k =
@@ -258,7 +258,7 @@ module _ {records decls₀ decls : List ℕ} {i m p : ℕ} (room : 2 * mostToken
   declared s = let b = name (beginning g s) in record { past = b .past; led = b .led; following = beginning g s .following; reads = b .reads }
 
   module _ {e x : ℕ} (end : (v : Naming records p) → Follow (v .tokens) e (v .following)) (kind : x ≡ kindByte records e) where
-    all-gathered : x ≡ 20 → (text values : List ℕ) (n : ℕ) (v : Described text records values n)
+    all-gathered : x ≡ kindNo END → (text values : List ℕ) (n : ℕ) (v : Described text records values n)
         → Found (v .tokens) (declarationList (v .description)) decls₀ (putCell 2 decls m p) (m + 1)
     all-gathered k text values n v =
         let s : Source records = (text, values, n, v) in
@@ -280,7 +280,7 @@ module _ {records decls₀ decls : List ℕ} {i m p : ℕ} (room : 2 * mostToken
           beyond = beyond-now decls m p (t .room-left) (t .fits) decls₀ (g .beyond);
         }
 
-    more-gathered : (x ≡ 20 → ⊥) → Source records → Gathered records decls₀ (putCell 2 decls m p) (e + 1) (m + 1)
+    more-gathered : (x ≡ kindNo END → ⊥) → Source records → Gathered records decls₀ (putCell 2 decls m p) (e + 1) (m + 1)
     more-gathered k s₀ =
         let t = turn s₀ in
         let z = end-turn end s₀ in
@@ -306,9 +306,9 @@ module _ {records decls₀ decls : List ℕ} {i m p : ℕ} (room : 2 * mostToken
         }
 
     module _ {after : List ℕ} (put : after ≡ putCell 2 decls m p) where
-      pub gathered-all : x ≡ 20 → (text values : List ℕ) (n : ℕ) (v : Described text records values n)
+      pub gathered-all : x ≡ kindNo END → (text values : List ℕ) (n : ℕ) (v : Described text records values n)
           → Found (v .tokens) (declarationList (v .description)) decls₀ after (m + 1)
       gathered-all k text values n v = rw put (all-gathered k text values n v)
 
-      pub gathered-more : (x ≡ 20 → ⊥) → Source records → Gathered records decls₀ after (e + 1) (m + 1)
+      pub gathered-more : (x ≡ kindNo END → ⊥) → Source records → Gathered records decls₀ after (e + 1) (m + 1)
       gathered-more k s = rw put (more-gathered k s)

@@ -1,78 +1,27 @@
 -- Laws of the meanings: a name's record has room for one, and nothing else of the table changes.
 -- Assumes nothing.
-use Prim.Native.Nat.{ℕ, _+_, _*_, _<_, _≤_}
+use Prim.Native.Nat.{ℕ, _+_, _<_, _≤_}
 use mathlib.Core.Path.{_≡_, refl, sym, ap, _∙_}
 use mathlib.Core.Bool.{Bool, true, false}
 use mathlib.Core.List.{List}
 use mathlib.Core.Option.{none}
 use native.Mathlib.Omega.{arith}
 use native.Mathlib.Decide.{decLt}
-use lib.ListN.{length, getD}
-use Rattle.cells.specs.Cells.{putAt, putCell}
-use Rattle.cells.specs.Laws.{length-put, getD-put-below, getD-put-above, le-put-same, le-put-below, le-put-above}
+use lib.ListN.{length}
 use Rattle.rules.specs.Text.Tokens.{Name, kindNo, kindAt}
 use Rattle.rules.specs.Text.Scan.{sameBytes}
-use Rattle.rules.specs.Grammar.Trees.{Tokens}
 use Rattle.rules.specs.Declarations.{Name as Word}
 use Rattle.laws.specs.Grammar.Kinds.{kindAt-kindNo}
-use Rattle.table.specs.Holds.{kindByte, placeCell, tokenAt, Entry, Holds}
+use Rattle.table.specs.Holds.{kindByte, tokenAt, insideCell}
+use Rattle.table.specs.Kept.{InsidePut}
+use Rattle.table.specs.Laws.Kept.{holds-kept}
 use Rattle.table.specs.Words.{wordAt, TwoNames, sameWords}
 use Rattle.table.specs.Lookups.{Known, firstOf}
-use Rattle.table.specs.Meaning.{meaningCell, meaningBy, meaningOf}
+use Rattle.table.specs.Meaning.{meaningBy, meaningOf}
 use Rattle.declare.specs.Listed.{Listed, outerOf, tableOf}
 use Rattle.declare.specs.Resolving.{NameIn, meaningIn, ResolvedTo}
 use Rattle.declare.proofs.Choosing.{outer-word, outer-and}
 use Rattle.declare.proofs.Targets.{known-in, found-nowhere, found-there}
-
--- a record with another meaning
-abbrev pub withMeaning : List ℕ → ℕ → ℕ → List ℕ
-withMeaning records i x = putAt 2 records (8 * i + 4) x
-
-module _ (records : List ℕ) (i x : ℕ) where
-  byte-kept : (o j : ℕ) → o < 4 → getD (withMeaning records i x) (8 * j + o) 0 ≡ getD records (8 * j + o) 0
-  byte-kept o j h = by (decLt i j)
-    where
-      by : Dec (i < j) → getD (withMeaning records i x) (8 * j + o) 0 ≡ getD records (8 * j + o) 0
-      by (yes l) = getD-put-above 2 records (8 * i + 4) x (8 * j + o) (omega arith)
-      by (no n) = getD-put-below 2 records (8 * i + 4) x (8 * j + o) (omega arith)
-
-  place-kept : (j : ℕ) → placeCell (withMeaning records i x) j ≡ placeCell records j
-  place-kept j = by (decLt i j)
-    where
-      by : Dec (i < j) → placeCell (withMeaning records i x) j ≡ placeCell records j
-      by (yes l) = le-put-above 2 2 records (8 * i + 4) x (8 * j + 2) (omega arith)
-      by (no n) = le-put-below 2 2 records (8 * i + 4) x (8 * j + 2) (omega arith)
-
-  pub meaning-kept : (j : ℕ) → j < i → meaningCell (withMeaning records i x) j ≡ meaningCell records j
-  meaning-kept j l = le-put-below 2 2 records (8 * i + 4) x (8 * j + 4) (omega arith)
-
-  pub meaning-written : 8 * i + 8 ≤ length records → x < 65536 → meaningCell (withMeaning records i x) i ≡ x
-  meaning-written room fits = le-put-same 2 records (8 * i + 4) x (omega arith) fits
-
-  module _ {text values : List ℕ} {ts : Tokens} where
-    entry-kept : (j : ℕ) → Entry text records values ts j → Entry text (withMeaning records i x) values ts j
-    entry-kept j e = record {
-      kind = ap (λ (k : ℕ). getD (withMeaning records i x) k 0) (omega arith) ∙ byte-kept 0 j (omega arith) ∙ ap (λ (k : ℕ). getD records k 0) (omega arith) ∙ e .kind;
-      size = byte-kept 1 j (omega arith) ∙ e .size;
-      small = e .small;
-      place = place-kept j ∙ e .place;
-      inside = e .inside;
-      word = e .word;
-      constant = e .constant;
-      masked = e .masked;
-      free-fits = e .free-fits;
-      free = e .free;
-    }
-
-    pub holds-kept : Holds text records values ts → Holds text (withMeaning records i x) values ts
-    holds-kept h = record {
-      short = h .short;
-      few = h .few;
-      record-room = omega (arith, h .record-room, length-put 2 records (8 * i + 4) x);
-      value-room = h .value-room;
-      entry = λ j l. entry-kept j (h .entry j l);
-      increasing = h .increasing;
-    }
 
 -- what a name means, by looking it up
 module _ {text records decls : List ℕ} {m i : ℕ} where
@@ -109,41 +58,35 @@ module _ {text records values decls : List ℕ} {m i x : ℕ} (kind : x ≡ kind
   abbrev Upto : List ℕ → ℕ → Type 0
   Upto now j = ResolvedTo text now values (v .tokens) (outerOf v) (tableOf v) j
 
-  pub no-name : (x ≡ 0 → ⊥) → Upto records i → Upto records (i + 1)
+  pub no-name : (x ≡ kindNo Name → ⊥) → Upto records i → Upto records (i + 1)
   no-name f r = record {
     holds = r .holds;
     means = λ j h q n. by j h q n (decLt j i);
   }
     where
       by : (j : ℕ) → j < i + 1 → j < length (v .tokens) → tokenAt (v .tokens) j .kind ≡ Name → Dec (j < i)
-          → meaningCell records j ≡ meaningOf (outerOf v) (tableOf v) (wordAt (v .tokens) j)
+          → insideCell records j ≡ meaningOf (outerOf v) (tableOf v) (wordAt (v .tokens) j)
       by j h q n (yes y) = r .means j y q n
       by j h q n (no z) = let e : j ≡ i = omega arith in absurd (f (kind-is ∙ ap (λ (t : ℕ). kindNo (tokenAt (v .tokens) t .kind)) (sym e) ∙ ap kindNo n))
 
-  abbrev pub name-in : x ≡ 0 → NameIn text records decls m i
+  abbrev pub name-in : x ≡ kindNo Name → NameIn text records decls m i
   name-in e = record {
     values = values;
     listed = v;
     name = record { within = l; kind = sym (kindAt-kindNo (tokenAt (v .tokens) i .kind)) ∙ ap kindAt (sym kind-is ∙ e) };
   }
 
-  module _ {y : ℕ} {now : List ℕ} (is : x ≡ 0) (fits : y < 65536) (means : (w : NameIn text records decls m i) → y ≡ meaningIn w)
-      (put : now ≡ putCell 2 records (4 * i + 2) y) where
-    now-is : now ≡ withMeaning records i y
-    now-is = put ∙ ap (λ (o : ℕ). putAt 2 records o y) (omega arith)
-
+  module _ {y : ℕ} {now : List ℕ} (is : x ≡ kindNo Name) (means : (w : NameIn text records decls m i) → y ≡ meaningIn w) (put : InsidePut records now i y) where
     pub name-resolved : Upto records i → Upto now (i + 1)
-    name-resolved r = rw now-is record {
-      holds = holds-kept records i y (r .holds);
+    name-resolved r = record {
+      holds = holds-kept (put .kept) (r .holds);
       means = λ j h q n. by j h q n (decLt j i);
     }
       where
         by : (j : ℕ) → j < i + 1 → j < length (v .tokens) → tokenAt (v .tokens) j .kind ≡ Name → Dec (j < i)
-            → meaningCell (withMeaning records i y) j ≡ meaningOf (outerOf v) (tableOf v) (wordAt (v .tokens) j)
-        by j h q n (yes b) = meaning-kept records i y j b ∙ r .means j b q n
-        by j h q n (no z) =
-            let e : j ≡ i = omega arith in
-            rw e (meaning-written records i y (omega (arith, l, v .holds .record-room)) fits ∙ means (name-in is))
+            → insideCell now j ≡ meaningOf (outerOf v) (tableOf v) (wordAt (v .tokens) j)
+        by j h q n (yes b) = put .kept .inside j (λ p s. omega arith) ∙ r .means j b q n
+        by j h q n (no z) = let e : j ≡ i = omega arith in rw e (put .inside ∙ means (name-in is))
 
 -- the table as it is behind i of n tokens
 pub record Resolving (text records₀ records decls : List ℕ) (m n i : ℕ) : Type 0 where

@@ -16,13 +16,14 @@ use Rattle.rules.specs.Text.Tokens.{Token}
 use Rattle.rules.specs.Grammar.Trees.{Declaration}
 use Rattle.rules.specs.Declarations.{Name, Declared, Table, declaredOf, wordsOf}
 use Rattle.rules.specs.Faults.Fault.{fault}
+use Rattle.rules.specs.Limits.{longestText, mostWords}
 use Rattle.rules.specs.Faults.Declared.{largeBits, largeWords, isKnown, badMapping, twice, large, tooMany, mappings, faults30}
-use Rattle.rules.specs.Limits.{mostWords, longestText}
+use Rattle.table.specs.Laws.Kth.{table-from}
 use Rattle.table.specs.Holds.{placeCell, tokenAt}
 use Rattle.table.specs.Declarations.{declarationList}
 use Rattle.table.specs.Views.{View}
 use Rattle.table.specs.ViewLaws.{name-token}
-use Rattle.table.specs.Lookups.{Nth, nth}
+use Rattle.table.specs.Lookups.{nth}
 use Rattle.table.specs.Keys.{key, noKey, leastKey, leastBy}
 use Rattle.declare.specs.Faults.{knownBehind, isLarge, isTooMany, numberOr, ownNumber, faultsFrom}
 use Rattle.declare.specs.Earliest.{Within, none-within, also-within, passed-on, first-fault}
@@ -46,15 +47,6 @@ element-of-map : (l : List Declaration) (k : ℕ) (d : Declared) → getElem? (m
 element-of-map [] k d e = absurd (Option·none-ne-some d e)
 element-of-map (x ∷ l) zero d e = (x, refl, Option·some-injective (declaredOf x) d e)
 element-of-map (x ∷ l) (suc k) d e = element-of-map l k d e
-
-drop-map : (k : ℕ) (l : List Declaration) → drop k (map declaredOf l) ≡ map declaredOf (drop k l)
-drop-map zero l = refl
-drop-map (suc k) [] = refl
-drop-map (suc k) (x ∷ l) = drop-map k l
-
--- a table from its k-th declaration on
-pub table-from : (l : List Declaration) (k : ℕ) (n : Nth l k) → drop k (map declaredOf l) ≡ declaredOf (n .declaration) ∷ drop (suc k) (map declaredOf l)
-table-from l k n = drop-map k l ∙ ap (map declaredOf) (n .split) ∙ ap (λ (t : Table). declaredOf (n .declaration) ∷ t) (sym (drop-map (suc k) l))
 
 module _ {text records values decls : List ℕ} {m : ℕ} (v : Listed text records values decls m) where
   -- the name of the k-th declaration

@@ -47,7 +47,7 @@ module _ {text records values : List ℕ} {ts : Tokens} (holds : Holds text reco
         by (plain n f) e = first holds e
         by (main k n o e b a m) e₁ = first holds e₁
 
-    no-stars : kindByte records i ≡ 18 → (h : Heading) → Begins ts i h d ds → Begins ts (i + 3) no-heading d ds
+    no-stars : kindByte records i ≡ kindNo Stars → (h : Heading) → Begins ts i h d ds → Begins ts (i + 3) no-heading d ds
     no-stars e no-heading b = absurd (by d (starts no-heading b))
       where
         by : (x : Declaration) → First records ts i (startKind no-heading x) → ⊥
@@ -62,12 +62,12 @@ module _ {text records values : List ℕ} {ts : Tokens} (holds : Holds text reco
           reads = behind-far ts i (tk Stars l ∷ tk Name n ∷ tk Stars r ∷ rest) (b .reads) 3;
         }
 
-    as-it-is : (kindByte records i ≡ 18 → ⊥) → (h : Heading) → Begins ts i h d ds → Begins ts i no-heading d ds
+    as-it-is : (kindByte records i ≡ kindNo Stars → ⊥) → (h : Heading) → Begins ts i h d ds → Begins ts i no-heading d ds
     as-it-is f no-heading b = b
     as-it-is f (heading l n r) b = absurd (f (starts (heading l n r) b .kind))
 
   module _ {i : ℕ} {ds : Declarations} where
-    no-main : kindByte records i ≡ 28 → (d : Declaration) → Begins ts i no-heading d ds → Named ts (i + 1) d ds
+    no-main : kindByte records i ≡ kindNo MAIN → (d : Declaration) → Begins ts i no-heading d ds → Named ts (i + 1) d ds
     no-main e (plain n f) b = absurd (omega (arith, starts no-heading b .kind))
     no-main e (main k n o q g a m) b =
         let rest = nameTokens (main k n o q g a m) (declarationsTokens ds []) in
@@ -77,7 +77,7 @@ module _ {text records values : List ℕ} {ts : Tokens} (holds : Holds text reco
           reads = behind-far ts i (tk MAIN k ∷ rest) (b .reads) 1;
         }
 
-    at-once : (kindByte records i ≡ 28 → ⊥) → (d : Declaration) → Begins ts i no-heading d ds → Named ts i d ds
+    at-once : (kindByte records i ≡ kindNo MAIN → ⊥) → (d : Declaration) → Begins ts i no-heading d ds → Named ts i d ds
     at-once f (plain n o) b = record { past = b .past; led = b .led; reads = b .reads }
     at-once f (main k n o e g a m) b = absurd (f (starts no-heading b .kind))
 
@@ -86,11 +86,11 @@ module _ {records : List ℕ} {i : ℕ} where
   pub begins-within : (v : Beginning records i) → First records (v .tokens) i (startKind (v .heading) (v .declaration))
   begins-within v = starts (v .holds) (v .heading) (v .begins)
 
-  pub heading-passed : {x : ℕ} → x ≡ kindByte records i → x ≡ 18 → (v : Beginning records i)
+  pub heading-passed : {x : ℕ} → x ≡ kindByte records i → x ≡ kindNo Stars → (v : Beginning records i)
       → Begins (v .tokens) (i + 3) no-heading (v .declaration) (v .following)
   heading-passed k e v = no-stars (v .holds) (sym k ∙ e) (v .heading) (v .begins)
 
-  pub no-heading-there : {x : ℕ} → x ≡ kindByte records i → (x ≡ 18 → ⊥) → (v : Beginning records i)
+  pub no-heading-there : {x : ℕ} → x ≡ kindByte records i → (x ≡ kindNo Stars → ⊥) → (v : Beginning records i)
       → Begins (v .tokens) i no-heading (v .declaration) (v .following)
   no-heading-there k f v = as-it-is (v .holds) (λ e. f (k ∙ e)) (v .heading) (v .begins)
 
@@ -98,10 +98,10 @@ module _ {records : List ℕ} {i j : ℕ} (behind : (v : Beginning records i) �
   pub behind-within : (v : Beginning records i) → First records (v .tokens) j (startKind no-heading (v .declaration))
   behind-within v = starts (v .holds) no-heading (behind v)
 
-  pub main-passed : {x : ℕ} → x ≡ kindByte records j → x ≡ 28 → (v : Beginning records i) → Named (v .tokens) (j + 1) (v .declaration) (v .following)
+  pub main-passed : {x : ℕ} → x ≡ kindByte records j → x ≡ kindNo MAIN → (v : Beginning records i) → Named (v .tokens) (j + 1) (v .declaration) (v .following)
   main-passed k e v = no-main (v .holds) (sym k ∙ e) (v .declaration) (behind v)
 
-  pub name-there : {x : ℕ} → x ≡ kindByte records j → (x ≡ 28 → ⊥) → (v : Beginning records i) → Named (v .tokens) j (v .declaration) (v .following)
+  pub name-there : {x : ℕ} → x ≡ kindByte records j → (x ≡ kindNo MAIN → ⊥) → (v : Beginning records i) → Named (v .tokens) j (v .declaration) (v .following)
   name-there k f v = at-once (v .holds) (λ e. f (k ∙ e)) (v .declaration) (behind v)
 
 -- d brackets of the declaration named p are open before the token i

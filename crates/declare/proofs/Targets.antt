@@ -1,18 +1,19 @@
 -- Laws of what a mapping lies on: its target's name, looked up among all declarations.
 -- Assumes nothing.
-use Prim.Native.Nat.{ℕ, zero, suc, _+_, _*_, _<_, _≤_}
+use Prim.Native.Nat.{ℕ, _+_, _*_, _<_, _≤_}
 use mathlib.Core.Path.{_≡_, refl, sym, ap, _∙_}
 use mathlib.Core.Bool.{Bool, true, false, not, _||_}
-use mathlib.Core.List.{List, [], _∷_, map}
-use mathlib.Core.Option.{Option, none, some, Option·none-ne-some, Option·some-injective}
+use mathlib.Core.List.{List}
+use mathlib.Core.Option.{Option, none, some}
 use native.Mathlib.Omega.{arith}
-use lib.ListN.{length, getElem?, length-map}
+use lib.ListN.{length, length-map}
 use Rattle.cells.specs.Cells.{cell}
 use Rattle.rules.specs.Text.Tokens.{Token}
 use Rattle.rules.specs.Text.Scan.{sameBytes}
-use Rattle.rules.specs.Grammar.Trees.{Tokens, Declaration}
+use Rattle.rules.specs.Grammar.Trees.{Tokens}
 use Rattle.rules.specs.Declarations.{declaredOf, Target, numberOf}
 use Rattle.rules.specs.Faults.Declared.{goodTarget, declaredAt, badMapping}
+use Rattle.table.specs.Laws.Kth.{map-found}
 use Rattle.table.specs.Declarations.{declarationList}
 use Rattle.table.specs.Words.{NameAt, wordAt, TwoNames, sameWords}
 use Rattle.table.specs.Views.{View, TargetAt}
@@ -57,11 +58,6 @@ module _ {text records values decls : List ℕ} {m i : ℕ} (v : Listed text rec
 abbrev pub chosen-at : {text records values decls : List ℕ} {m j : ℕ} (v : Listed text records values decls m) → j < m → Chosen text records values decls m j
 chosen-at {j = j} v l =
     let n = nth (declarationList (v .description)) j (omega (arith, v .count)) in record { listed = v; declaration = n .declaration; found = n .found }
-
-pub map-element : (l : List Declaration) (k : ℕ) (d : Declaration) → getElem? l k ≡ some d → getElem? (map declaredOf l) k ≡ some (declaredOf d)
-map-element [] k d e = absurd (Option·none-ne-some d e)
-map-element (x ∷ l) zero d e = ap (λ (y : Declaration). some (declaredOf y)) (Option·some-injective x d e)
-map-element (x ∷ l) (suc k) d e = map-element l k d e
 
 -- a target's name is the token t
 record Aimed (ts : Tokens) (t : ℕ) (o : Option Target) : Type 0 where
@@ -138,5 +134,5 @@ module _ (text records values decls : List ℕ) (m k : ℕ) {p t : ℕ} (place :
           judged-target e good v =
               let c = found v in
               let at : declaredAt (tableOf (v .listed)) (some j) ≡ some (chosenOf c)
-              = map-element (declarationList (v .listed .description)) j (c .declaration) (c .found) in
+              = map-found (declarationList (v .listed .description)) j (c .declaration) (c .found) in
               sym (opened v ∙ rw (not-outer, there v .0, at) (ap not (sym (good (chosen-view v place) (chosen-view c e) (aimed v .target) (aimed v .is)))))

@@ -1,25 +1,19 @@
 -- Laws of `words`: what is counted and what is left make the total.
 -- Assumes nothing.
-use Prim.Native.Nat.{ℕ, suc, _+_, _*_, _<_, _≤_}
+use Prim.Native.Nat.{ℕ, _+_, _<_, _≤_}
 use mathlib.Core.Path.{_≡_, ap}
-use mathlib.Core.List.{List, _∷_}
-use mathlib.Core.Option.{some}
+use mathlib.Core.List.{List}
 use native.Mathlib.Omega.{arith}
 use native.Mathlib.Numerals.{add-one}
-use lib.ListN.{length, drop, getElem?, drop-of-length-le, length-map}
+use lib.ListN.{length, drop, drop-of-length-le}
 use Rattle.cells.specs.Cells.{cell}
 use Rattle.rules.specs.Grammar.Trees.{Tokens, Description}
 use Rattle.rules.specs.Declarations.{declaredOf, outerName, declarations, wordsOf, totalWords}
-use Rattle.rules.specs.Faults.Declared.{largeBits, largeWords}
 use Rattle.rules.specs.Limits.{mostWords}
-use Rattle.table.specs.Declarations.{declarationList, all-declared}
 use Rattle.table.specs.Views.{View}
-use Rattle.table.specs.Lookups.{Nth, nth}
 use Rattle.table.specs.Ready.{Ready}
-use Rattle.declare.specs.Lawful.{both-false, lawful-large, lawful-words}
-use Rattle.declare.specs.Listed.{SmallView}
-use Rattle.declare.proofs.Places.{table-from}
-use Rattle.declare.proofs.Targets.{map-element}
+use Rattle.table.specs.Laws.Kth.{table-length, kth-next, kth-view}
+use Rattle.declare.specs.Lawful.{lawful-words}
 
 pub record Summed (records values decls : List ℕ) (m total k : ℕ) : Type 0 where
   pub within : k ≤ m
@@ -30,37 +24,13 @@ pub record Summed (records values decls : List ℕ) (m total k : ℕ) : Type 0 w
 pub nothing-summed : {records values decls : List ℕ} {m : ℕ} → Summed records values decls m 0 0
 nothing-summed = record { within = omega arith; room = omega arith; left = λ text ts d r. omega arith }
 
-module _ {text records values decls : List ℕ} {ts : Tokens} {d : Description} {m k : ℕ} (r : Ready text records values decls ts d m) (l : k < m) where
-  this : Nth (declarationList d) k
-  this = nth (declarationList d) k (omega (arith, r .count))
-
-  pub cell-room : 2 * k + 2 ≤ length decls
-  cell-room = omega (arith, r .declared .room, r .count)
-
-  next : drop k (declarations d) ≡ declaredOf (this .declaration) ∷ drop (suc k) (declarations d)
-  next = rw (all-declared d) (table-from (declarationList d) k this)
-
-  element : getElem? (declarations d) k ≡ some (declaredOf (this .declaration))
-  element = rw (all-declared d) (map-element (declarationList d) k (this .declaration) (this .found))
-
-  module _ {p : ℕ} (e : p ≡ cell 2 decls k) where
-    view : View records values p
-    view = record { text = text; tokens = ts; holds = r .holds; declaration = this .declaration; stands = rw e (r .declared .each k (this .declaration) (this .found)) }
-
-    pub small-there : SmallView records values p
-    unfolding view
-    small-there =
-        let x = declaredOf (this .declaration) in
-        record {
-          view = view;
-          small = both-false (largeBits (x .bits)) (largeWords (x .words)) (lawful-large (outerName d .word) (declarations d) (r .lawful) k x element) .1;
-        }
-
-    adds-up : (total : ℕ) {w : ℕ} → total + totalWords (drop k (declarations d)) ≡ totalWords (declarations d)
-        → ((v : View records values p) → w ≡ wordsOf (declaredOf (v .declaration)))
-        → total + w + totalWords (drop (k + 1) (declarations d)) ≡ totalWords (declarations d)
-    unfolding totalWords view
-    adds-up total sum adds = rw add-one (omega (arith, ap totalWords next, adds view, sum))
+module _ {text records values decls : List ℕ} {ts : Tokens} {d : Description} {m k p : ℕ} (r : Ready text records values decls ts d m) (l : k < m)
+    (e : p ≡ cell 2 decls k) where
+  adds-up : (total : ℕ) {w : ℕ} → total + totalWords (drop k (declarations d)) ≡ totalWords (declarations d)
+      → ((v : View records values p) → w ≡ wordsOf (declaredOf (v .declaration)))
+      → total + w + totalWords (drop (k + 1) (declarations d)) ≡ totalWords (declarations d)
+  unfolding totalWords
+  adds-up total sum adds = rw add-one (omega (arith, ap totalWords (kth-next r l), adds (kth-view r l e), sum))
 
 pub summed-more : {records values decls : List ℕ} {m total k p w : ℕ} → Summed records values decls m total k → k < m → p ≡ cell 2 decls k
     → ((v : View records values p) → w ≡ wordsOf (declaredOf (v .declaration)))
@@ -76,7 +46,7 @@ pub all-summed : {records values decls : List ℕ} {m total k : ℕ} → Summed 
 unfolding totalWords
 all-summed {k = k} s l = (
   λ text ts d r.
-      let long : length (declarations d) ≤ k = omega (arith, ap length (all-declared d), length-map (declarationList d) declaredOf, r .count) in
+      let long : length (declarations d) ≤ k = omega (arith, table-length r) in
       omega (arith, s .left text ts d r, ap totalWords (drop-of-length-le (declarations d) long)),
   s .room,
 )

@@ -6,4 +6,5 @@ pub mod Spans
 pub mod Listed
 pub mod Resolving
 pub mod Lawful
+pub mod Small
 pub mod Told

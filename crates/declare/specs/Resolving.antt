@@ -6,9 +6,9 @@ use lib.ListN.{length}
 use Rattle.rules.specs.Text.Tokens.{Name}
 use Rattle.rules.specs.Grammar.Trees.{Tokens}
 use Rattle.rules.specs.Declarations.{Name as Word, Table}
-use Rattle.table.specs.Holds.{tokenAt, Holds}
+use Rattle.table.specs.Holds.{tokenAt, Holds, insideCell}
 use Rattle.table.specs.Words.{NameAt, wordAt}
-use Rattle.table.specs.Meaning.{meaningCell, meaningOf}
+use Rattle.table.specs.Meaning.{meaningOf}
 use Rattle.declare.specs.Listed.{Listed, outerOf, tableOf}
 
 -- the name i of a table with listed declarations
@@ -23,4 +23,4 @@ meaningIn {i = i} v = meaningOf (outerOf (v .listed)) (tableOf (v .listed)) (wor
 -- the tokens before i: the table holds, and their names have their meanings
 pub record ResolvedTo (text records values : List ℕ) (ts : Tokens) (outer : Word) (ds : Table) (i : ℕ) : Type 0 where
   pub holds : Holds text records values ts
-  pub means : (j : ℕ) → j < i → j < length ts → tokenAt ts j .kind ≡ Name → meaningCell records j ≡ meaningOf outer ds (wordAt ts j)
+  pub means : (j : ℕ) → j < i → j < length ts → tokenAt ts j .kind ≡ Name → insideCell records j ≡ meaningOf outer ds (wordAt ts j)

@@ -5,6 +5,7 @@ use crate::spans::is_missing;
 use crate::spans::large_bits;
 use crate::spans::storage_words;
 use cells::get16;
+use table::keys::NO_KEY;
 use table::keys::fault_key;
 use table::lookups::lookup;
 use table::records::place_at;
@@ -24,9 +25,6 @@ ghost use Rattle.table.specs.Views.{View};
 ghost use Rattle.table.specs.Keys.{leastKey};
 ghost use Rattle.declare.specs.Faults.{isLarge, ownNumber};
 ghost use Rattle.declare.specs.Listed.{Listed, outerOf, tableOf, knownOf, Chosen, chosenOf, SmallView};
-
-// No fault: above every key.
-pub const NO_KEY: u32 = 4294967295;
 
 const MOST_DECLARATIONS: usize = 256;
 

@@ -1,5 +1,14 @@
 // Where the declarations stand: one walk over the tokens, which passes over bodies by counting brackets.
 use cells::put16;
+use table::kinds::BEGIN;
+use table::kinds::COMMA;
+use table::kinds::END;
+use table::kinds::LBRA;
+use table::kinds::LPAR;
+use table::kinds::MAIN;
+use table::kinds::RBRA;
+use table::kinds::RPAR;
+use table::kinds::STARS;
 use table::records::kind_at;
 ghost use mathlib.Core.Path.{_≡_};
 ghost use mathlib.Core.List.{List};
@@ -12,24 +21,6 @@ ghost use Rattle.rules.specs.Grammar.Verdict.{count};
 ghost use Rattle.table.specs.Declarations.{declarationList};
 ghost use Rattle.declare.specs.Skipping.{ends};
 ghost use Rattle.declare.specs.Finding.{Described, Begins, Named, Follow, Beginning, Naming, Found};
-
-const LPAR: u8 = 3;
-
-const RPAR: u8 = 4;
-
-const LBRA: u8 = 5;
-
-const RBRA: u8 = 6;
-
-const COMMA: u8 = 9;
-
-const STARS: u8 = 18;
-
-const BEGIN: u8 = 19;
-
-const END: u8 = 20;
-
-const MAIN: u8 = 28;
 
 // Whether a declaration ends before a token, with so many of its brackets open.
 fn ends_here(depth: usize, kind: u8) -> bool

@@ -5,10 +5,10 @@ pub mod finding;
 pub mod resolving;
 pub mod spans;
 
-use crate::faults::NO_KEY;
 use crate::faults::fault30;
 use crate::finding::find;
 use crate::resolving::resolve;
+use table::keys::NO_KEY;
 ghost use Prim.Native.Nat.{_*_, _≤_};
 ghost use lib.ListN.{length};
 ghost use Rattle.rules.specs.Limits.{deepest, mostTokens};

@@ -1,7 +1,10 @@
 // What the names mean: each name's record takes the number of its first declaration.
-use cells::put16;
+use table::kinds::NAME;
+use table::lookups::OUTER_ONLY;
+use table::lookups::UNKNOWN;
 use table::lookups::lookup;
 use table::records::kind_at;
+use table::records::put_inside;
 use table::words::same_word;
 ghost use mathlib.Core.Path.{_≡_};
 ghost use mathlib.Core.List.{List};
@@ -9,12 +12,6 @@ ghost use Prim.Native.Nat.{ℕ, _+_, _<_};
 ghost use lib.ListN.{length};
 ghost use Rattle.declare.specs.Listed.{Listed, outerOf, tableOf};
 ghost use Rattle.declare.specs.Resolving.{NameIn, meaningIn, ResolvedTo};
-
-const NAME: u8 = 0;
-
-const OUTER_ONLY: u16 = 65534;
-
-const UNKNOWN: u16 = 65535;
 
 // The number of the first declaration of the name i; or that it is the outer name, or unknown.
 fn meaning(text: &[u8], records: &[u8], decls: &[u8], m: usize, i: usize) -> u16
@@ -42,7 +39,7 @@ fn resolve_one(text: &[u8], records: &mut [u8], decls: &[u8], m: usize, i: usize
         return;
     }
     let number = meaning(text, records, decls, m, i);
-    put16(records, 4 * i + 2, number);
+    put_inside(records, i, number as usize);
 }
 
 // Writes what each of the n tokens means that is a name.

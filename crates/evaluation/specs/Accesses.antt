@@ -30,7 +30,7 @@ use Rattle.evaluation.specs.declared.accesses.Located.{Located}
 use Rattle.evaluation.specs.declared.accesses.Located.the-variants.{Field as located, Fault as outside}
 use Rattle.evaluation.specs.declared.expressions.Evaluated.{Evaluated}
 use Rattle.evaluation.specs.declared.expressions.Evaluated.the-variants.{Value as worked, Fault as faulted}
-use Rattle.evaluation.specs.Kinds as kinds
+use Rattle.table.specs.Laws.Operators as kinds
 use Rattle.evaluation.specs.Cells.{Parts, locatedAt, words-named, cell-parts}
 use Rattle.evaluation.specs.Scene.{wordsOf, ExpressionAt, ExpressionAnswer, ExpressionTold, AccessAt, AccessAnswer, Locates}
 use Rattle.evaluation.specs.Subscripts.{BitsAt, SizeTold, bits-view, bits-small, behind-bits, SubscriptedAt, SubscriptedAnswer, same}

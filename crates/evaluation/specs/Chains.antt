@@ -15,7 +15,8 @@ use Rattle.laws.specs.Accepted.Lengths.{SizedFactor}
 use Rattle.table.specs.Holds.{kindByte}
 use Rattle.table.specs.Positions.{here, kind-here, record-within}
 use Rattle.evaluation.specs.declared.expressions.Evaluated.the-variants.{Value as worked}
-use Rattle.evaluation.specs.Kinds.{tightnessAt, tightness-at, tightness-range, endsAccess, endsExpression, no-operator, ends-access, operator-ends}
+use Rattle.table.specs.Operators.{tightnessAt, endsAccess, endsExpression}
+use Rattle.table.specs.Laws.Operators.{tightness-at, tightness-range, no-operator, ends-access, operator-ends}
 use Rattle.evaluation.specs.Scene.{Scene, OperandAt, OperandAnswer}
 
 -- what is left of an expression from the token p on, behind an operand

@@ -21,7 +21,7 @@ use Rattle.values.specs.Operands.{Operands}
 use Rattle.values.specs.Operators.{opAt, opAt-kind}
 use Rattle.evaluation.specs.declared.expressions.Evaluated.{Evaluated}
 use Rattle.evaluation.specs.declared.expressions.Evaluated.the-variants.{Value as worked, Fault as faulted}
-use Rattle.evaluation.specs.Kinds.{tightnessAt, endsExpression}
+use Rattle.table.specs.Operators.{tightnessAt, endsExpression}
 use Rattle.evaluation.specs.Scene.{Scene, wordsOf, ExpressionAt, ExpressionAnswer, OperandAt, OperandAnswer, OperandTold, Answers}
 use Rattle.evaluation.specs.Trees.{tree-is, sized-parts, tree-faults}
 use Rattle.evaluation.specs.Worths.{factor-bits, node-comes, node-operands}

@@ -22,7 +22,7 @@ use Rattle.evaluation.specs.declared.accesses.Located.{Located}
 use Rattle.evaluation.specs.declared.accesses.Located.the-variants.{Field as located, Fault as outside}
 use Rattle.evaluation.specs.declared.transfers.Gathered.{Gathered}
 use Rattle.evaluation.specs.declared.transfers.Gathered.the-variants.{Fields, Fault}
-use Rattle.evaluation.specs.Kinds.{endsAccess}
+use Rattle.table.specs.Operators.{endsAccess}
 use Rattle.evaluation.specs.Cells.{cellFirst, cellLow, cellBits}
 use Rattle.evaluation.specs.Scene.{Scene, wordsOf, AccessAt, AccessAnswer, AccessTold}
 use Rattle.evaluation.specs.Worths.{then-then, Within, access-within, access-size}

@@ -16,7 +16,8 @@ use Rattle.laws.specs.Accepted.Lengths.{Sized, SizedFactor}
 use Rattle.table.specs.Holds.{kindByte}
 use Rattle.evaluation.specs.declared.expressions.Evaluated.{Evaluated}
 use Rattle.evaluation.specs.declared.expressions.Evaluated.the-variants.{Value as worked, Fault as faulted}
-use Rattle.evaluation.specs.Kinds.{tightnessAt, tightness-at, tightness-range}
+use Rattle.table.specs.Operators.{tightnessAt}
+use Rattle.table.specs.Laws.Operators.{tightness-at, tightness-range}
 use Rattle.evaluation.specs.Scene.{wordsOf, OperandAt, OperandAnswer, OperandTold}
 use Rattle.evaluation.specs.Waits.{Under, under-few, looser-all, under-looser, settled-all}
 use Rattle.evaluation.specs.Trees.{Waits, treeOf, treeLeft, treeSettled, tree-is, sized-parts, tree-faults}

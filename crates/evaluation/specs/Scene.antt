@@ -17,7 +17,7 @@ use Rattle.laws.specs.Accepted.Declared.{Declares}
 use Rattle.laws.specs.Accepted.Lengths.{Sized, SizedFactor}
 use Rattle.table.specs.Holds.{Holds, tokenAt}
 use Rattle.promise.specs.Accesses.{AccessesHold}
-use Rattle.evaluation.specs.Kinds.{endsAccess, endsExpression}
+use Rattle.table.specs.Operators.{endsAccess, endsExpression}
 use Rattle.evaluation.specs.declared.accesses.Located.{Located}
 use Rattle.evaluation.specs.declared.accesses.Located.the-variants.{Field as located, Fault as outside}
 use Rattle.evaluation.specs.declared.expressions.Evaluated.{Evaluated}

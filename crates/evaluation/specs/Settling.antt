@@ -18,7 +18,8 @@ use Rattle.laws.specs.Accepted.Declared.{Declares}
 use Rattle.laws.specs.Accepted.Lengths.{Sized}
 use Rattle.values.specs.Operands.{Operands}
 use Rattle.values.specs.Operators.{opAt, opAt-kind}
-use Rattle.evaluation.specs.Kinds.{tightnessAt, tightness-at}
+use Rattle.table.specs.Operators.{tightnessAt}
+use Rattle.table.specs.Laws.Operators.{tightness-at}
 use Rattle.evaluation.specs.Waits.{looser-pass, settled-pass, looser-stop, settled-stop}
 use Rattle.evaluation.specs.Trees.{Waits, treeLeft, treeSettled, both, sized-settled, Given}
 use Rattle.evaluation.specs.Worths.{tree-bits, node-comes, node-operands}

@@ -25,7 +25,8 @@ use Rattle.evaluation.specs.declared.accesses.Located.{Located}
 use Rattle.evaluation.specs.declared.accesses.Located.the-variants.{Fault as outside}
 use Rattle.evaluation.specs.declared.accesses.Word.{Word}
 use Rattle.evaluation.specs.declared.accesses.Word.the-variants.{Number, Outside}
-use Rattle.evaluation.specs.Kinds.{endsAccess, no-bits}
+use Rattle.table.specs.Operators.{endsAccess}
+use Rattle.table.specs.Laws.Operators.{no-bits}
 use Rattle.evaluation.specs.Cells.{cellLeft, cellRight, Parts, shownWord, locatedAt}
 use Rattle.evaluation.specs.Scene.{Locates}
 

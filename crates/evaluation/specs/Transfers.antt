@@ -16,7 +16,7 @@ use Rattle.rules.specs.Steps.Evaluation.{Carriers, Outcome, gives, faulty, then
 use Rattle.laws.specs.Grammar.Nesting.{subscriptNest, joinedNest}
 use Rattle.laws.specs.Accepted.Destinations.{SizedDestination}
 use Rattle.table.specs.Positions.{here, record-within}
-use Rattle.promise.specs.Instructions.{insideCell, ExpressionStands, DestinationStands}
+use Rattle.promise.specs.Instructions.{ExpressionStands, DestinationStands}
 use Rattle.evaluation.specs.declared.accesses.Located.{Located}
 use Rattle.evaluation.specs.declared.accesses.Located.the-variants.{Field as located, Fault as outside}
 use Rattle.evaluation.specs.declared.expressions.Evaluated.{Evaluated}
@@ -30,6 +30,7 @@ use Rattle.evaluation.specs.Worths.{Within, access-within}
 use Rattle.evaluation.specs.Standing.{expression-at, expression-stood, destination-fits}
 use Rattle.evaluation.specs.Stores.{sizes, Put, put-length, put-writes, single-store, StoresAt, StoresAnswer}
 use Rattle.evaluation.specs.Gathering.{fieldAt, GatherAt, Gathers, GatherAnswer, behind}
+use Rattle.table.specs.Holds.{insideCell}
 
 -- the stores of x to a destination
 abbrev pub assigned : Table → Carriers → List Access → ℕ → Outcome Carriers

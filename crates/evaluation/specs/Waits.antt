@@ -11,7 +11,7 @@ use lib.ListN.{length}
 use Rattle.rules.specs.Text.Tokens.{Info, Op}
 use Rattle.rules.specs.Grammar.Precedence.{tightness, Factor}
 use Rattle.laws.specs.Grammar.Shunting.{Waiting, combine, unwind, looser, settled}
-use Rattle.evaluation.specs.Kinds.{tightness-range}
+use Rattle.table.specs.Laws.Operators.{tightness-range}
 
 module _ {W : Type 0} where
   -- they bind looser than n, each tighter than those below it

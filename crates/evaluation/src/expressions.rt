@@ -6,7 +6,12 @@ use crate::accesses::read;
 use crate::accesses::subscripted;
 use crate::operators::Settled;
 use crate::operators::settle;
-use crate::operators::tightness_of;
+use table::kinds::CONST;
+use table::kinds::LBRA;
+use table::kinds::LPAR;
+use table::kinds::NAME;
+use table::kinds::NOT;
+use table::operators::tightness_of;
 use table::records::kind_at;
 use table::records::size_at;
 use table::records::value_at;
@@ -28,16 +33,6 @@ pub enum Evaluated {
     Value(u64, u32, usize),
     Fault(u16),
 }
-
-const NAME: u8 = 0;
-
-const CONST: u8 = 1;
-
-const LPAR: u8 = 3;
-
-const LBRA: u8 = 5;
-
-const NOT: u8 = 31;
 
 // The first token of the operand i that is no NOT.
 fn behind_nots(records: &[u8], i: usize) -> usize

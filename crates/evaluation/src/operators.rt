@@ -1,8 +1,7 @@
 // Operators: how tightly they bind, and settling those that wait.
+use table::operators::tightness_of;
 use values::operate;
 use values::operate_bits;
-ghost use mathlib.Core.Path.{_≡_};
-ghost use Rattle.evaluation.specs.Kinds.{tightnessAt};
 ghost use Rattle.evaluation.specs.Settling.{SettleAt, Settles};
 
 // How many operators still wait, and the value of what is settled.
@@ -10,31 +9,6 @@ pub struct Settled {
     pub count: usize,
     pub number: u64,
     pub bits: u32,
-}
-
-// How tightly the operator of this kind binds; 0 for a kind that is no operator.
-pub fn tightness_of(kind: u8) -> u32
-    ensures { λ r. ⌜ r ≡ tightnessAt kind ⌝ }
-{
-    if kind == 15 {
-        return 5;
-    }
-    if kind < 16 {
-        return 0;
-    }
-    if kind < 18 {
-        return 4;
-    }
-    if kind < 32 {
-        return 0;
-    }
-    if kind < 34 {
-        return 2;
-    }
-    if kind < 36 {
-        return 1;
-    }
-    3
 }
 
 // Settles those of the waiting operators, the last first, that bind as tightly as `tight`; each has its kind, and its left operand's number and length.

@@ -3,15 +3,14 @@ use crate::accesses::Located;
 use crate::expressions::Evaluated;
 use crate::expressions::access;
 use crate::expressions::expression;
-use cells::get16;
 use cells::get64;
 use cells::put64;
+use table::records::inside_at;
 use values::fields::part;
 use values::fields::with_field;
 ghost use mathlib.Core.Path.{_≡_};
 ghost use Prim.Native.Nat.{_+_, _*_, _<_, _≤_};
 ghost use lib.ListN.{length};
-ghost use Rattle.promise.specs.Instructions.{insideCell};
 ghost use Rattle.evaluation.specs.Cells.{cellFirst, cellLow, cellBits};
 ghost use Rattle.evaluation.specs.Stores.{Put, StoresAt, StoresAnswer};
 ghost use Rattle.evaluation.specs.Gathering.{GatherAt, GatherAnswer};
@@ -30,14 +29,6 @@ enum Gathered {
 
 // How deep brackets nest at most.
 const DEEPEST: usize = 32;
-
-// Where the cell inside of the instruction n leads.
-fn inside_at(records: &[u8], n: usize) -> usize
-    requires { ⌜ 8 * n + 8 ≤ length (now records) ⌝ }
-    ensures { λ r. ⌜ r ≡ insideCell (now (records .entry)) n ⌝ }
-{
-    get16(records, 4 * n + 2) as usize
-}
 
 // Some bits of a word take the lowest of v.
 fn store(carriers: &mut [u8], word: usize, low: u32, size: u32, v: u64)

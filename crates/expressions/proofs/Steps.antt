@@ -15,7 +15,7 @@ use Rattle.table.specs.Holds.{kindByte, sizeByte}
 use Rattle.table.specs.Keys.{noKey}
 use Rattle.table.specs.Positions.{here}
 use Rattle.expressions.specs.declared.Judged.{Judged as Answer}
-use Rattle.expressions.specs.Kinds.{tightnessAt}
+use Rattle.table.specs.Operators.{tightnessAt}
 use Rattle.expressions.specs.Scene.{Scene, Answers, ExpressionAt, ExpressionAnswer, OperandAt, OperandAnswer, AccessAt, AccessAnswer}
 use Rattle.expressions.specs.Names.{NamedAt, NamedAnswer}
 use Rattle.expressions.specs.Accesses as accesses

@@ -16,7 +16,7 @@ use Rattle.rules.specs.Declarations.{Name as Word, Table}
 use Rattle.rules.specs.Faults.Bodies.{Judged, judge, judgeFactor}
 use Rattle.laws.specs.Grammar.Shunting.{Waiting, valueOf, combine, unwind, looser, settled, chain, chain-is}
 use Rattle.table.specs.Holds.{tokenAt}
-use Rattle.expressions.specs.Kinds.{tightness-range}
+use Rattle.table.specs.Laws.Operators.{tightness-range}
 use Rattle.expressions.specs.Weights.{Weighs, operated}
 
 -- the rules' judgement is that of the chain

@@ -22,7 +22,7 @@ use Rattle.expressions.specs.declared.Judged.{Judged as Answer}
 use Rattle.expressions.specs.declared.destinations.Checked.{Checked}
 use Rattle.expressions.specs.declared.owners.Storage.{Storage}
 use Rattle.expressions.specs.declared.owners.Storage.the-variants.{Carrier, Nothing}
-use Rattle.expressions.specs.Kinds.{endsAccess}
+use Rattle.table.specs.Operators.{endsAccess}
 use Rattle.expressions.specs.Weights.{Weighs, operated}
 use Rattle.expressions.specs.Scene.{Scene, outerOf, tableOf, AccessAt, AccessAnswer}
 use Rattle.expressions.specs.Carriers.{holds, added, none-held, added-long, added-held}

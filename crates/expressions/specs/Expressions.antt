@@ -15,7 +15,8 @@ use Rattle.laws.specs.Grammar.Shunting.{Waiting, waiting, looser, settled, chai
 use Rattle.table.specs.Holds.{kindByte}
 use Rattle.table.specs.Positions.{Here, here, kind-here, record-within}
 use Rattle.expressions.specs.declared.Judged.{Judged as Answer}
-use Rattle.expressions.specs.Kinds.{tightnessAt, tightness-at, tightness-range, endsAccess, endsExpression, no-operator, ends-access, operator-ends}
+use Rattle.table.specs.Operators.{tightnessAt, endsAccess, endsExpression}
+use Rattle.table.specs.Laws.Operators.{tightness-at, tightness-range, no-operator, ends-access, operator-ends}
 use Rattle.expressions.specs.Weights.{Weighs, operated}
 use Rattle.expressions.specs.Scene.{outerOf, tableOf, ExpressionAt, OperandAt, OperandAnswer, Answers}
 use Rattle.expressions.specs.Chains.{Wait, Under, under-few, wait-push, wait-looser, under-looser, settled-all, chain-judged}

@@ -18,7 +18,7 @@ use Rattle.table.specs.Shown.{shownBits}
 use Rattle.table.specs.declared.views.Names.{Names}
 use Rattle.table.specs.declared.views.Names.the-variants.{Missing, Unnamed, Span}
 use Rattle.expressions.specs.Tests.{both-true, either-false}
-use Rattle.expressions.specs.Kinds.{pick}
+use Rattle.table.specs.Operators.{pick}
 
 -- all bits of a declaration; 0 where it has none
 abbrev pub ownLength : Names → ℕ

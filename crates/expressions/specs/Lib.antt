@@ -1,6 +1,5 @@
 pub mod Tests
 pub mod Weights
-pub mod Kinds
 pub mod Scene
 pub mod Operands
 pub mod Lookups

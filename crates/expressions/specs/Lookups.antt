@@ -6,7 +6,7 @@ use mathlib.Core.Bool.{Bool, true, false, _||_}
 use mathlib.Core.List.{List, [], _∷_, _++_, map, append-eq-nil-iff}
 use mathlib.Core.Option.{Option, none, some}
 use native.Mathlib.Omega.{arith}
-use lib.ListN.{length, length-map, getElem?}
+use lib.ListN.{length, getElem?}
 use Rattle.cells.specs.Cells.{cell}
 use Rattle.rules.specs.Text.Tokens.{Name, Info, Token, tk}
 use Rattle.rules.specs.Text.Scan.{sameBytes}
@@ -14,10 +14,11 @@ use Rattle.rules.specs.Grammar.Trees.{Declaration}
 use Rattle.rules.specs.Declarations.{Name as Word, Declared, Table, declaredOf, numberFrom, numberOf}
 use Rattle.rules.specs.Faults.Fault.{Fault, when}
 use Rattle.rules.specs.Faults.Declared.{large, largeBits, largeWords, tooMany, twice, badMapping, mappings, faults30}
-use Rattle.table.specs.Holds.{tokenAt}
+use Rattle.table.specs.Laws.Kth.{map-found, table-length}
+use Rattle.table.specs.Holds.{tokenAt, insideCell}
 use Rattle.table.specs.Declarations.{DeclaredAt, declarationList, all-declared}
 use Rattle.table.specs.Views.{View}
-use Rattle.table.specs.Meaning.{meaningCell, meaningBy, meaningOf, outerOnly, unknownName}
+use Rattle.table.specs.Meaning.{meaningBy, meaningOf, outerOnly, unknownName}
 use Rattle.expressions.specs.Tests.{either-false}
 use Rattle.expressions.specs.Scene.{Scene, outerOf, tableOf}
 
@@ -49,11 +50,6 @@ mapped [] k e = absurd (let b = e .below in omega arith)
 mapped (d ∷ l) zero e = (d, refl)
 mapped (d ∷ l) (suc k) e = mapped l k (record { item = e .item; at = e .at; below = let b = e .below in omega arith })
 
-map-at : (l : List Declaration) (k : ℕ) (d : Declaration) → getElem? l k ≡ some d → getElem? (map declaredOf l) k ≡ some (declaredOf d)
-map-at [] k d e = absurd (let z : _≡_ {A = ℕ} 0 1 = cc in omega arith)
-map-at (c ∷ l) zero d e = let q : c ≡ d = cc in rw q
-map-at (c ∷ l) (suc k) d e = map-at l k d e
-
 -- the cell of a name that is not declared tells which it is, and is no declaration's number
 told : (o b : Bool) → meaningBy none o ≡ meaningBy none b → b ≡ o
 told true true e = refl
@@ -68,7 +64,7 @@ no-number false = omega arith
 module _ {records values decls : List ℕ} (s : Scene records values decls) where
   few-declared : length (tableOf s) ≤ 256
   few-declared =
-      omega (arith, ap length (all-declared (s .description)), length-map (declarationList (s .description)) declaredOf, s .ready .count, s .ready .few)
+      omega (arith, table-length (s .ready), s .ready .few)
 
   -- the declaration of the number k, where its name stands
   pub record Found (k : ℕ) : Type 0 where
@@ -88,21 +84,21 @@ module _ {records values decls : List ℕ} (s : Scene records values decls) wher
       let b = e .below in
       record {
         declaration = m .0;
-        listed = ap (λ l. getElem? l k) all ∙ map-at (declarationList (s .description)) k (m .0) (m .1);
+        listed = ap (λ l. getElem? l k) all ∙ map-found (declarationList (s .description)) k (m .0) (m .1);
         small = let f = few-declared in omega arith;
-        room = omega (arith, s .ready .declared .room, ap length all, length-map (declarationList (s .description)) declaredOf);
+        room = omega (arith, s .ready .declared .room, s .ready .count, table-length (s .ready));
         stands = s .ready .declared .each k (m .0) (m .1);
       }
 
   -- a name at the token i, and what its cell says
   module _ (i : ℕ) (x : Info) (within : i < length (s .tokens)) (here : tokenAt (s .tokens) i ≡ tk Name x) where
-    means : meaningCell records i ≡ meaningOf (outerOf s) (tableOf s) (x .word)
+    means : insideCell records i ≡ meaningOf (outerOf s) (tableOf s) (x .word)
     means =
         s .ready .means .means i within (ap (λ (t : Token). t .kind) here)
         ∙ ap (λ (t : Token). meaningOf (outerOf s) (tableOf s) (t .info .word)) here
 
     -- not declared: o says whether it is the outer name
-    pub undeclared : (o : Bool) → meaningCell records i ≡ meaningBy none o → (numberOf (tableOf s) (x .word) ≡ none) × (sameBytes (outerOf s) (x .word) ≡ o)
+    pub undeclared : (o : Bool) → insideCell records i ≡ meaningBy none o → (numberOf (tableOf s) (x .word) ≡ none) × (sameBytes (outerOf s) (x .word) ≡ o)
     unfolding meaningOf
     undeclared o e = go (numberOf (tableOf s) (x .word)) (sameBytes (outerOf s) (x .word)) (sym e ∙ means) (entered (x .word) (tableOf s))
       where
@@ -110,7 +106,7 @@ module _ {records values decls : List ℕ} (s : Scene records values decls) wher
         go none b q f = (refl, told o b q)
         go (some k) b q f = absurd (omega (arith, no-number o, f k refl .below, few-declared))
 
-    pub declared : (k : ℕ) → k ≡ meaningCell records i → (k ≡ unknownName → ⊥) → (k ≡ outerOnly → ⊥)
+    pub declared : (k : ℕ) → k ≡ insideCell records i → (k ≡ unknownName → ⊥) → (k ≡ outerOnly → ⊥)
         → (numberOf (tableOf s) (x .word) ≡ some k) × Found k
     unfolding meaningOf
     declared k e u o = go (numberOf (tableOf s) (x .word)) (sameBytes (outerOf s) (x .word)) (e ∙ means) (entered (x .word) (tableOf s))
@@ -121,15 +117,15 @@ module _ {records values decls : List ℕ} (s : Scene records values decls) wher
         go (some j) b q f = (ap some (sym q), found-at k (rw q (f j refl)))
 
     -- no declaration's number, so none
-    pub numberless : outerOnly ≤ meaningCell records i → numberOf (tableOf s) (x .word) ≡ none
+    pub numberless : outerOnly ≤ insideCell records i → numberOf (tableOf s) (x .word) ≡ none
     unfolding meaningOf
     numberless h = go (numberOf (tableOf s) (x .word)) (sameBytes (outerOf s) (x .word)) means (entered (x .word) (tableOf s))
       where
-        go : (n : Option ℕ) (b : Bool) → meaningCell records i ≡ meaningBy n b → ((k : ℕ) → n ≡ some k → Entered (tableOf s) k) → n ≡ none
+        go : (n : Option ℕ) (b : Bool) → insideCell records i ≡ meaningBy n b → ((k : ℕ) → n ≡ some k → Entered (tableOf s) k) → n ≡ none
         go none b q f = refl
         go (some k) b q f = absurd (omega (arith, f k refl .below, few-declared))
 
-    pub numbered : (k : ℕ) → numberOf (tableOf s) (x .word) ≡ some k → (meaningCell records i ≡ k) × (k < 256)
+    pub numbered : (k : ℕ) → numberOf (tableOf s) (x .word) ≡ some k → (insideCell records i ≡ k) × (k < 256)
     unfolding meaningOf
     numbered k e =
         (means ∙ ap (λ n. meaningBy n (sameBytes (outerOf s) (x .word))) e, omega (arith, entered (x .word) (tableOf s) k e .below, few-declared))

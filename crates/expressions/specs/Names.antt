@@ -16,15 +16,16 @@ use Rattle.rules.specs.Grammar.Precedence.{Index, no-index, index}
 use Rattle.rules.specs.Declarations.{Names as Span-of, BitNames, one-unnamed, these, mainNames, declaredOf, numberOf}
 use Rattle.rules.specs.Faults.Fault.{fault, when}
 use Rattle.rules.specs.Faults.Bodies.{Judged, judged, soundBits, accessJudged, subscripted, judgeName, judgeAccess}
-use Rattle.table.specs.Holds.{tokenAt, placeCell}
+use Rattle.table.specs.Holds.{tokenAt, placeCell, insideCell}
 use Rattle.table.specs.Keys.{key, noKey, leastBy, Small, none-small, also-small}
-use Rattle.table.specs.Meaning.{meaningCell, meaningBy, outerOnly, unknownName}
+use Rattle.table.specs.Meaning.{meaningBy, outerOnly, unknownName}
 use Rattle.table.specs.Positions.{record-within, behind-far}
 use Rattle.table.specs.Bits.{BitsView, bitsSize, accessBits, access-bits}
 use Rattle.table.specs.Shown.{shownBits, shownWords}
 use Rattle.table.specs.declared.views.Names.{Names}
 use Rattle.table.specs.declared.views.Names.the-variants.{Missing, Unnamed, Span}
-use Rattle.expressions.specs.Kinds.{endsAccess, no-bits}
+use Rattle.table.specs.Operators.{endsAccess}
+use Rattle.table.specs.Laws.Operators.{no-bits}
 use Rattle.expressions.specs.Weights.{Weighs, weighs-fault, weighs-sound}
 use Rattle.expressions.specs.Scene.{Scene, outerOf, tableOf, Answers}
 use Rattle.expressions.specs.declared.Judged.{Judged as Answer}
@@ -152,17 +153,17 @@ module _ {records values decls : List ℕ} {i p : ℕ} (v : NamedAt records valu
   named = judgeAccess (outerOf (v .scene)) (tableOf (v .scene)) (v .name) x (v .bits)
 
   -- 40 and 41: not declared, and not the outer name, or only that
-  undeclared-judged : (o : Bool) → meaningCell records i ≡ meaningBy none o
+  undeclared-judged : (o : Bool) → insideCell records i ≡ meaningBy none o
       → named ≡ judged (when (not o) 40 (v .name .place) ++ when o 41 (v .name .place)) 0
   unfolding judgeAccess judgeName
   undeclared-judged o e =
       let q = undeclared (v .scene) i (v .name) (v .within) (v .here) o e in
       rw (q .0, q .1)
 
-  pub named-unknown : meaningCell records i ≡ unknownName → Weighs (key (fault 40 (v .name .place))) 0 named
+  pub named-unknown : insideCell records i ≡ unknownName → Weighs (key (fault 40 (v .name .place))) 0 named
   named-unknown e = rw (undeclared-judged false e) (weighs-one 40 (v .name .place) 0 (omega arith) (place-fits v))
 
-  pub named-outer : meaningCell records i ≡ outerOnly → Weighs (key (fault 41 (v .name .place))) 0 named
+  pub named-outer : insideCell records i ≡ outerOnly → Weighs (key (fault 41 (v .name .place))) 0 named
   named-outer e = rw (undeclared-judged true e) (weighs-one 41 (v .name .place) 0 (omega arith) (place-fits v))
 
   named-declared : {k : ℕ} → numberOf (tableOf (v .scene)) (v .name .word) ≡ some k → (f : Found (v .scene) k)
@@ -204,9 +205,9 @@ module _ {records values decls : List ℕ} {i p : ℕ} (v : NamedAt records valu
   }
 
   -- the name is declared, and its number is k
-  pub name-found : (k : ℕ) → k ≡ meaningCell records i → (k ≡ unknownName → ⊥) → (k ≡ outerOnly → ⊥) → Found (v .scene) k
+  pub name-found : (k : ℕ) → k ≡ insideCell records i → (k ≡ unknownName → ⊥) → (k ≡ outerOnly → ⊥) → Found (v .scene) k
   name-found k e u o = declared (v .scene) i (v .name) (v .within) (v .here) k e u o .1
 
-  pub found-judged : (k : ℕ) (e : k ≡ meaningCell records i) (u : k ≡ unknownName → ⊥) (o : k ≡ outerOnly → ⊥) (x : Index)
+  pub found-judged : (k : ℕ) (e : k ≡ insideCell records i) (u : k ≡ unknownName → ⊥) (o : k ≡ outerOnly → ⊥) (x : Index)
       → let d = declaredOf (name-found k e u o .declaration) in named v x ≡ accessJudged (v .name .place) (d .words) (d .bits) x (v .bits)
   found-judged k e u o x = named-declared v x (declared (v .scene) i (v .name) (v .within) (v .here) k e u o .0) (name-found k e u o)

@@ -13,8 +13,8 @@ use Rattle.rules.specs.Text.Scan.{sameBytes}
 use Rattle.rules.specs.Declarations.{Names as Span-of, BitNames, Target, Declared, Table, Name as Word, declaredOf, numberOf, reach, reachNumber, reachOf, reachStorage, reachUnder, reachOn}
 use Rattle.rules.specs.Faults.Declared.{declaredAt, goodTarget, fits, badMapping}
 use Rattle.rules.specs.Faults.Bodies.{ownerOf}
-use Rattle.table.specs.Holds.{tokenAt}
-use Rattle.table.specs.Meaning.{meaningCell, outerOnly}
+use Rattle.table.specs.Holds.{tokenAt, insideCell}
+use Rattle.table.specs.Meaning.{outerOnly}
 use Rattle.expressions.specs.declared.owners.Storage.{Storage}
 use Rattle.expressions.specs.declared.owners.Storage.the-variants.{Carrier, Nothing}
 use Rattle.expressions.specs.Tests.{either-false}
@@ -99,11 +99,11 @@ module _ (outer : Word) (ds : Table) (d : Declared) (t : Target) where
 
 -- by what the name's cell says, and by the declaration of that number
 module _ {records values decls : List ℕ} {i : ℕ} (v : NameHere records values decls i) where
-  pub owner-none : outerOnly ≤ meaningCell records i → [] ≡ ownersOf v
+  pub owner-none : outerOnly ≤ insideCell records i → [] ≡ ownersOf v
   unfolding reach reachNumber
   owner-none h = rw (numberless (v .scene) i (v .name) (v .within) (v .here) h)
 
-  module _ {k : ℕ} (e : k ≡ meaningCell records i) (h : k < outerOnly) where
+  module _ {k : ℕ} (e : k ≡ insideCell records i) (h : k < outerOnly) where
     known : (numberOf (tableOf (v .scene)) (v .name .word) ≡ some k) × Found (v .scene) k
     known = declared (v .scene) i (v .name) (v .within) (v .here) k e (λ z. omega arith) (λ z. omega arith)
 

@@ -11,7 +11,7 @@ use Rattle.rules.specs.Declarations.{Name as Word, Table, declarations, outerNa
 use Rattle.rules.specs.Faults.Bodies.{Judged, judge, judgeFactor, judgeDestination}
 use Rattle.laws.specs.Grammar.Nesting.{operandNest, tailNest, subscriptNest}
 use Rattle.table.specs.Ready.{Ready}
-use Rattle.expressions.specs.Kinds.{endsAccess, endsExpression}
+use Rattle.table.specs.Operators.{endsAccess, endsExpression}
 use Rattle.expressions.specs.Weights.{Weighs}
 use Rattle.expressions.specs.declared.Judged.{Judged as Answer}
 

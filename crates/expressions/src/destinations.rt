@@ -1,5 +1,4 @@
 // A destination: accesses joined by `@`, up to `=`.
-use crate::NO_KEY;
 use crate::Weight;
 use crate::carriers::Carriers;
 use crate::carriers::has;
@@ -9,8 +8,10 @@ use crate::judge::access;
 use crate::operators::combined;
 use crate::owners::Storage;
 use crate::owners::owner;
+use table::keys::NO_KEY;
 use table::keys::earlier;
 use table::keys::fault_key;
+use table::kinds::AT;
 use table::records::kind_at;
 use table::records::place_at;
 ghost use mathlib.Core.Path.{_≡_};
@@ -20,8 +21,6 @@ ghost use Rattle.rules.specs.Faults.Fault.{when};
 ghost use Rattle.table.specs.Holds.{placeCell};
 ghost use Rattle.table.specs.Keys.{leastKey};
 ghost use Rattle.expressions.specs.Destinations.{repeats, stored, DestinationAt, DestinationAnswer};
-
-const AT: u8 = 15;
 
 // The key of the least fault, and the token behind.
 pub struct Checked {

@@ -1,24 +1,20 @@
 // Expressions, operands and accesses: an access with a subscript holds an expression, which holds accesses again. Only brackets nest, and `depth` falls
 // with each; NOTs and operators in a row are loops.
 use crate::Judged;
-use crate::NO_KEY;
 use crate::names::named;
 use crate::operators::Settled;
 use crate::operators::settle;
-use crate::operators::tightness_of;
+use table::keys::NO_KEY;
 use table::keys::earlier;
+use table::kinds::CONST;
+use table::kinds::LBRA;
+use table::kinds::LPAR;
+use table::kinds::NOT;
+use table::operators::tightness_of;
 use table::records::kind_at;
 use table::records::size_at;
 ghost use Rattle.expressions.specs.Scene.{ExpressionAt, ExpressionAnswer, OperandAt, OperandAnswer, AccessAt, AccessAnswer};
 ghost use Rattle.expressions.specs.Operands.{OperandIn, Bared};
-
-const CONST: u8 = 1;
-
-const LPAR: u8 = 3;
-
-const LBRA: u8 = 5;
-
-const NOT: u8 = 31;
 
 // The first token of the operand i that is no NOT.
 fn behind_nots(records: &[u8], i: usize) -> usize

@@ -7,9 +7,6 @@ pub mod names;
 pub mod operators;
 pub mod owners;
 
-// The key of what has no fault: above every other.
-pub const NO_KEY: u32 = 4294967295;
-
 // What is judged: the key of its least fault, its length (0 if it has a fault), and the token behind it.
 pub struct Judged {
     pub key: u32,

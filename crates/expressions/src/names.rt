@@ -1,10 +1,13 @@
 // The name of an access, judged by its declaration.
 use crate::Judged;
-use crate::NO_KEY;
 use crate::Weight;
 use crate::lengths::access_length;
 use cells::get16;
+use table::keys::NO_KEY;
 use table::keys::fault_key;
+use table::lookups::OUTER_ONLY;
+use table::lookups::UNKNOWN;
+use table::records::inside16_at;
 use table::records::place_at;
 use table::views::Names;
 use table::views::bits_of;
@@ -12,29 +15,15 @@ use table::views::bits_size;
 use table::views::names_at;
 use table::views::words_of;
 ghost use mathlib.Core.Path.{_≡_};
-ghost use Prim.Native.Nat.{_+_, _*_, _≤_};
-ghost use lib.ListN.{length};
+ghost use Prim.Native.Nat.{_+_, _≤_};
 ghost use mathlib.Core.Option.{Option};
 ghost use Rattle.rules.specs.Grammar.Trees.{Bits};
 ghost use Rattle.rules.specs.Grammar.Precedence.{Index};
 ghost use Rattle.rules.specs.Declarations as rules;
 ghost use Rattle.rules.specs.Faults.Bodies.{accessJudged};
-ghost use Rattle.table.specs.Meaning.{meaningCell};
 ghost use Rattle.expressions.specs.Lengths.{Short};
 ghost use Rattle.expressions.specs.Weights.{Weighs};
 ghost use Rattle.expressions.specs.Names.{NamedAt, NamedAnswer, isMissing, fitsWords, Shows};
-
-pub const OUTER_ONLY: u16 = 65534;
-
-const UNKNOWN: u16 = 65535;
-
-// What the name i means: the number of its first declaration, or that it has none.
-pub fn meaning_at(records: &[u8], i: usize) -> u16
-    requires { ⌜ 8 * i + 8 ≤ length (now records) ⌝ }
-    ensures { λ r. ⌜ r ≡ meaningCell (now (records .entry)) i ⌝ }
-{
-    get16(records, 4 * i + 2)
-}
 
 pub fn is_missing(names: Names) -> bool
     ensures { λ r. ⌜ r ≡ isMissing names ⌝ }
@@ -105,7 +94,7 @@ pub fn named(
 {
     let next = p + bits_size(records, p);
     let place = place_at(records, i);
-    let meaning = meaning_at(records, i);
+    let meaning = inside16_at(records, i);
     if meaning == UNKNOWN {
         return Judged {
             key: fault_key(40, place),

@@ -1,8 +1,9 @@
 // Operators: how tightly they bind, what they make of their operands, and those that wait.
-use crate::NO_KEY;
 use crate::Weight;
+use table::keys::NO_KEY;
 use table::keys::earlier;
 use table::keys::fault_key;
+use table::operators::tightness_of;
 use table::records::kind_at;
 use table::records::place_at;
 use values::operate_bits;
@@ -11,7 +12,6 @@ ghost use Prim.Native.Nat.{_≤_};
 ghost use Rattle.rules.specs.Text.Tokens.{Info, Op, opKind, kindNo};
 ghost use Rattle.rules.specs.Grammar.Precedence.{Factor};
 ghost use Rattle.rules.specs.Faults.Bodies as rules;
-ghost use Rattle.expressions.specs.Kinds.{tightnessAt};
 ghost use Rattle.expressions.specs.Weights.{Weighs, operated};
 ghost use Rattle.expressions.specs.Settling.{SettleAt, Settles};
 
@@ -20,31 +20,6 @@ pub struct Settled {
     pub count: usize,
     pub key: u32,
     pub bits: u32,
-}
-
-// How tightly the operator of this kind binds; 0 for a kind that is no operator.
-pub fn tightness_of(kind: u8) -> u32
-    ensures { λ r. ⌜ r ≡ tightnessAt kind ⌝ }
-{
-    if kind == 15 {
-        return 5;
-    }
-    if kind < 16 {
-        return 0;
-    }
-    if kind < 18 {
-        return 4;
-    }
-    if kind < 32 {
-        return 0;
-    }
-    if kind < 34 {
-        return 2;
-    }
-    if kind < 36 {
-        return 1;
-    }
-    3
 }
 
 // An operator and its operands: 43 at its place where both are sound and the result is over 64 bits.

@@ -1,8 +1,8 @@
 // The storage carrier that a name in a destination stores to.
-use crate::names::OUTER_ONLY;
 use crate::names::is_missing;
-use crate::names::meaning_at;
 use cells::get16;
+use table::lookups::OUTER_ONLY;
+use table::records::inside16_at;
 use table::views::bits_of;
 use table::views::target_of;
 ghost use Rattle.expressions.specs.Owners.{NameHere, Owns};
@@ -18,14 +18,14 @@ pub fn owner(records: &[u8], values: &[u8], decls: &[u8], i: usize) -> Storage
     requires { ⌜ NameHere (now records) (now values) (now decls) i ⌝ }
     ensures { λ r. ⌜ ((v : NameHere (now (records .entry)) (now (values .entry)) (now (decls .entry)) i) → Owns v r) ⌝ }
 {
-    let number = meaning_at(records, i);
+    let number = inside16_at(records, i);
     if OUTER_ONLY <= number {
         return Storage::Nothing;
     }
     let d = get16(decls, number as usize) as usize;
     let target = target_of(records, d);
     if target != 0 {
-        return Storage::Carrier(meaning_at(records, target) as u8);
+        return Storage::Carrier(inside16_at(records, target) as u8);
     }
     if is_missing(bits_of(records, values, d)) {
         return Storage::Nothing;

@@ -4,11 +4,11 @@ use Prim.Native.Nat.{ℕ, _+_}
 use mathlib.Core.Path.{_≡_}
 use mathlib.Core.List.{List}
 use native.Mathlib.Omega.{arith}
-use Rattle.rules.specs.Text.Tokens.{BEGIN, DECODE}
+use Rattle.rules.specs.Text.Tokens.{BEGIN, DECODE, kindNo}
 use Rattle.laws.specs.Grammar.Heads.{headKind}
 use Rattle.laws.specs.Links.Code.{actionSize}
 use Rattle.links.specs.Seeking.{Ground}
-use Rattle.links.specs.Kept.{kept-then}
+use Rattle.table.specs.Laws.Kept.{kept-then}
 use Rattle.links.specs.Stack.{labels-then}
 use Rattle.links.specs.Standing.{ActionAt, Done}
 use Rattle.links.specs.Prefixes.{Prefixed, Bared, heads, heads-not}
@@ -41,13 +41,13 @@ behind-done {i = i} v {i′ = i′} p d =
 
 module _ {g : Ground} {records labels : List ℕ} {i link count first depth : ℕ} {v : ActionAt g records labels i link count first depth} {text : List ℕ}
     (same : g .text ≡ text) {r l : List ℕ} {i′ link′ count′ first′ : ℕ} (b : Bared v r l i′ link′ count′ first′) {k : ℕ} (kind : k ≡ kindByte r i′) where
-  abbrev pub block-behind : k ≡ 19 → BlockAt g text r l i′ link′ count′ first′ depth
+  abbrev pub block-behind : k ≡ kindNo BEGIN → BlockAt g text r l i′ link′ count′ first′ depth
   block-behind e = record { view = b .passed .now; same-text = same; is-block = heads (b .passed .now) kind 19 e }
 
-  abbrev pub choice-behind : k ≡ 23 → ChoiceAt g text r l i′ link′ count′ first′ depth
+  abbrev pub choice-behind : k ≡ kindNo DECODE → ChoiceAt g text r l i′ link′ count′ first′ depth
   choice-behind e = record { view = b .passed .now; same-text = same; is-choice = heads (b .passed .now) kind 23 e }
 
-  abbrev pub leaf-behind : (k ≡ 19 → ⊥) → (k ≡ 23 → ⊥) → LeafAt g text r l i′ link′ count′ first′ depth
+  abbrev pub leaf-behind : (k ≡ kindNo BEGIN → ⊥) → (k ≡ kindNo DECODE → ⊥) → LeafAt g text r l i′ link′ count′ first′ depth
   leaf-behind n m = record {
     view = b .passed .now;
     same-text = same;

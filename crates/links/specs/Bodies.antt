@@ -18,7 +18,7 @@ use Rattle.laws.specs.Grammar.Nesting.{actionNest}
 use Rattle.laws.specs.Orders.Flat.{exit, outer, bind}
 use Rattle.laws.specs.Links.Code.{actionSize, firstOf}
 use Rattle.laws.specs.Links.Placed.{bodyStarts}
-use Rattle.table.specs.Holds.{Holds}
+use Rattle.table.specs.Holds.{Holds, linkCell}
 use Rattle.table.specs.Positions.{here}
 use Rattle.table.specs.Words.{NameAt, wordAt}
 use Rattle.table.specs.Declarations.{DeclaredAt, declarationList}
@@ -26,11 +26,11 @@ use Rattle.table.specs.Lookups.{Nth, nth}
 use Rattle.table.specs.Views.{View, BodyAt}
 use Rattle.table.specs.ViewLaws.{name-token}
 use Rattle.table.specs.Ready.{Ready}
-use Rattle.promise.specs.Instructions.{linkCell}
-use Rattle.links.specs.Scans.{no as kindOf, separates}
+use Rattle.table.specs.Scans.{no as kindOf, separates}
 use Rattle.links.specs.Seeking.{Ground, Stands, Starts}
 use Rattle.links.specs.Forms.{action-within}
-use Rattle.links.specs.Kept.{Kept, kept-none, kept-then, kept-wide, holds-kept, LinkPut}
+use Rattle.table.specs.Kept.{Kept, LinkPut}
+use Rattle.table.specs.Laws.Kept.{kept-none, kept-then, kept-wide, holds-kept}
 use Rattle.links.specs.Linked.{Linked, Same, linked-same}
 use Rattle.links.specs.Stack.{Pushed, labelled-more}
 use Rattle.links.specs.Standing.{Meant, ActionAt, Done}

@@ -5,7 +5,7 @@ use mathlib.Core.Path.{_≡_, refl, ap, _∙_, subst}
 use mathlib.Core.List.{List, [], _∷_}
 use native.Mathlib.Omega.{arith}
 use lib.ListN.{length, drop, length-drop}
-use Rattle.rules.specs.Text.Tokens.{Token, tk, Arrow, Becomes, BEGIN, DECODE}
+use Rattle.rules.specs.Text.Tokens.{Token, tk, Arrow, Becomes, BEGIN, DECODE, END, kindNo}
 use Rattle.rules.specs.Grammar.Trees.{Tokens, operandTokens, tailTokens, Action, actionTokens, alternativesTokens}
 use Rattle.laws.specs.Grammar.Positions.{Writes, selector-writes, action-writes, counted-writes, selected-more-writes}
 use Rattle.laws.specs.Grammar.Heads.{headKind}
@@ -14,10 +14,12 @@ use Rattle.laws.specs.Links.Code.{size, actionSize, firstOf, behindTest}
 use Rattle.laws.specs.Links.Numbers.{size-before}
 use Rattle.table.specs.Holds.{kindByte}
 use Rattle.table.specs.Positions.{here, kind-here}
-use Rattle.links.specs.Scans.{no, arrow, scan, halts, stops, past-expression}
+use Rattle.table.specs.Scans.{no, scan, halts, stops}
+use Rattle.table.specs.Laws.Scans.{arrow, past-expression}
 use Rattle.links.specs.Seeking.{Ground, Stands, Seeks, found-at}
 use Rattle.links.specs.Forms.{choice-is}
-use Rattle.links.specs.Kept.{Kept, kept-none, kept-then, kept-wide, holds-kept}
+use Rattle.table.specs.Kept.{Kept}
+use Rattle.table.specs.Laws.Kept.{kept-none, kept-then, kept-wide, holds-kept}
 use Rattle.links.specs.Linked.{Linked, Separates, Same, linked-same}
 use Rattle.links.specs.Stack.{LabelsKept, labels-none, labels-then}
 use Rattle.links.specs.Standing.{ActionAt, Done}
@@ -211,7 +213,7 @@ module _ {g : Ground} {records labels : List ℕ} {p link count depth : ℕ} (v 
         kind-first : {t : Token} {ts : Tokens} → moreTokens (v .turn .more) (v .rest) ≡ t ∷ ts → k ≡ no t
         kind-first q = let y = here (g .tokens) end _ _ (x .reads-end ∙ q) in kind ∙ kind-here done-holds end _ (y .within) (y .token)
 
-        pub last-turn : k ≡ 20 → TurnAnswer v now after 0
+        pub last-turn : k ≡ kindNo END → TurnAnswer v now after 0
         unfolding this-alternative
         last-turn shut = record { done = λ z. by (behind-of (v .turn .more)); left = λ z. absurd (z refl); further-on = λ z. absurd (z refl) }
           where
@@ -229,7 +231,7 @@ module _ {g : Ground} {records labels : List ℕ} {p link count depth : ℕ} (v 
                   stack = d .stack;
                 }
 
-        pub more-turns : (k ≡ 20 → ⊥) → TurnAnswer v now after end
+        pub more-turns : (k ≡ kindNo END → ⊥) → TurnAnswer v now after end
         unfolding this-alternative
         more-turns going = by (behind-of (v .turn .more))
           where

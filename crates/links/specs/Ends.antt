@@ -11,7 +11,8 @@ use Rattle.rules.specs.Grammar.Trees.{Tokens, Action, actionTokens}
 use Rattle.laws.specs.Grammar.Positions.{action-writes}
 use Rattle.laws.specs.Links.Code.{actionSize}
 use Rattle.table.specs.Positions.{here}
-use Rattle.links.specs.Scans.{no, separates, halts, scan, scan-found, past-action, halts-top, stops-any}
+use Rattle.table.specs.Scans.{no, separates, halts, scan}
+use Rattle.table.specs.Laws.Scans.{scan-found, past-action, halts-top, stops-any}
 use Rattle.links.specs.Seeking.{Ground, Stands, Seeks, found-at}
 
 module _ (g : Ground) {records : List ℕ} (h : Stands g records) (i : ℕ) (a : Action) (next : Token) (rest : Tokens)

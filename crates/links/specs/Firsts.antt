@@ -38,7 +38,7 @@ module _ {records : List ℕ} {i at : ℕ} (s : Going records i at) where
       (omega (arith, v .holds .record-room), omega (arith, v .holds .few))
 
   module _ {k : ℕ} (kind : k ≡ kindByte records at) where
-    pub past-begin : k ≡ 19 → Going records i (at + 1)
+    pub past-begin : k ≡ kindNo BEGIN → Going records i (at + 1)
     unfolding firstOf
     past-begin e g v =
         let t = s g v in
@@ -51,13 +51,13 @@ module _ {records : List ℕ} {i at : ℕ} (s : Going records i at) where
           same = rw add-one (ap (firstOf at) (sym q) ∙ t .same);
         }
 
-    pub first-other : (k ≡ 19 → ⊥) → (k ≡ 0 → ⊥) → (g : Ground) (v : Starts g records i) → at ≡ firstOf i (v .action)
+    pub first-other : (k ≡ kindNo BEGIN → ⊥) → (k ≡ kindNo Name → ⊥) → (g : Ground) (v : Starts g records i) → at ≡ firstOf i (v .action)
     first-other n m g v =
         let t = s g v in
         let byte = kind ∙ head-byte (v .holds) at (t .action) (t .rest) (t .reads) in
         sym (first-here (t .action) at (λ z. n (byte ∙ ap kindNo z)) (λ z. absurd (m (byte ∙ ap kindNo z)))) ∙ t .same
 
-    module _ (named : k ≡ 0) where
+    module _ (named : k ≡ kindNo Name) where
       pub name-within : (g : Ground) × Starts g records i → 8 * (at + 1) + 8 ≤ length records
       name-within (g, v) =
           let t = s g v in

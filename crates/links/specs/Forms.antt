@@ -61,7 +61,7 @@ module _ (a : Action) where
     pub activation-is : secondKind a ≡ LPar → Is an-activation a
     activation-is e = named-is LPar e
 
-    pub transfer-is : (kindNo (secondKind a) ≡ 12 → ⊥) → (kindNo (secondKind a) ≡ 3 → ⊥) → Is a-transfer a
+    pub transfer-is : (kindNo (secondKind a) ≡ kindNo Becomes → ⊥) → (kindNo (secondKind a) ≡ kindNo LPar → ⊥) → Is a-transfer a
     transfer-is n m = by (same (secondKind a) Becomes) (same (secondKind a) LPar) (ne-eqb _ 12 n) (ne-eqb _ 3 m) (headed Name named)
       where
         by : (x y : Bool) → x ≡ false → y ≡ false → Is (elim x [ true ↦ a-label | false ↦ elim y [ true ↦ an-activation | false ↦ a-transfer ] ]) a → Is a-transfer a
@@ -91,7 +91,7 @@ pub record Second (a : Action) (ts : Tokens) : Type 0 where
   pub is : behindHead a ts ≡ token ∷ more
   pub kind : token .kind ≡ secondKind a
 
-clash : {A : Type 0} (k : Kind) → (kindNo k ≡ 0 → ⊥) → k ≡ Name → A
+clash : {A : Type 0} (k : Kind) → (kindNo k ≡ kindNo Name → ⊥) → k ≡ Name → A
 clash k n e = absurd (n (ap kindNo e))
 
 second : (a : Action) (ts : Tokens) → headKind a ≡ Name → Second a ts

@@ -20,12 +20,11 @@ use Rattle.laws.specs.Links.Code.{Numbered, firstOf, codeAt}
 use Rattle.laws.specs.Links.Numbers.{Ascends, Has, fetched}
 use Rattle.laws.specs.Links.Bodies.{bodyCode, tableCode, firstIn, firstAt, firstNumber}
 use Rattle.laws.specs.Links.Placed.{bodyStarts, descriptionCode}
-use Rattle.table.specs.Holds.{Holds}
+use Rattle.table.specs.Holds.{Holds, linkCell}
 use Rattle.table.specs.Declarations.{declarationList, all-declared}
 use Rattle.table.specs.Ready.{Ready}
-use Rattle.promise.specs.Instructions.{linkCell}
 use Rattle.promise.specs.Reached.{Reached, first, onward}
-use Rattle.links.specs.Kept.{holds-kept}
+use Rattle.table.specs.Laws.Kept.{holds-kept}
 use Rattle.links.specs.Layout.{number-below, BodyStands, BodyLaid, ends, ends-rise, body-shallow}
 use Rattle.links.specs.Links.{BodyLinked, Links}
 use Rattle.links.specs.Bodies.{name-there, place, body-laid}

@@ -23,7 +23,7 @@ use Rattle.laws.specs.Links.Placed.{bodyStart, restStarts, bodyStarts}
 use Rattle.table.specs.Holds.{tokenAt, Holds}
 use Rattle.table.specs.Positions.{here, behind-far}
 use Rattle.table.specs.Declarations.{followingList, declarationList}
-use Rattle.links.specs.Scans.{no as kindOf, separates}
+use Rattle.table.specs.Scans.{no as kindOf, separates}
 
 -- where the first k declarations end
 unfoldable pub restEnds : ℕ → ℕ → Declarations → ℕ

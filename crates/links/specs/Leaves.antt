@@ -6,7 +6,7 @@ use mathlib.Core.Bool.{false, false≢true}
 use mathlib.Core.List.{List, _∷_}
 use native.Mathlib.Omega.{arith}
 use lib.ListN.{length, drop}
-use Rattle.rules.specs.Text.Tokens.{kindNo, Info, Token, tk, Name, Equals, BEGIN, DECODE, LEAVE, RESTART, STOP, NO-OP}
+use Rattle.rules.specs.Text.Tokens.{kindNo, Info, Token, tk, Name, Equals, BEGIN, DECODE, LEAVE, RESTART, STOP, NO-OP, Becomes, LPar}
 use Rattle.rules.specs.Grammar.Trees.{Tokens, Bits, all-bits, bits, bitsTokens, Subscript, no-subscript, subscript, subscriptTokens, Joined, alone, joined, joinedTokens, operandTokens, tailTokens}
 use Rattle.rules.specs.Grammar.Trees.{Operand, Tail, Action, block, labelled, if-then, decode, repeat, leave, restart, activate, stop, no-op, transfer, actionTokens}
 use Rattle.laws.specs.Grammar.Positions.{Writes, subscript-writes, bits-writes, joined-writes}
@@ -15,10 +15,12 @@ use Rattle.laws.specs.Links.Code.{actionSize}
 use Rattle.table.specs.Holds.{kindByte}
 use Rattle.table.specs.Positions.{here}
 use Rattle.table.specs.Words.{NameAt, wordAt}
-use Rattle.links.specs.Scans.{equals, scan, halts, stops, past-subscript, past-bits, past-joined}
+use Rattle.table.specs.Laws.Scans.{equals, past-subscript, past-bits, past-joined}
+use Rattle.table.specs.Scans.{scan, halts, stops}
 use Rattle.links.specs.Seeking.{Ground, Seeks, found-at}
 use Rattle.links.specs.Forms.{leave-is, restart-is, stop-is, no-op-is, activation-is, transfer-is, second-within, second-byte, second-is}
-use Rattle.links.specs.Kept.{Kept, kept-none, kept-then, kept-wide, LinkPut, InsidePut}
+use Rattle.table.specs.Kept.{Kept, LinkPut, InsidePut}
+use Rattle.table.specs.Laws.Kept.{kept-none, kept-then, kept-wide}
 use Rattle.links.specs.Linked.{Linked}
 use Rattle.links.specs.Stack.{labels-none, JumpAt, aims, aims-behind, aims-start}
 use Rattle.links.specs.Standing.{ActionAt, Done, within}
@@ -104,7 +106,7 @@ module _ {g : Ground} {records labels : List ℕ} {i link count first depth : �
         let w = second-within (v .holds) i (v .action) (v .next ∷ v .rest) (v .reads) (named .0) in omega (arith, v .holds .record-room)
 
     module _ {k : ℕ} (after : k ≡ kindByte records (i + 1)) where
-      pub activation-done : k ≡ 3 → {now : List ℕ} → LinkPut records now i link → Done v now labels
+      pub activation-done : k ≡ kindNo LPar → {now : List ℕ} → LinkPut records now i link → Done v now labels
       activation-done e p =
           let x = activation-is (v .action) (named .0) (second-is (v .holds) i (v .action) (v .next ∷ v .rest) (v .reads) (named .0) 3 after e) in
           let h = here (g .tokens) i _ _ (v .reads ∙ ap (λ (a : Action). actionTokens a (v .next ∷ v .rest)) (x .3)) in
@@ -112,8 +114,8 @@ module _ {g : Ground} {records labels : List ℕ} {i link count first depth : �
           let word : wordAt (g .tokens) i ≡ x .0 .word = ap (λ (t : Token). t .info .word) (h .token) in
           linked-there (p .kept) (rw (x .3) (omega arith)) (rw (x .3) (p .link ∙ v .link-is, p .inside ∙ rw word at means))
 
-      module _ (n : k ≡ 3 → ⊥) where
-        not-label : (a : Action) → prefixed a ≡ false → headKind a ≡ Name → kindNo (secondKind a) ≡ 12 → ⊥
+      module _ (n : k ≡ kindNo LPar → ⊥) where
+        not-label : (a : Action) → prefixed a ≡ false → headKind a ≡ Name → kindNo (secondKind a) ≡ kindNo Becomes → ⊥
         not-label (block b a m) p h e = omega (arith, ap kindNo h)
         not-label (labelled y b a) p h e = false≢true (sym p)
         not-label (if-then x o t w a) p h e = omega (arith, ap kindNo h)
@@ -126,7 +128,7 @@ module _ {g : Ground} {records labels : List ℕ} {i link count first depth : �
         not-label (no-op x y z) p h e = omega (arith, ap kindNo h)
         not-label (transfer x s b j q o t) p h e = second s b j e
           where
-            second : (s : Subscript) (b : Bits) (j : Joined) → kindNo (secondKind (transfer x s b j q o t)) ≡ 12 → ⊥
+            second : (s : Subscript) (b : Bits) (j : Joined) → kindNo (secondKind (transfer x s b j q o t)) ≡ kindNo Becomes → ⊥
             second no-subscript all-bits alone e = omega arith
             second no-subscript all-bits (joined y z s b j) e = omega arith
             second no-subscript (bits y z r) j e = omega arith

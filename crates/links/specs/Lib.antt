@@ -1,9 +1,7 @@
-pub mod Scans
 pub mod Seeking
 pub mod Ends
 pub mod Forms
 pub mod Firsts
-pub mod Kept
 pub mod Linked
 pub mod Stack
 pub mod Standing
@@ -18,7 +16,6 @@ pub mod Layout
 pub mod Links
 pub mod Bodies
 pub mod Sound
-pub mod Fixed
 pub mod Mains
 pub mod Codes
 pub mod Numbers

@@ -16,7 +16,8 @@ use Rattle.laws.specs.Orders.Flat.{Link, at, Labels, bind, leaveTo, restartTo}
 use Rattle.laws.specs.Links.Code.{size, actionSize, exprSize, selectorSize, firstOf, behind, target, behindTest}
 use Rattle.laws.specs.Links.Numbers.{size-before}
 use Rattle.table.specs.Meaning.{meaningOf}
-use Rattle.promise.specs.Instructions.{insideCell, linkCell, linkNo}
+use Rattle.promise.specs.Instructions.{linkNo}
+use Rattle.table.specs.Holds.{insideCell, linkCell}
 
 -- how many tokens stand between the first name of a destination and its `=`
 abbrev pub destinationSize : Subscript → Bits → Joined → ℕ

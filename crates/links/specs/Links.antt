@@ -11,8 +11,8 @@ use Rattle.laws.specs.Orders.Flat.{exit, outer, bind}
 use Rattle.laws.specs.Links.Code.{firstOf}
 use Rattle.laws.specs.Links.Placed.{bodyStarts}
 use Rattle.table.specs.Declarations.{declarationList}
-use Rattle.promise.specs.Instructions.{linkCell}
-use Rattle.links.specs.Kept.{Kept}
+use Rattle.table.specs.Holds.{linkCell}
+use Rattle.table.specs.Kept.{Kept}
 use Rattle.links.specs.Linked.{Linked}
 
 -- the body of the declaration whose name is the token `name` begins at `start`

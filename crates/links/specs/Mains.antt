@@ -8,7 +8,7 @@ use mathlib.Core.Option.{Option, none, some}
 use native.Mathlib.Omega.{arith}
 use native.Mathlib.Decide.{decLt}
 use lib.ListN.{length, getElem?}
-use Rattle.cells.specs.Cells.{leAt, cell}
+use Rattle.cells.specs.Cells.{cell}
 use Rattle.rules.specs.Text.Tokens.{Info}
 use Rattle.rules.specs.Grammar.Trees.{Tokens, Action, body, mapped, carrier, given, words, with-bits, bare-body, Declaration, plain, main, Description}
 use Rattle.rules.specs.Declarations.{declaredOf, declarations}
@@ -16,13 +16,12 @@ use Rattle.rules.specs.Faults.Fault.{Fault, when}
 use Rattle.rules.specs.Faults.Whole.{mains, mainName, chains, groupsFaults, faults50}
 use Rattle.laws.specs.Orders.Tests.{impossible}
 use Rattle.laws.specs.Accepted.Faultless.{both-empty}
-use Rattle.table.specs.Holds.{Holds}
+use Rattle.table.specs.Holds.{Holds, linkCell}
 use Rattle.table.specs.Positions.{record-within}
 use Rattle.table.specs.Declarations.{DeclaredAt, declarationList, all-declared}
 use Rattle.table.specs.Lookups.{DeclsHold, Nth, nth}
 use Rattle.table.specs.Views.{View, MainAt}
 use Rattle.table.specs.ViewLaws.{name-token}
-use Rattle.promise.specs.Instructions.{linkCell}
 
 -- m declarations stand in the table, and one of them is MAIN's
 pub record MainIn (records decls : List ℕ) (m : ℕ) : Type 0 where
@@ -120,7 +119,7 @@ module _ {records decls : List ℕ} {m k : ℕ} (s : Searching records decls m k
           (record-within (v .holds) name (n .0), omega (arith, n .0, v .holds .few))
 
       module _ {r : ℕ} (says : (v : MainIn records decls m) → MainAt (v .tokens) r (declaredOf (there v .declaration) .mainly)) where
-        pub main-here : (r ≡ 0 → ⊥) → {x : ℕ} → x ≡ cell 2 records (4 * name + 3) → (v : MainIn records decls m) → MainFound v x
+        pub main-here : (r ≡ 0 → ⊥) → {x : ℕ} → x ≡ linkCell records name → (v : MainIn records decls m) → MainFound v x
         main-here n {x} q v = by (declaredOf (there v .declaration) .mainly) refl (says v)
           where
             by : (o : Option Info) → declaredOf (there v .declaration) .mainly ≡ o → MainAt (v .tokens) r o → MainFound v x
@@ -136,7 +135,7 @@ module _ {records decls : List ℕ} {m k : ℕ} (s : Searching records decls m k
                       ∙ ap mainName (sym (all-declared (v .description)));
                   body = a;
                   its = its;
-                  leads = q ∙ (ap (leAt 2 records) (omega arith) ∙ ap (linkCell records) e);
+                  leads = q ∙ ap (linkCell records) e;
                 }
 
         pub main-later : r ≡ 0 → Searching records decls m (k + 1)

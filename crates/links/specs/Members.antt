@@ -7,7 +7,7 @@ use mathlib.Core.List.{List, _∷_}
 use native.Mathlib.Omega.{arith}
 use native.Mathlib.Numerals.{add-one}
 use lib.ListN.{length, drop}
-use Rattle.rules.specs.Text.Tokens.{Token, tk, Semi, BEGIN, END, NEXT}
+use Rattle.rules.specs.Text.Tokens.{Token, tk, Semi, BEGIN, END, NEXT, kindNo}
 use Rattle.rules.specs.Grammar.Trees.{Tokens, Action, actionTokens, Members, end, also, next, membersTokens}
 use Rattle.rules.specs.Declarations.{Name as Word, Table}
 use Rattle.rules.specs.Whole.Sets.{member}
@@ -19,12 +19,13 @@ use Rattle.laws.specs.Links.Numbers.{size-before}
 use Rattle.laws.specs.Grammar.Positions.{members-writes}
 use Rattle.table.specs.Holds.{kindByte}
 use Rattle.table.specs.Positions.{here, kind-here}
-use Rattle.links.specs.Scans.{no, separates}
+use Rattle.table.specs.Scans.{no, separates}
 use Rattle.links.specs.Seeking.{Ground, Seeks, Starts}
 use Rattle.links.specs.Ends.{end-sought, end-place, end-within}
 use Rattle.links.specs.Forms.{block-is, action-within}
 use Rattle.links.specs.Firsts.{first-fits, action-ends}
-use Rattle.links.specs.Kept.{Kept, kept-none, kept-then, kept-wide}
+use Rattle.table.specs.Kept.{Kept}
+use Rattle.table.specs.Laws.Kept.{kept-none, kept-then, kept-wide}
 use Rattle.links.specs.Linked.{Linked, MembersLinked, Same, linked-same, block-size}
 use Rattle.links.specs.Stack.{LabelsKept, labels-none, labels-then}
 use Rattle.links.specs.Standing.{ActionAt, Done}
@@ -213,7 +214,7 @@ module _ {g : Ground} {records labels : List ℕ} {i link count first depth : �
       kind-is = let x = here (g .tokens) q _ _ at-end in kind ∙ kind-here (v .setting .holds) q _ (x .within) (x .token)
 
       -- the last
-      module _ (shut : k ≡ 20) where
+      module _ (shut : k ≡ kindNo END) where
         pub last-member : ActionAt g records labels i link count first (depth - 1)
         last-member =
             standing (v .setting) (v .action) _ _ separated (members-separate (v .members)) (v .begins) (omega (arith, v .action-shallow))
@@ -236,7 +237,7 @@ module _ {g : Ground} {records labels : List ℕ} {i link count first depth : �
             }
 
       -- another behind it
-      module _ (going : k ≡ 20 → ⊥) where
+      module _ (going : k ≡ kindNo END → ⊥) where
         abbrev more : Further (v .members)
         more = further (v .members) (λ z. going (kind-is ∙ z))
 

@@ -18,13 +18,14 @@ use Rattle.laws.specs.Grammar.Nesting.{actionNest}
 use Rattle.laws.specs.Orders.Flat.{at, bind}
 use Rattle.laws.specs.Links.Code.{size, actionSize, firstOf, behindTest}
 use Rattle.laws.specs.Links.Numbers.{size-before}
-use Rattle.table.specs.Holds.{kindByte}
+use Rattle.table.specs.Holds.{kindByte, insideCell, linkCell}
 use Rattle.table.specs.Positions.{here, behind-far}
-use Rattle.promise.specs.Instructions.{insideCell, linkCell}
-use Rattle.links.specs.Scans.{arrow, scan, halts, stops, past-expression}
+use Rattle.table.specs.Laws.Scans.{arrow, past-expression}
+use Rattle.table.specs.Scans.{scan, halts, stops}
 use Rattle.links.specs.Seeking.{Ground, Stands, Seeks, Starts, found-at}
 use Rattle.links.specs.Forms.{test-is, loop-is, label-is, kind-of, action-within, head-byte, head-is, second-within, second-byte}
-use Rattle.links.specs.Kept.{Kept, kept-none, kept-then, kept-wide, holds-kept, LinkPut, InsidePut}
+use Rattle.table.specs.Kept.{Kept, LinkPut, InsidePut}
+use Rattle.table.specs.Laws.Kept.{kept-none, kept-then, kept-wide, holds-kept}
 use Rattle.links.specs.Linked.{Linked, Same}
 use Rattle.links.specs.Stack.{LabelsKept, labels-none, labels-then, Pushed, labelled-more}
 use Rattle.links.specs.Standing.{ActionAt, within, meant-kept, meant-later}
@@ -69,13 +70,13 @@ abbrev pub Says : List ℕ → ℕ → Bool → Type 0
 Says records i r = (g : Ground) (v : Starts g records i) → r ≡ prefixed (v .action)
 
 module _ (records : List ℕ) (i : ℕ) {k : ℕ} (kind : k ≡ kindByte records i) where
-  pub says-test : k ≡ 22 → Says records i true
+  pub says-test : k ≡ kindNo IF → Says records i true
   says-test e g v = prefixed-test (v .action) (head-is (v .holds) i (v .action) (v .rest) (v .reads) 22 kind e)
 
-  pub says-loop : k ≡ 25 → Says records i true
+  pub says-loop : k ≡ kindNo REPEAT → Says records i true
   says-loop e g v = prefixed-loop (v .action) (head-is (v .holds) i (v .action) (v .rest) (v .reads) 25 kind e)
 
-  module _ (n : k ≡ 22 → ⊥) (m : k ≡ 25 → ⊥) where
+  module _ (n : k ≡ kindNo IF → ⊥) (m : k ≡ kindNo REPEAT → ⊥) where
     byte : (g : Ground) (v : Starts g records i) → k ≡ kindNo (headKind (v .action))
     byte g v = kind ∙ head-byte (v .holds) i (v .action) (v .rest) (v .reads)
 
@@ -405,7 +406,7 @@ module _ {g : Ground} {records labels : List ℕ} {i link count first depth : �
   pub heads-not : (l : Kind) → (k ≡ kindNo l → ⊥) → headKind (v .action) ≡ l → ⊥
   heads-not l n z = n (kind ∙ (head-byte (v .holds) i (v .action) (v .next ∷ v .rest) (v .reads) ∙ ap kindNo z))
 
-  pub labels-here : prefixed (v .action) ≡ true → (k ≡ 22 → ⊥) → (k ≡ 25 → ⊥) → (headKind (v .action) ≡ Name) × (secondKind (v .action) ≡ Becomes)
+  pub labels-here : prefixed (v .action) ≡ true → (k ≡ kindNo IF → ⊥) → (k ≡ kindNo REPEAT → ⊥) → (headKind (v .action) ≡ Name) × (secondKind (v .action) ≡ Becomes)
   labels-here e n m = label-left (v .action) e (heads-not IF n) (heads-not REPEAT m)
 
 -- the loop: whatever description it is, what is left of the action stands at the spot

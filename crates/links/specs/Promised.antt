@@ -1,12 +1,13 @@
 -- PROMISED: where the links of an accepted description are written, the table keeps the reader's promise to the runner, and MAIN's name leads to where
 -- a run begins.
 -- Assumes nothing.
-use Prim.Native.Nat.{ℕ, _*_, _≤_}
-use mathlib.Core.Path.{_≡_, ap, _∙_, subst}
+use Prim.Native.Nat.{ℕ, _*_, _<_, _≤_}
+use mathlib.Core.Path.{_≡_, sym, ap, _∙_, subst}
 use mathlib.Core.List.{List, []}
 use mathlib.Core.Option.{some}
 use lib.ListN.{length}
-use Rattle.rules.specs.Text.Scan.{scan}
+use Rattle.rules.specs.Text.Tokens.{Name, tk}
+use Rattle.rules.specs.Text.Scan.{plainInfo, scan}
 use Rattle.rules.specs.Grammar.Trees.{Tokens, Action, Description}
 use Rattle.rules.specs.Declarations.{Name as Word, declarations, outerName, bodyOf, totalWords}
 use Rattle.rules.specs.Faults.Fault.{Fault, byPlace, byNumber, least}
@@ -17,12 +18,13 @@ use Rattle.rules.specs.Faults.Whole.{mainName, faults50}
 use Rattle.rules.specs.Answers.{accepted, judgement, orElse}
 use Rattle.laws.specs.Accepted.Declared.{declares, few-words}
 use Rattle.laws.specs.Accepted.Orderly.{orderly}
+use Rattle.laws.specs.Accepted.Scanned.{TokenOk, scanned-each}
 use Rattle.laws.specs.Links.Placed.{descriptionCode, accepted-assembled}
+use Rattle.table.specs.Holds.{tokenAt}
 use Rattle.table.specs.Ready.{Ready}
 use Rattle.promise.specs.Accesses.{AccessesHold}
 use Rattle.promise.specs.Promise.{Promise}
 use Rattle.links.specs.Links.{Links}
-use Rattle.links.specs.Fixed.{constants-fixed, constants-fit}
 use Rattle.links.specs.Mains.{MainIn, MainFound}
 use Rattle.links.specs.Instructed.{now-holds, reached-holds, starts-at}
 
@@ -39,15 +41,18 @@ judged d f g h =
 
 module _ {text before after values decls : List ℕ} {ts : Tokens} {d : Description} {m : ℕ} (r : Ready text before values decls ts d m)
     (links : Links before after decls ts d) where
+  constants : ts ≡ scan text .tokens → (i : ℕ) → i < length ts → TokenOk (tokenAt ts i)
+  constants scanned i = subst (λ (xs : Tokens). i < length xs → TokenOk (tokenAt xs i)) (sym scanned) (scanned-each text (tk Name (plainInfo 0)) i)
+
   -- from what the passes before have shown: no fault of the 40s and 50s, tokens that are those of the text, and every access placed
   pub promised : faults40 (outerName d .word) (declarations d) (declarations d) ≡ [] → faults50 (declarations d) ≡ [] → ts ≡ scan text .tokens
       → AccessesHold values ts (outerName d .word) (declarations d) → 2 * mostDeclarations ≤ length decls
       → Promise text after values decls ts (outerName d .word) (declarations d) (descriptionCode d)
   promised of40 of50 scanned accesses room = record {
     holds = now-holds r links;
-    fits = constants-fit text scanned;
+    fits = λ i l e. constants scanned i l e .0 .fits;
     decls-room = room;
-    fixed = constants-fixed text scanned;
+    fixed = λ i l e. constants scanned i l e .1;
     declares = declares d (r .lawful);
     few-words = few-words (declares d (r .lawful));
     accesses = accesses;

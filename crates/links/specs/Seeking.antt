@@ -14,7 +14,8 @@ use Rattle.laws.specs.Links.Code.{size}
 use Rattle.laws.specs.Links.Numbers.{size-before}
 use Rattle.table.specs.Holds.{kindByte, Holds}
 use Rattle.table.specs.Positions.{here, kind-here}
-use Rattle.links.specs.Scans.{no, halts, deeper, scan, scan-found, scan-on, scan-end}
+use Rattle.table.specs.Scans.{no, halts, deeper, scan}
+use Rattle.table.specs.Laws.Scans.{scan-found, scan-on, scan-end}
 
 -- what stays as it is while links are written
 pub record Ground : Type 0 where

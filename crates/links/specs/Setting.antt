@@ -12,9 +12,10 @@ use Rattle.laws.specs.Grammar.Nesting.{actionNest}
 use Rattle.laws.specs.Orders.Flat.{Link, Labels}
 use Rattle.laws.specs.Links.Code.{firstOf}
 use Rattle.promise.specs.Instructions.{linkNo}
-use Rattle.links.specs.Scans.{no, separates}
+use Rattle.table.specs.Scans.{no, separates}
 use Rattle.links.specs.Seeking.{Ground, Stands}
-use Rattle.links.specs.Kept.{Kept, holds-kept}
+use Rattle.table.specs.Kept.{Kept}
+use Rattle.table.specs.Laws.Kept.{holds-kept}
 use Rattle.links.specs.Stack.{LabelsHold, LabelsKept, labels-kept}
 use Rattle.links.specs.Standing.{Meant, ActionAt, meant-kept, meant-later}
 

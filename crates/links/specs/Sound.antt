@@ -38,12 +38,12 @@ use Rattle.laws.specs.Accepted.Faultless.{both-empty}
 use Rattle.laws.specs.Links.Code.{Numbered, actionSize, exprSize, selectorSize, firstOf, behind, target, behindTest, entries, countedEntries, selectedEntries, moreEntries}
 use Rattle.laws.specs.Links.Code.{codeAt, membersCode, alternativesCode, countedCode, selectedCode, moreCode}
 use Rattle.laws.specs.Links.Held.{labelNames}
-use Rattle.table.specs.Holds.{tokenAt, Holds}
+use Rattle.table.specs.Holds.{tokenAt, Holds, insideCell, linkCell}
 use Rattle.table.specs.Positions.{here}
 use Rattle.table.specs.Meaning.{meaningBy, meaningOf}
-use Rattle.promise.specs.Instructions.{insideCell, linkCell, linkNo, ExpressionStands, DestinationStands, CaseStands, Counted as CountedBy, EntriesStand, Jump, a-repeat, a-leave, a-restart, a-no-op, InstructionHolds}
+use Rattle.promise.specs.Instructions.{linkNo, ExpressionStands, DestinationStands, CaseStands, Counted as CountedBy, EntriesStand, Jump, a-repeat, a-leave, a-restart, a-no-op, InstructionHolds}
 use Rattle.promise.specs.Reached.{EntryAt, Leads}
-use Rattle.links.specs.Scans.{no as kindOf, separates}
+use Rattle.table.specs.Scans.{no as kindOf, separates}
 use Rattle.links.specs.Linked.{Linked, MembersLinked, AlternativesLinked, CountedLinked, SelectedLinked, MoreLinked, Separates, destinationSize}
 use Rattle.links.specs.Prefixes.{expression-writes}
 use Rattle.links.specs.Leaves.{destination-writes}

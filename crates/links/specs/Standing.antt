@@ -11,15 +11,15 @@ use Rattle.rules.specs.Grammar.Trees.{Tokens, Action, actionTokens}
 use Rattle.laws.specs.Grammar.Nesting.{actionNest}
 use Rattle.laws.specs.Orders.Flat.{Link, Labels}
 use Rattle.laws.specs.Links.Code.{actionSize, firstOf}
-use Rattle.table.specs.Holds.{tokenAt}
+use Rattle.table.specs.Holds.{tokenAt, insideCell}
 use Rattle.table.specs.Words.{wordAt}
 use Rattle.table.specs.Meaning.{meaningOf}
-use Rattle.promise.specs.Instructions.{insideCell, linkNo}
-use Rattle.links.specs.Scans.{no, separates}
+use Rattle.promise.specs.Instructions.{linkNo}
+use Rattle.table.specs.Scans.{no, separates}
 use Rattle.links.specs.Seeking.{Ground, Stands, Starts}
 use Rattle.links.specs.Forms.{action-within}
 use Rattle.links.specs.Firsts.{first-fits}
-use Rattle.links.specs.Kept.{Kept}
+use Rattle.table.specs.Kept.{Kept}
 use Rattle.links.specs.Linked.{Linked}
 use Rattle.links.specs.Stack.{LabelsHold, LabelsKept}
 

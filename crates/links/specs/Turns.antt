@@ -19,13 +19,14 @@ use Rattle.laws.specs.Grammar.Heads.{headKind, headInfo, behindHead, action-hea
 use Rattle.laws.specs.Grammar.Nesting.{actionNest, alternativesNest, countedNest, selectedNest, selectedMoreNest}
 use Rattle.laws.specs.Orders.Flat.{Link, Labels}
 use Rattle.laws.specs.Links.Code.{actionSize, selectorSize, firstOf}
-use Rattle.table.specs.Holds.{kindByte}
+use Rattle.table.specs.Holds.{kindByte, insideCell, linkCell}
 use Rattle.table.specs.Positions.{here, kind-here}
-use Rattle.promise.specs.Instructions.{insideCell, linkCell}
-use Rattle.links.specs.Scans.{no, separates, halts, stops, deeper, scan, past-selector}
+use Rattle.table.specs.Scans.{no, separates, halts, stops, deeper, scan}
+use Rattle.table.specs.Laws.Scans.{past-selector}
 use Rattle.links.specs.Ends.{end-sought, end-place}
 use Rattle.links.specs.Seeking.{Ground, Stands, Seeks, Starts, found-at, found-within}
-use Rattle.links.specs.Kept.{Kept, kept-then, LinkPut, InsidePut}
+use Rattle.table.specs.Kept.{Kept, LinkPut, InsidePut}
+use Rattle.table.specs.Laws.Kept.{kept-then}
 use Rattle.links.specs.Linked.{Linked, AlternativesLinked, CountedLinked, SelectedLinked, MoreLinked, Separates}
 
 -- what stands before the action: nothing, a selector and `:=`, or OTHERWISE and `:=`
@@ -186,7 +187,7 @@ pub record Extends {g : Ground} {records : List ℕ} {p : ℕ} (v : AlternativeA
 
 -- the first token behind a separator tells whether a selector stands there
 unfoldable pub selects : ℕ → Bool
-selects k = member k (1 ∷ 2 ∷ 5 ∷ 24 ∷ [])
+selects k = member k (kindNo Const ∷ kindNo Masked ∷ kindNo LBra ∷ kindNo OTHERWISE ∷ [])
 
 abbrev led : Lead → Bool
 led no-lead = false

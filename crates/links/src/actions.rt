@@ -3,25 +3,21 @@ use crate::leaves::leaf;
 use crate::prefixes::Spot;
 use crate::prefixes::Start;
 use crate::prefixes::behind_prefixes;
-use crate::scans::SEPARATOR;
 use crate::scans::first_of;
 use crate::scans::seek;
 use crate::separators::separator;
+use table::kinds::ARROW;
+use table::kinds::BEGIN;
+use table::kinds::DECODE;
+use table::kinds::END;
 use table::records::kind_at;
+use table::scans::SEPARATOR;
 ghost use mathlib.Core.Path.{_≡_};
 ghost use Rattle.links.specs.Seeking.{Ground};
 ghost use Rattle.links.specs.Standing.{ActionAt, Done};
 ghost use Rattle.links.specs.Members.{MembersAt, MemberAnswer};
 ghost use Rattle.links.specs.Choices.{TurnsAt, TurnAnswer};
 ghost use Rattle.links.specs.Actions.{BlockAt, ChoiceAt};
-
-const ARROW: u8 = 14;
-
-const BEGIN: u8 = 19;
-
-const END: u8 = 20;
-
-const DECODE: u8 = 23;
 
 pub fn action(text: &[u8], records: &mut [u8], labels: &mut [u8], s: Spot, depth: usize)
     requires { ⌜ ((g : Ground) × (v : ActionAt g (now records) (now labels) (s .at) (s .link) (s .count) (s .first) depth) × (g .text ≡ now text)) ⌝ }

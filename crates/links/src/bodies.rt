@@ -1,10 +1,10 @@
 // The bodies of a description: each is linked with its own name as the outermost label, and its name leads to its first instruction.
 use crate::actions::action;
 use crate::labels::push;
-use crate::marks::put_link;
 use crate::prefixes::Spot;
 use crate::scans::first_of;
 use cells::get16;
+use table::records::put_link;
 use table::views::body_of;
 ghost use mathlib.Core.List.{List};
 ghost use Prim.Native.Nat.{ℕ, _+_, _*_, _≤_};

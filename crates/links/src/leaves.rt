@@ -2,28 +2,22 @@
 use crate::labels::BEHIND;
 use crate::labels::START;
 use crate::labels::aim;
-use crate::marks::put_inside;
-use crate::marks::put_link;
 use crate::prefixes::Spot;
 use crate::scans::seek;
+use table::kinds::EQUALS;
+use table::kinds::LEAVE;
+use table::kinds::LPAR;
+use table::kinds::NO_OP;
+use table::kinds::RESTART;
+use table::kinds::STOP;
 use table::records::kind_at;
+use table::records::put_inside;
+use table::records::put_link;
 ghost use mathlib.Core.List.{List};
 ghost use Prim.Native.Nat.{ℕ};
 ghost use Rattle.links.specs.Seeking.{Ground};
 ghost use Rattle.links.specs.Standing.{ActionAt, Done};
 ghost use Rattle.links.specs.Leaves.{Named, LeafAt};
-
-const LPAR: u8 = 3;
-
-const EQUALS: u8 = 13;
-
-const LEAVE: u8 = 26;
-
-const RESTART: u8 = 27;
-
-const STOP: u8 = 29;
-
-const NO_OP: u8 = 30;
 
 // An activation, whose record has the number of its declaration already, or a transfer, which leads inside to its `=`.
 fn named(records: &mut [u8], at: usize, link: usize)

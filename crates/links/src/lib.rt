@@ -4,7 +4,6 @@ pub mod bodies;
 pub mod labels;
 pub mod leaves;
 pub mod mains;
-pub mod marks;
 pub mod prefixes;
 pub mod scans;
 pub mod separators;

@@ -1,5 +1,6 @@
 // Where a run begins.
 use cells::get16;
+use table::records::link_at;
 use table::views::main_of;
 ghost use Rattle.links.specs.Mains.{MainIn, MainFound};
 
@@ -12,7 +13,7 @@ pub fn main_start(records: &[u8], decls: &[u8], m: usize) -> usize
     while k < m {
         let name = get16(decls, k) as usize;
         if main_of(records, name) != 0 {
-            return get16(records, 4 * name + 3) as usize;
+            return link_at(records, name);
         }
         k += 1;
     }

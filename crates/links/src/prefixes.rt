@@ -1,26 +1,21 @@
 // What may stand in front of an action: labels, the test of an IF, REPEAT. They follow each other without end, so they are passed by a loop.
 use crate::labels::push;
-use crate::marks::put_inside;
-use crate::marks::put_link;
 use crate::scans::first_of;
 use crate::scans::seek;
+use table::kinds::ARROW;
+use table::kinds::BECOMES;
+use table::kinds::IF;
+use table::kinds::NAME;
+use table::kinds::REPEAT;
 use table::records::kind_at;
+use table::records::put_inside;
+use table::records::put_link;
 ghost use mathlib.Core.Path.{_≡_};
 ghost use mathlib.Core.Bool.{true, false};
 ghost use Prim.Native.Nat.{ℕ, _+_, _<_};
 ghost use Rattle.links.specs.Seeking.{Ground, Starts};
 ghost use Rattle.links.specs.Standing.{ActionAt};
 ghost use Rattle.links.specs.Prefixes.{prefixed, TestAt, TestPut, TurnAt, TurnPut, Prefixed, Bared};
-
-const NAME: u8 = 0;
-
-const BECOMES: u8 = 12;
-
-const ARROW: u8 = 14;
-
-const IF: u8 = 22;
-
-const REPEAT: u8 = 25;
 
 // Where an action begins, where control goes behind it, how many labels are around it, and its first instruction.
 pub struct Spot {

@@ -1,23 +1,18 @@
 // The separators of the alternatives of a DECODE: its BEGIN and each `,` lead inside to the alternative, and behind to the next separator.
-use crate::marks::put_inside;
-use crate::marks::put_link;
-use crate::scans::SEPARATOR;
 use crate::scans::first_of;
 use crate::scans::seek;
+use table::kinds::BECOMES;
+use table::kinds::CONST;
+use table::kinds::LBRA;
+use table::kinds::MASKED;
+use table::kinds::OTHERWISE;
 use table::records::kind_at;
+use table::records::put_inside;
+use table::records::put_link;
+use table::scans::SEPARATOR;
 ghost use mathlib.Core.Path.{_≡_};
 ghost use Rattle.links.specs.Seeking.{Ground};
 ghost use Rattle.links.specs.Turns.{AlternativeAt, selects, Behind-lead, Extends};
-
-const CONST: u8 = 1;
-
-const MASKED: u8 = 2;
-
-const LBRA: u8 = 5;
-
-const BECOMES: u8 = 12;
-
-const OTHERWISE: u8 = 24;
 
 // Where the action of an alternative begins, the separator behind it, and its first instruction.
 pub struct Extent {

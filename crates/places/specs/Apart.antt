@@ -6,7 +6,7 @@ use mathlib.Core.List.{[], _∷_}
 use native.Mathlib.Omega.{arith}
 use native.Mathlib.Numerals.{add-one}
 use lib.ListN.{length}
-use Rattle.rules.specs.Text.Tokens.{Kind, kindNo, Name, Const, Masked, RBra, Becomes, Comma, Colon, Op, opKind, join, plus, minus, eql, neq, lss, leq, gtr, geq, and, eqv, or, xor}
+use Rattle.rules.specs.Text.Tokens.{Kind, kindNo, Name, Masked, Op, opKind, join, plus, minus, eql, neq, lss, leq, gtr, geq, and, eqv, or, xor}
 use Rattle.rules.specs.Grammar.Trees.{Tokens, BitsEnd, bit, upto, bitsEndTokens, Bits, all-bits, bits, bitsTokens}
 use Rattle.rules.specs.Grammar.Trees.{Operand, constant, access, parens, negated, operandTokens, Tail, no-more, with-op, tailTokens, Subscript, no-subscript, subscript, subscriptTokens}
 use Rattle.rules.specs.Grammar.Trees.{Joined, alone, joined, joinedTokens, Literal, exact, masked, literalTokens, Range, single, to, rangeTokens, Items, close, item, itemsTokens}
@@ -27,10 +27,10 @@ Apart [] = Unit {0}
 Apart (t ∷ ts) = (t .kind ≡ Masked → Nameless ts) × Apart ts
 
 -- a kind that is no constant with `?`, and one that is no name
-other : {A : Type 0} (k : Kind) → (kindNo k ≡ 2 → ⊥) → k ≡ Masked → A
+other : {A : Type 0} (k : Kind) → (kindNo k ≡ kindNo Masked → ⊥) → k ≡ Masked → A
 other k n e = absurd (n (ap kindNo e))
 
-not-name : (k : Kind) → (kindNo k ≡ 0 → ⊥) → k ≡ Name → ⊥
+not-name : (k : Kind) → (kindNo k ≡ kindNo Name → ⊥) → k ≡ Name → ⊥
 not-name k n e = n (ap kindNo e)
 
 op-other : {A : Type 0} (o : Op) → opKind o ≡ Masked → A
@@ -49,7 +49,7 @@ op-other or e = absurd (omega (arith, ap kindNo e))
 op-other xor e = absurd (omega (arith, ap kindNo e))
 
 -- one token more
-on : {A : Type 0} (k : Kind) → (kindNo k ≡ 2 → ⊥) → {B : Type 0} → B → (k ≡ Masked → A) × B
+on : {A : Type 0} (k : Kind) → (kindNo k ≡ kindNo Masked → ⊥) → {B : Type 0} → B → (k ≡ Masked → A) × B
 on k n b = (other k n, b)
 
 bits-end-apart : (b : BitsEnd) (ts : Tokens) → Apart ts → Apart (bitsEndTokens b ts)

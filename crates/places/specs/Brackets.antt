@@ -2,13 +2,13 @@
 -- Assumes nothing.
 use Prim.Native.Nat.{ℕ, zero, suc, _+_, _-_}
 use mathlib.Core.Path.{_≡_, refl, sym, ap, _∙_}
-use mathlib.Core.Bool.{Bool, true, false}
+use mathlib.Core.Bool.{true, false}
 use mathlib.Core.List.{[], _∷_}
 use native.Mathlib.Omega.{arith}
 use native.Mathlib.Numerals.{add-one}
 use borrow.Author.Tests.{eq-eqb, ne-eqb}
 use lib.Dec.{eqb}
-use Rattle.rules.specs.Text.Tokens.{kindNo, Info, Token, tk, RBra, Op, opKind, join, plus, minus, eql, neq, lss, leq, gtr, geq, and, eqv, or, xor}
+use Rattle.rules.specs.Text.Tokens.{kindNo, Info, Token, tk, RBra, Op, opKind, join, plus, minus, eql, neq, lss, leq, gtr, geq, and, eqv, or, xor, LBra}
 use Rattle.rules.specs.Grammar.Trees.{Tokens, bit, upto, Bits, all-bits, bits, bitsTokens, Operand, constant, access, parens, negated, operandTokens}
 use Rattle.rules.specs.Grammar.Trees.{Tail, no-more, with-op, tailTokens, Subscript, no-subscript, subscript, subscriptTokens}
 
@@ -41,15 +41,15 @@ past-one (suc d) t ts n = refl
 
 -- the arms of the function that counts
 module _ (d k : ℕ) where
-  pub opened-more : k ≡ 5 → d + 1 ≡ opened d k
+  pub opened-more : k ≡ kindNo LBra → d + 1 ≡ opened d k
   unfolding opened
   opened-more e = add-one d ∙ sym (rw (eq-eqb k 5 e, opened))
 
-  pub opened-none : (k ≡ 5 → ⊥) → k ≡ 6 → d ≡ 0 → 0 ≡ opened d k
+  pub opened-none : (k ≡ kindNo LBra → ⊥) → k ≡ kindNo RBra → d ≡ 0 → 0 ≡ opened d k
   unfolding opened
   opened-none n e z = sym (rw (ne-eqb k 5 n, eq-eqb k 6 e, opened) (ap down z))
 
-  pub opened-fewer : (k ≡ 5 → ⊥) → k ≡ 6 → (d ≡ 0 → ⊥) → d - 1 ≡ opened d k
+  pub opened-fewer : (k ≡ kindNo LBra → ⊥) → k ≡ kindNo RBra → (d ≡ 0 → ⊥) → d - 1 ≡ opened d k
   unfolding opened
   opened-fewer n e z = below d z ∙ sym (rw (ne-eqb k 5 n, eq-eqb k 6 e, opened))
     where
@@ -57,7 +57,7 @@ module _ (d k : ℕ) where
       below zero z = absurd (z refl)
       below (suc d) z = omega arith
 
-  pub opened-same : (k ≡ 5 → ⊥) → (k ≡ 6 → ⊥) → d ≡ opened d k
+  pub opened-same : (k ≡ kindNo LBra → ⊥) → (k ≡ kindNo RBra → ⊥) → d ≡ opened d k
   unfolding opened
   opened-same n e = sym (rw (ne-eqb k 5 n, ne-eqb k 6 e, opened))
 

@@ -9,24 +9,21 @@ use native.Mathlib.Decide.{decLt}
 use lib.ListN.{length, drop, getElem?}
 use Rattle.cells.specs.Cells.{putCell}
 use Rattle.cells.specs.Laws.{length-put, le-put-same, le-put-below, le-put-above}
-use Rattle.rules.specs.Text.Tokens.{Name, Const, Masked, LBra, kindAt, kindNo, Info, Token, tk}
-use Rattle.rules.specs.Grammar.Trees.{Tokens, bit, upto, Bits, all-bits, bits, bitsTokens, Subscript, no-subscript, subscript, subscriptTokens, Description, flatten}
+use Rattle.rules.specs.Text.Tokens.{Name, LBra, kindAt, kindNo, Info, Token, tk}
+use Rattle.rules.specs.Grammar.Trees.{Tokens, upto, Bits, all-bits, bits, bitsTokens, Subscript, no-subscript, subscript, subscriptTokens, Description, flatten}
 use Rattle.rules.specs.Grammar.Precedence.{indexOf}
-use Rattle.rules.specs.Declarations.{Name as Word, Names as Span-of, Table, declarations, outerName, numberOf, Target, Declared, firstWord, mainNames, Reach, reach, reachNumber}
-use Rattle.rules.specs.Limits.{mostWords, largestName, mostBits}
+use Rattle.rules.specs.Declarations.{Name as Word, Names as Span-of, Table, declarations, outerName, numberOf, Target, Declared, Reach, reach, reachNumber}
+use Rattle.rules.specs.Limits.{largestName}
 use Rattle.rules.specs.Faults.Bodies.{judgeAccess}
 use Rattle.laws.specs.Grammar.Kinds.{kindAt-kindNo}
 use Rattle.laws.specs.Orders.Tests.{impossible}
 use Rattle.laws.specs.Accepted.Named.{found}
 use Rattle.laws.specs.Accepted.Declared.{near-words}
 use Rattle.laws.specs.Accepted.Lengths.{access-reaches}
-use Rattle.table.specs.Holds.{kindByte, valueCell, tokenAt, ValueHolds, Entry, Holds}
+use Rattle.table.specs.Holds.{kindByte, valueCell, tokenAt, ValueHolds, Entry, Holds, insideCell}
 use Rattle.table.specs.Positions.{here, kind-far}
 use Rattle.table.specs.Words.{NameAt}
-use Rattle.table.specs.Bits.{accessBits}
-use Rattle.table.specs.Shown.{shownBits}
 use Rattle.table.specs.Ready.{Ready}
-use Rattle.table.specs.Meaning.{meaningCell}
 use Rattle.table.specs.declared.views.Names.{Names}
 use Rattle.promise.specs.Accesses.{leftName, rightName, accessCell, EndsAccess, AccessesHold}
 use Rattle.places.specs.Tabled.{Tabled, kind-there}
@@ -84,18 +81,18 @@ kind-of t k e = sym (kindAt-kindNo (t .kind)) ∙ ap kindAt e
 
 module _ {records values : List ℕ} {n : ℕ} (p : ℕ) (v : Tabled records values n) where
   bracketed : (s : Subscript) (b : Bits) (rest : Tokens) → drop p (v .tokens) ≡ subscriptTokens s (bitsTokens b rest) → EndsAccess rest
-      → (kindByte records p ≡ 5 → ⊥) → drop p (v .tokens) ≡ bitsTokens b rest
+      → (kindByte records p ≡ kindNo LBra → ⊥) → drop p (v .tokens) ≡ bitsTokens b rest
   bracketed no-subscript b rest e x k = e
   bracketed (subscript l o t r) b rest e x k = absurd (k (kind-far (v .holds) p _ e p 0 (omega arith) (omega arith)))
 
-  pub index-none : {k : ℕ} → k ≡ kindByte records p → (k ≡ 5 → ⊥) → BehindIndex (v .tokens) p p
+  pub index-none : {k : ℕ} → k ≡ kindByte records p → (k ≡ kindNo LBra → ⊥) → BehindIndex (v .tokens) p p
   index-none e f s b rest q x = bracketed s b rest q x (λ z. f (e ∙ z))
 
   pub index-past : p ≡ n → BehindIndex (v .tokens) p p
   index-past e no-subscript b rest q x = q
   index-past e (subscript l o t r) b rest q x = absurd (let w = here (v .tokens) p _ _ q .within in omega (arith, v .count))
 
-  pub index-some : (r : ℕ) {k : ℕ} → k ≡ kindByte records p → k ≡ 5 → drop r (v .tokens) ≡ past 1 (drop (p + 1) (v .tokens)) → BehindIndex (v .tokens) p r
+  pub index-some : (r : ℕ) {k : ℕ} → k ≡ kindByte records p → k ≡ kindNo LBra → drop r (v .tokens) ≡ past 1 (drop (p + 1) (v .tokens)) → BehindIndex (v .tokens) p r
   index-some r e f g (subscript l o t u) b rest q x =
       g ∙ (ap (past 1) (here (v .tokens) p _ _ q .behind) ∙ past-index o t u (bitsTokens b rest))
   index-some r e f g no-subscript all-bits rest q x =
@@ -153,7 +150,7 @@ module _ {records values decls firsts : List ℕ} {n m i : ℕ} where
   pub behind-name : NameIn records values decls firsts n m i → ((values : List ℕ) × Tabled records values n) × (i + 1 ≤ n)
   behind-name v = ((values, tabled (v .placing)), omega (arith, v .placing .count, v .name .within))
 
-  module _ {k : ℕ} (e : k ≡ meaningCell records i) where
+  module _ {k : ℕ} (e : k ≡ insideCell records i) where
     its-number : (v : NameIn records values decls firsts n m i) (x : Info) (rest : Tokens) (r : Reach) → drop i (v .placing .scene .tokens) ≡ tk Name x ∷ rest
         → reach (tableOf (v .placing .scene)) (x .word) ≡ some r → (reachNumber (tableOf (v .placing .scene)) (some k) ≡ some r) × (k < m)
     its-number v x rest r q z =
@@ -242,7 +239,7 @@ module _ {records values decls firsts : List ℕ} {n m i : ℕ} {x : ℕ} (kind 
   pub kind-is : (v : Placing records values decls firsts n m) → x ≡ kindNo (tokenAt (v .scene .tokens) i .kind)
   kind-is v = kind ∙ kind-there (tabled v) l
 
-  pub no-name : (x ≡ 0 → ⊥) → (v : Placing records values decls firsts n m) → PlacedIn v values i → PlacedIn v values (i + 1)
+  pub no-name : (x ≡ kindNo Name → ⊥) → (v : Placing records values decls firsts n m) → PlacedIn v values i → PlacedIn v values (i + 1)
   no-name f v u = record { ready = u .ready; done = λ q h. by q h (decLt q i) }
     where
       by : (q : ℕ) → q < i + 1 → Dec (q < i) → PlaceAt (v .scene .tokens) (outerOf (v .scene)) (tableOf (v .scene)) q (valueCell values q)
@@ -252,13 +249,13 @@ module _ {records values decls firsts : List ℕ} {n m i : ℕ} {x : ℕ} (kind 
           let t = here (v .scene .tokens) q (tk Name y) _ e .token in
           absurd (f (kind-is v ∙ (ap (λ j. kindNo (tokenAt (v .scene .tokens) j .kind)) same ∙ ap (λ (t : Token). kindNo (t .kind)) t)))
 
-  abbrev pub name-in : x ≡ 0 → Placing records values decls firsts n m → NameIn records values decls firsts n m i
+  abbrev pub name-in : x ≡ kindNo Name → Placing records values decls firsts n m → NameIn records values decls firsts n m i
   name-in e v = record {
     placing = v;
     name = record { within = omega (arith, v .count); kind = kind-of (tokenAt (v .scene .tokens) i) 0 (sym (kind-is v) ∙ e) };
   }
 
-  pub name-placed : x ≡ 0 → {c : ℕ} → c < 2 ^ 64 → ((w : NameIn records values decls firsts n m i) → PlacedBy w c)
+  pub name-placed : x ≡ kindNo Name → {c : ℕ} → c < 2 ^ 64 → ((w : NameIn records values decls firsts n m i) → PlacedBy w c)
       → {after : List ℕ} → after ≡ putCell 8 values i c
       → (v : Placing records values decls firsts n m) → PlacedIn v values i → PlacedIn v after (i + 1)
   name-placed e {c} fits f {after} put v u =

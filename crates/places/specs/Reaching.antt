@@ -6,25 +6,22 @@ use mathlib.Core.List.{List}
 use mathlib.Core.Option.{Option, none, some}
 use native.Mathlib.Omega.{arith}
 use lib.ListN.{length, getElem?}
-use Rattle.cells.specs.Cells.{leAt, cell}
+use Rattle.cells.specs.Cells.{cell}
 use Rattle.rules.specs.Grammar.Trees.{Tokens}
-use Rattle.rules.specs.Declarations.{Names as Span-of, BitNames, lowBit, Target, Declared, declaredOf, numberOf, firstWord, Reach, reachNumber}
+use Rattle.rules.specs.Declarations.{Names as Span-of, BitNames, Target, Declared, declaredOf, numberOf, firstWord, Reach, reachNumber}
 use Rattle.laws.specs.Orders.Tests.{impossible}
-use Rattle.table.specs.Meaning.{meaningCell}
+use Rattle.table.specs.Holds.{insideCell}
 use Rattle.table.specs.Positions.{record-within}
 use Rattle.table.specs.Shown.{shownWords, shownBits, shownTarget}
 use Rattle.table.specs.Views.{View, TargetStands, TargetAt}
 use Rattle.table.specs.declared.views.Names.{Names}
 use Rattle.table.specs.declared.views.Names.the-variants.{Missing, Unnamed, Span}
 use Rattle.promise.specs.Accesses.{leftName, rightName}
-use Rattle.places.specs.Scene.{Scene, tableOf, declared-here, listed-here, cell-room, view-here, numbered}
+use Rattle.places.specs.Scene.{tableOf, declared-here, listed-here, cell-room, view-here, numbered}
 use Rattle.places.specs.Spans.{LowIn}
-use Rattle.places.specs.Bases.{BaseShows, FirstsHold, BaseAt, LowUnder, MappingAt, LiesShown, OnItself, OnAnother, on-itself, on-another}
+use Rattle.places.specs.Bases.{BaseShows, BaseAt, LowUnder, MappingAt, LiesShown, on-itself, on-another}
 use Rattle.places.specs.declared.bases.Base.{Base}
 use Rattle.places.specs.declared.bases.Lies.{Lies}
-
-pub third-cell : (records : List ℕ) (i r : ℕ) → r ≡ cell 2 records (4 * i + 2) → r ≡ meaningCell records i
-third-cell records i r e = e ∙ ap (leAt 2 records) (omega arith)
 
 -- the bits that a mapping lies on, by their form
 module _ {own on : Names} where
@@ -73,7 +70,7 @@ module _ {records values decls firsts : List ℕ} {m p t : ℕ} where
   pub target-room : MappingAt records values decls firsts m p t → 8 * t + 8 ≤ length records
   target-room v = record-within (v .scene .ready .holds) t (v .stands .within)
 
-  module _ {o : ℕ} (e : o ≡ meaningCell records t) where
+  module _ {o : ℕ} (e : o ≡ insideCell records t) where
     same-number : (v : MappingAt records values decls firsts m p t) (k : ℕ) → numberOf (tableOf (v .scene)) (v .target .name .word) ≡ some k → (k ≡ o) × (o < m)
     same-number v k q =
         let n = numbered (v .scene) t (v .target .name) k (v .stands .within) (v .stands .name) q in

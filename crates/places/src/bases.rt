@@ -3,6 +3,7 @@ use crate::spans::how_many;
 use crate::spans::low_bit;
 use crate::spans::own_count;
 use cells::get16;
+use table::records::inside_at;
 use table::views::Names;
 use table::views::bits_of;
 use table::views::target_bits;
@@ -10,11 +11,9 @@ use table::views::target_of;
 use table::views::words_of;
 ghost use mathlib.Core.Path.{_≡_};
 ghost use mathlib.Core.Option.{Option, some};
-ghost use Prim.Native.Nat.{_+_, _*_, _<_, _≤_};
-ghost use lib.ListN.{length};
+ghost use Prim.Native.Nat.{_+_, _*_, _<_};
 ghost use Rattle.rules.specs.Declarations as rules;
 ghost use Rattle.rules.specs.Declarations.{Reach, reachNumber};
-ghost use Rattle.table.specs.Meaning.{meaningCell};
 ghost use Rattle.table.specs.Shown.{shownWords};
 ghost use Rattle.promise.specs.Accesses.{leftName, rightName};
 ghost use Rattle.places.specs.Scene.{tableOf};
@@ -34,14 +33,6 @@ pub struct Base {
 pub struct Lies {
     pub first: u64,
     pub low: u64,
-}
-
-// What the name i means: the number of its first declaration, or that it has none.
-pub fn meaning_at(records: &[u8], i: usize) -> usize
-    requires { ⌜ 8 * i + 8 ≤ length (now records) ⌝ }
-    ensures { λ r. ⌜ r ≡ meaningCell (now (records .entry)) i ⌝ }
-{
-    get16(records, 4 * i + 2) as usize
 }
 
 // The place of an access in one number.
@@ -92,7 +83,7 @@ fn lies_on(
     requires { ⌜ MappingAt (now records) (now values) (now decls) (now firsts) m p t ⌝ }
     ensures { λ r. ⌜ ((v : MappingAt (now (records .entry)) (now (values .entry)) (now (decls .entry)) (now (firsts .entry)) m p t) → LiesShown v r) ⌝ }
 {
-    let o = meaning_at(records, t);
+    let o = inside_at(records, t);
     if m <= o {
         return Lies { first: 0, low: 0 };
     }

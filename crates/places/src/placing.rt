@@ -1,21 +1,19 @@
 // Each name's value cell takes the place of the access that it stands for.
 use crate::bases::base_of;
 use crate::bases::cell_of;
-use crate::bases::meaning_at;
 use crate::counting::first_words;
 use crate::reading::behind_subscript;
 use crate::reading::given_names;
 use cells::put64;
+use table::kinds::LBRA;
+use table::kinds::NAME;
+use table::records::inside_at;
 use table::records::kind_at;
 ghost use mathlib.Core.List.{List};
 ghost use Prim.Native.Nat.{ℕ, _*_, _+_, _<_, _≤_};
 ghost use lib.ListN.{length};
 ghost use Rattle.places.specs.Tabled.{Tabled};
 ghost use Rattle.places.specs.Placing.{BehindIndex, Described, Placing, NameIn, PlacedBy, PlacedIn, AllPlaced};
-
-const NAME: u8 = 0;
-
-const LBRA: u8 = 5;
 
 // The first token behind the subscript at p, if there is one.
 fn behind_index(records: &[u8], n: usize, p: usize) -> usize
@@ -44,7 +42,7 @@ fn access_cell(
     requires { ⌜ NameIn (now records) (now values) (now decls) (now firsts) n m i ⌝ }
     ensures { λ r. ⌜ ((v : NameIn (now (records .entry)) (now (values .entry)) (now (decls .entry)) (now (firsts .entry)) n m i) → PlacedBy v r) ⌝ }
 {
-    let k = meaning_at(records, i);
+    let k = inside_at(records, i);
     if m <= k {
         return 0;
     }

@@ -1,23 +1,19 @@
 // What stands behind the name of an access: its subscript, and the names of its bits. At a name that stands for no access anything is read, and nothing
 // is claimed.
+use table::kinds::COLON;
+use table::kinds::LBRA;
+use table::kinds::LESS;
+use table::kinds::RBRA;
 use table::records::kind_at;
 use table::records::value_at;
 use table::views::Names;
 ghost use mathlib.Core.Path.{_≡_};
 ghost use mathlib.Core.List.{List};
 ghost use Prim.Native.Nat.{ℕ, _+_, _<_, _≤_};
-ghost use lib.ListN.{length, drop};
+ghost use lib.ListN.{drop};
 ghost use Rattle.places.specs.Tabled.{Tabled};
 ghost use Rattle.places.specs.Brackets.{opened, past};
 ghost use Rattle.places.specs.Given.{GivenNames};
-
-const LBRA: u8 = 5;
-
-const RBRA: u8 = 6;
-
-const LESS: u8 = 7;
-
-const COLON: u8 = 11;
 
 // How many brackets are open behind a token, with d before it.
 fn opened(d: usize, kind: u8) -> usize

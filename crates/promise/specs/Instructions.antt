@@ -1,12 +1,12 @@
--- What the table has for the runner at an instruction. Its number is that of its first token. Bytes 6 and 7 of that token's record are a link: where
--- control goes behind it, 0 for out of the body; bytes 4 and 5 lead inside.
-use Prim.Native.Nat.{ℕ, suc, _+_, _*_, _<_, _≤_}
+-- What the table has for the runner at an instruction. Its number is that of its first token. That token's link is where control goes behind it, 0 for
+-- out of the body.
+use Prim.Native.Nat.{ℕ, suc, _+_, _<_, _≤_}
 use mathlib.Core.Path.{_≡_}
-use mathlib.Core.List.{List, [], _∷_, _++_}
+use mathlib.Core.List.{List, [], _∷_}
 use lib.ListN.{length, drop}
-use Rattle.cells.specs.Cells.{leAt, cell}
-use Rattle.rules.specs.Text.Tokens.{Name, Const, Masked, LPar, LBra, Less, Comma, Becomes, Equals, Arrow, BEGIN, END, IF, DECODE, OTHERWISE, REPEAT, LEAVE, RESTART, STOP, NO-OP}
-use Rattle.rules.specs.Text.Tokens.{Kind, kindNo, Info, Token, tk, Op, opKind}
+use Rattle.cells.specs.Cells.{cell}
+use Rattle.rules.specs.Text.Tokens.{Name, Const, Masked, LPar, LBra, Less, Becomes, Equals, BEGIN, END, IF, DECODE, OTHERWISE, REPEAT, LEAVE, RESTART, STOP, NO-OP}
+use Rattle.rules.specs.Text.Tokens.{Kind, Info, Token, tk, Op, opKind}
 use Rattle.rules.specs.Grammar.Trees.{Tokens, Bits, bitsTokens, Subscript, subscriptTokens, Joined, joinedTokens, Operand, operandTokens, Tail, tailTokens, Selector, selectorTokens}
 use Rattle.rules.specs.Grammar.Precedence.{Expr, exprOf}
 use Rattle.rules.specs.Selectors.{Case, numbered, listed, otherwise, selectorItems}
@@ -16,13 +16,7 @@ use Rattle.rules.specs.Steps.Actions.{Access, access, joinedAccesses}
 use Rattle.rules.specs.Faults.Bodies.{judge, judgeDestination, judgeJoined}
 use Rattle.laws.specs.Grammar.Nesting.{operandNest, tailNest, subscriptNest, joinedNest}
 use Rattle.laws.specs.Orders.Flat.{Link, at, exit, Entries, no-entry, entry, Instr, ifI, decodeI, goI, callI, stopI, moveI, Code}
-use Rattle.table.specs.Holds.{kindByte, placeCell, tokenAt}
-
-abbrev pub insideCell : List ℕ → ℕ → ℕ
-insideCell records i = leAt 2 records (8 * i + 4)
-
-abbrev pub linkCell : List ℕ → ℕ → ℕ
-linkCell records i = leAt 2 records (8 * i + 6)
+use Rattle.table.specs.Holds.{placeCell, insideCell, linkCell, tokenAt}
 
 -- an instruction never stands at token 0, which is the outer name
 abbrev pub linkNo : Link → ℕ

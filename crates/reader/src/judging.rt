@@ -3,6 +3,7 @@ use bodies::all::fault40;
 use cells::get16;
 use cells::put16;
 use declare::counting::words;
+use table::keys::NO_KEY;
 use whole::fault50;
 ghost use Prim.Native.Nat.{_≤_};
 ghost use lib.ListN.{length};
@@ -10,9 +11,6 @@ ghost use Rattle.rules.specs.Limits.{mostDeclarations};
 ghost use Rattle.reader.specs.Copied.{Copied};
 ghost use Rattle.reader.specs.Read.{Declares};
 ghost use Rattle.reader.specs.Judged.{Judges, Lawful};
-
-// No fault: above every key.
-const NO_KEY: u32 = 4294967295;
 
 const MOST_DECLARATIONS: usize = 256;
 

@@ -15,9 +15,9 @@ use Rattle.rules.specs.Grammar.Trees.{Tokens, exact, masked, Selector, one-of, 
 use Rattle.rules.specs.Selectors.{Item, matches, anyMatches, Case, numbered, listed, otherwise, takes}
 use Rattle.laws.specs.Grammar.Kinds.{kindAt-kindNo}
 use Rattle.laws.specs.Orders.Flat.{Entries, no-entry, entry, find}
-use Rattle.table.specs.Holds.{kindByte, tokenAt}
+use Rattle.table.specs.Holds.{kindByte, tokenAt, insideCell, linkCell}
 use Rattle.table.specs.Positions.{here, record-within, kind-here}
-use Rattle.promise.specs.Instructions.{insideCell, linkCell, CaseStands, Numbered, Counted, EntriesStand}
+use Rattle.promise.specs.Instructions.{CaseStands, Numbered, Counted, EntriesStand}
 use Rattle.selectors.specs.Stands.{Held, ItemsView, ItemsFrom}
 use Rattle.selectors.specs.Laws.Lists as lists
 use Rattle.selectors.specs.Laws.Alternatives.{SeenItems, otherwise-seen, brackets-seen, item-seen, see-items}

@@ -22,9 +22,9 @@ use Rattle.rules.specs.Steps.Runs.{moved, tested, perform}
 use Rattle.laws.specs.Grammar.Kinds.{kindAt-kindNo}
 use Rattle.laws.specs.Orders.Flat.{Link, at, exit, Entries, no-entry, entry, Instr, ifI, decodeI, goI, callI, stopI, moveI, Code, pc, halt, broken, return, go, push, find, picked, workM, nextM, Machine, put, putAfter, stepM}
 use Rattle.laws.specs.Orders.Flat as flat
-use Rattle.table.specs.Holds.{kindByte, placeCell, tokenAt}
+use Rattle.table.specs.Holds.{kindByte, placeCell, tokenAt, insideCell, linkCell}
 use Rattle.table.specs.Positions.{here, record-within}
-use Rattle.promise.specs.Instructions.{insideCell, linkCell, linkNo, ExpressionStands, DestinationStands, Counted, EntriesStand, Jump, a-repeat, a-leave, a-restart, a-no-op, InstructionHolds}
+use Rattle.promise.specs.Instructions.{linkNo, ExpressionStands, DestinationStands, Counted, EntriesStand, Jump, a-repeat, a-leave, a-restart, a-no-op, InstructionHolds}
 use Rattle.promise.specs.Reached.{Leads, EntryAt}
 use Rattle.evaluation.specs.Scene.{Scene, carrierWords, wordsOf}
 use Rattle.evaluation.specs.declared.expressions.Evaluated.{Evaluated}

@@ -1,26 +1,20 @@
 // The alternative of a DECODE that takes a value.
-use crate::places::inside_at;
-use crate::places::link_at;
 use selectors::items::matches;
 use selectors::read::item_at;
+use table::kinds::COMMA;
+use table::kinds::END;
+use table::kinds::LBRA;
+use table::kinds::MASKED;
+use table::kinds::NAME;
+use table::kinds::OTHERWISE;
+use table::records::inside_at;
 use table::records::kind_at;
+use table::records::link_at;
 ghost use mathlib.Core.Path.{_≡_};
 ghost use Rattle.rules.specs.Selectors.{anyMatches, takes};
 ghost use Rattle.laws.specs.Orders.Flat.{find};
 ghost use Rattle.selectors.specs.Stands.{ItemsView};
 ghost use Rattle.runner.specs.Choice.{CaseView, ChoiceView, placeNo};
-
-const NAME: u8 = 0;
-
-const MASKED: u8 = 2;
-
-const LBRA: u8 = 5;
-
-const COMMA: u8 = 9;
-
-const END: u8 = 20;
-
-const OTHERWISE: u8 = 24;
 
 // Whether one of the items from q on matches x.
 fn any_matches(records: &[u8], values: &[u8], q: usize, x: u64) -> bool

@@ -1,5 +1,4 @@
 // Runs an accepted description from left to right, with a budget of steps.
 pub mod choice;
-pub mod places;
 pub mod runs;
 pub mod steps;

@@ -1,13 +1,18 @@
 // One step: the instruction at n, without the stack of return addresses.
 use crate::choice::choose;
-use crate::places::inside_at;
-use crate::places::link_at;
 use cells::get16;
 use evaluation::expressions::Evaluated;
 use evaluation::test;
 use evaluation::transfers::Transferred;
 use evaluation::transfers::transfer;
+use table::kinds::DECODE;
+use table::kinds::IF;
+use table::kinds::LPAR;
+use table::kinds::NAME;
+use table::kinds::STOP;
+use table::records::inside_at;
 use table::records::kind_at;
+use table::records::link_at;
 use table::records::place16_at;
 ghost use mathlib.Core.Path.{_≡_};
 ghost use mathlib.Core.List.{List};
@@ -15,16 +20,6 @@ ghost use Prim.Native.Nat.{ℕ, _+_, _≤_};
 ghost use lib.ListN.{length};
 ghost use Rattle.table.specs.Holds.{kindByte};
 ghost use Rattle.runner.specs.Steps.{StepAt, StepAnswer};
-
-const NAME: u8 = 0;
-
-const LPAR: u8 = 3;
-
-const IF: u8 = 22;
-
-const DECODE: u8 = 23;
-
-const STOP: u8 = 29;
 
 // Where a step leads: by a link (0 for out of the body), into a body with the link behind the activation, to a STOP, or to a fault.
 pub enum Moved {

@@ -2,6 +2,8 @@
 use crate::lists::past_length;
 use crate::lists::some_meet;
 use cells::get16;
+use table::kinds::LBRA;
+use table::kinds::OTHERWISE;
 use table::records::kind_at;
 ghost use mathlib.Core.Path.{_≡_};
 ghost use mathlib.Core.List.{List};
@@ -9,10 +11,6 @@ ghost use Prim.Native.Nat.{ℕ, _≤_};
 ghost use Rattle.rules.specs.Faults.Bodies as rules;
 ghost use Rattle.selectors.specs.Stands.{AlternativeView, TwoAlternatives};
 ghost use Rattle.selectors.specs.Overlaps.{Begin, AlternativesView, FirstOverlap};
-
-const LBRA: u8 = 5;
-
-const OTHERWISE: u8 = 24;
 
 // Where the items of an alternative begin; OTHERWISE has none.
 pub enum Items {

@@ -1,15 +1,13 @@
 // Items of selectors, read from the token table.
 use crate::items::Item;
+use table::kinds::COLON;
+use table::kinds::MASKED;
 use table::records::kind_at;
 use table::records::value_at;
 ghost use mathlib.Core.Path.{_≡_};
 ghost use Prim.Native.Nat.{_+_, _^_, _<_};
 ghost use Rattle.selectors.specs.Items.{meant, rangeOf};
 ghost use Rattle.selectors.specs.Stands.{LiteralView, LiteralRead, ItemView, ItemRead};
-
-const MASKED: u8 = 2;
-
-const COLON: u8 = 11;
 
 // A constant: its value with 0 for each `?`, and the bits that they leave free.
 pub struct Literal {

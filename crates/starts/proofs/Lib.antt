@@ -1,5 +1,5 @@
 pub mod Seeking
-pub mod Kth
+pub mod Short
 pub mod Passing
 pub mod Answering
 pub mod Walking

@@ -2,7 +2,7 @@
 -- Assumes nothing.
 use Prim.Native.Nat.{ℕ, suc, _+_, _*_, _<_, _≤_}
 use mathlib.Core.Path.{_≡_, refl, sym, ap, _∙_}
-use mathlib.Core.List.{List}
+use mathlib.Core.List.{List, _∷_}
 use mathlib.Core.Option.{some}
 use native.Mathlib.Omega.{arith}
 use native.Mathlib.Numerals.{add-one}
@@ -22,16 +22,26 @@ use Rattle.declare.specs.Spans.{countShown}
 use Rattle.starts.specs.Starts.{Starts, begins, declines}
 use Rattle.starts.specs.declared.Started.the-variants.{Fine, Refused}
 use Rattle.starts.specs.Sought.{Sought}
-use Rattle.starts.proofs.Kth.{Kth, kth, short-there}
+use Rattle.table.specs.Laws.Kth.{kth-view, kth-next}
+use Rattle.starts.proofs.Short.{short-there}
 use Rattle.starts.proofs.Passing.{longFrom, declaration-passed, declaration-long}
 use Rattle.starts.proofs.Answering.{other-length, long-refused, none-long}
 
 -- the words of the first k declarations are the first `at`, and none of them is long
+-- the declaration whose turn it is
+record Here (records values : List ℕ) (ds : Table) (k p : ℕ) : Type 0 where
+  pub view : View records values p
+  pub next : drop k ds ≡ declaredOf (view .declaration) ∷ drop (suc k) ds
+
+abbrev here : {text records values decls : List ℕ} {ts : Tokens} {d : Description} {m k p : ℕ} → Ready text records values decls ts d m → k < m → p ≡ cell 2 decls k
+    → Here records values (declarations d) k p
+here r l e = record { view = kth-view r l e; next = kth-next r l }
+
 pub record Passed (ds : Table) (b : List ℕ) (at k : ℕ) : Type 0 where
   pub words : at + totalWords (drop k ds) ≡ totalWords ds
   pub same : longFrom b 0 (wordLengths ds) (totalWords ds) ≡ longFrom b (8 * at) (wordLengths (drop k ds)) (totalWords (drop k ds))
 
-module _ {records values b : List ℕ} {ds : Table} {at k p w n r : ℕ} {x : Names} (s : Passed ds b at k) (this : Kth records values ds k p)
+module _ {records values b : List ℕ} {ds : Table} {at k p w n r : ℕ} {x : Names} (s : Passed ds b at k) (this : Here records values ds k p)
     (adds : (v : View records values p) → w ≡ wordsOf (declaredOf (v .declaration)))
     (bits : (v : View records values p) → x ≡ shownBits (declaredOf (v .declaration) .bits)) (count : n ≡ countShown x) (found : Sought b at (at + w) n r) where
   length-here : countShown (shownBits (declaredOf (this .view .declaration) .bits)) ≡ n
@@ -83,7 +93,7 @@ module _ {records values decls : List ℕ} {m : ℕ} {b : List ℕ} {at k : ℕ}
     words-room : (text : List ℕ) (ts : Tokens) (d : Description) → Ready text records values decls ts d m → at + w ≤ totalWords (declarations d)
     unfolding totalWords
     words-room text ts d r =
-        omega (arith, walked .passed text ts d r .words, ap totalWords (kth r l e .next), adds (kth r l e .view))
+        omega (arith, walked .passed text ts d r .words, ap totalWords (kth-next r l), adds (kth-view r l e))
 
     module _ {x : Names} (bits : (v : View records values p) → x ≡ shownBits (declaredOf (v .declaration) .bits)) where
       pub to-seek : {last : ℕ} → last + 1 ≡ countShown x → (text : List ℕ) × (ts : Tokens) × (d : Description) × Ready text records values decls ts d m
@@ -95,7 +105,7 @@ module _ {records values decls : List ℕ} {m : ℕ} {b : List ℕ} {at k : ℕ}
             → Starts (declarations d) b (Refused 61 (8 * o))
         refused-61 h text ts d r =
             declines record {
-              refuses = long-refused (declarations d) b (walked .long text ts d r) (stop (walked .passed text ts d r) (kth r l e) adds bits count found h);
+              refuses = long-refused (declarations d) b (walked .long text ts d r) (stop (walked .passed text ts d r) (here r l e) adds bits count found h);
               near = omega (arith, words-room text ts d r, lawful-words (outerName d .word) (declarations d) (r .lawful));
             }
 
@@ -105,5 +115,5 @@ module _ {records values decls : List ℕ} {m : ℕ} {b : List ℕ} {at k : ℕ}
           within = omega arith;
           room = omega (arith, words-room text ts d r, lawful-words (outerName d .word) (declarations d) (r .lawful));
           long = walked .long;
-          passed = λ text ts d r. pass (walked .passed text ts d r) (kth r l e) adds bits count found h;
+          passed = λ text ts d r. pass (walked .passed text ts d r) (here r l e) adds bits count found h;
         }

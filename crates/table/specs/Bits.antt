@@ -5,7 +5,7 @@ use mathlib.Core.Path.{_≡_, refl, sym, ap, _∙_}
 use mathlib.Core.List.{List, [], _∷_}
 use native.Mathlib.Omega.{arith}
 use lib.ListN.{length, drop, length-drop}
-use Rattle.rules.specs.Text.Tokens.{Less, kindAt, Info, Token}
+use Rattle.rules.specs.Text.Tokens.{Less, kindAt, Info, Token, Greater, Const, Colon, kindNo}
 use Rattle.rules.specs.Grammar.Trees.{Tokens, bit, upto, Bits, all-bits, bits, bitsTokens, unnamed, named, MainBits, bitless, main-bits, mainBitsTokens}
 use Rattle.rules.specs.Declarations.{mainNames}
 use Rattle.laws.specs.Grammar.Kinds.{kindAt-kindNo}
@@ -44,11 +44,11 @@ bits-length (main-bits l (named n (upto c m g))) ts = omega arith
 
 -- what the table shows of bits at p
 pub data Seen (records values : List ℕ) (p : ℕ) : MainBits → Type 0 where
-  seen-none : (kindByte records p ≡ 7 → ⊥) → Seen records values p bitless
-  seen-unnamed : {l g : Info} → kindByte records p ≡ 7 → kindByte records (p + 1) ≡ 8 → Seen records values p (main-bits l (unnamed g))
-  seen-single : {l n g : Info} → kindByte records p ≡ 7 → kindByte records (p + 1) ≡ 1 → kindByte records (p + 2) ≡ 8
+  seen-none : (kindByte records p ≡ kindNo Less → ⊥) → Seen records values p bitless
+  seen-unnamed : {l g : Info} → kindByte records p ≡ kindNo Less → kindByte records (p + 1) ≡ kindNo Greater → Seen records values p (main-bits l (unnamed g))
+  seen-single : {l n g : Info} → kindByte records p ≡ kindNo Less → kindByte records (p + 1) ≡ kindNo Const → kindByte records (p + 2) ≡ kindNo Greater
       → valueCell values (p + 1) ≡ n .value → Seen records values p (main-bits l (named n (bit g)))
-  seen-pair : {l n c m g : Info} → kindByte records p ≡ 7 → kindByte records (p + 1) ≡ 1 → kindByte records (p + 2) ≡ 11
+  seen-pair : {l n c m g : Info} → kindByte records p ≡ kindNo Less → kindByte records (p + 1) ≡ kindNo Const → kindByte records (p + 2) ≡ kindNo Colon
       → valueCell values (p + 1) ≡ n .value → valueCell values (p + 3) ≡ m .value → Seen records values p (main-bits l (named n (upto c m g)))
 
 module _ {records values : List ℕ} {p : ℕ} (v : BitsView records values p) where
@@ -75,27 +75,27 @@ module _ {records values : List ℕ} {p : ℕ} (v : BitsView records values p) w
 
 -- the size by the kinds of the first three tokens, and the names by the size
 module _ {records values : List ℕ} {p : ℕ} where
-  pub size-open : {b : MainBits} {k : ℕ} → Seen records values p b → k ≡ kindByte records p → k ≡ 7 → 2 ≤ bitsSize b
+  pub size-open : {b : MainBits} {k : ℕ} → Seen records values p b → k ≡ kindByte records p → k ≡ kindNo Less → 2 ≤ bitsSize b
   size-open (seen-none s) e k = absurd (s (sym e ∙ k))
   size-open (seen-unnamed _ _) e k = omega arith
   size-open (seen-single _ _ _ _) e k = omega arith
   size-open (seen-pair _ _ _ _ _) e k = omega arith
 
-  pub size-none : {b : MainBits} {k : ℕ} → Seen records values p b → k ≡ kindByte records p → (k ≡ 7 → ⊥) → 0 ≡ bitsSize b
+  pub size-none : {b : MainBits} {k : ℕ} → Seen records values p b → k ≡ kindByte records p → (k ≡ kindNo Less → ⊥) → 0 ≡ bitsSize b
   size-none (seen-none s) e k = refl
   size-none (seen-unnamed s _) e k = absurd (k (e ∙ s))
   size-none (seen-single s _ _ _) e k = absurd (k (e ∙ s))
   size-none (seen-pair s _ _ _ _) e k = absurd (k (e ∙ s))
 
-  pub size-unnamed : {b : MainBits} {k j : ℕ} → Seen records values p b → k ≡ kindByte records p → k ≡ 7 → j ≡ kindByte records (p + 1) → j ≡ 8
+  pub size-unnamed : {b : MainBits} {k j : ℕ} → Seen records values p b → k ≡ kindByte records p → k ≡ kindNo Less → j ≡ kindByte records (p + 1) → j ≡ kindNo Greater
       → 2 ≡ bitsSize b
   size-unnamed (seen-none s) e k f j = absurd (s (sym e ∙ k))
   size-unnamed (seen-unnamed _ _) e k f j = refl
   size-unnamed (seen-single _ s _ _) e k f j = absurd (omega arith)
   size-unnamed (seen-pair _ s _ _ _) e k f j = absurd (omega arith)
 
-  module _ {b : MainBits} {k j i : ℕ} (s : Seen records values p b) (e : k ≡ kindByte records p) (ke : k ≡ 7) (f : j ≡ kindByte records (p + 1))
-      (jn : j ≡ 8 → ⊥) (g : i ≡ kindByte records (p + 2)) where
+  module _ {b : MainBits} {k j i : ℕ} (s : Seen records values p b) (e : k ≡ kindByte records p) (ke : k ≡ kindNo Less) (f : j ≡ kindByte records (p + 1))
+      (jn : j ≡ kindNo Greater → ⊥) (g : i ≡ kindByte records (p + 2)) where
     pub size-pair : i ≡ 11 → 5 ≡ bitsSize b
     size-pair ie = go s
       where

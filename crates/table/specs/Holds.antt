@@ -1,5 +1,5 @@
--- The token table: for each token a record of 8 bytes (its kind's number, its size, its place in two bytes; the other four are left to later passes)
--- and a cell of 8 bytes for its value.
+-- The token table: for each token a record of 8 bytes and a cell of 8 bytes for its value. A record has its kind's number, its size, its place in two
+-- bytes, and two bytes each that lead inside (from a name to its declaration, from an instruction into it) and behind: a link.
 use Prim.Native.Nat.{ℕ, _+_, _*_, _^_, _<_, _≤_}
 use mathlib.Core.Path.{_≡_}
 use mathlib.Core.List.{List, [], map}
@@ -11,6 +11,10 @@ use Rattle.rules.specs.Text.Scan.{plainInfo}
 use Rattle.rules.specs.Limits.{longestText, mostTokens}
 use Rattle.rules.specs.Grammar.Trees.{Tokens}
 
+-- a number that no kind has, nor will have
+abbrev pub noKind : ℕ
+noKind = 255
+
 abbrev pub kindByte : List ℕ → ℕ → ℕ
 kindByte records i = getD records (8 * i) 0
 
@@ -19,6 +23,12 @@ sizeByte records i = getD records (8 * i + 1) 0
 
 abbrev pub placeCell : List ℕ → ℕ → ℕ
 placeCell records i = leAt 2 records (8 * i + 2)
+
+abbrev pub insideCell : List ℕ → ℕ → ℕ
+insideCell records i = leAt 2 records (8 * i + 4)
+
+abbrev pub linkCell : List ℕ → ℕ → ℕ
+linkCell records i = leAt 2 records (8 * i + 6)
 
 abbrev pub valueCell : List ℕ → ℕ → ℕ
 valueCell values i = leAt 8 values (8 * i)

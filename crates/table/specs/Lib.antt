@@ -10,3 +10,8 @@ pub mod Lookups
 pub mod Keys
 pub mod Meaning
 pub mod Ready
+pub mod Kept
+pub mod Operators
+pub mod Scans
+pub mod Room
+pub mod Laws

@@ -1,19 +1,15 @@
--- What the names of a table mean, once they are resolved: bytes 4 and 5 of a name's record have the number of its first declaration.
-use Prim.Native.Nat.{ℕ, _+_, _*_, _<_}
+-- What the names of a table mean, once they are resolved: inside a name's record stands the number of its first declaration.
+use Prim.Native.Nat.{ℕ, _<_}
 use mathlib.Core.Path.{_≡_}
 use mathlib.Core.Bool.{Bool, true, false}
 use mathlib.Core.List.{List}
 use mathlib.Core.Option.{Option, none, some}
 use lib.ListN.{length}
-use Rattle.cells.specs.Cells.{leAt}
 use Rattle.rules.specs.Text.Tokens.{Name}
 use Rattle.rules.specs.Text.Scan.{sameBytes}
 use Rattle.rules.specs.Grammar.Trees.{Tokens}
 use Rattle.rules.specs.Declarations.{Name as Word, Table, numberOf}
-use Rattle.table.specs.Holds.{tokenAt}
-
-abbrev pub meaningCell : List ℕ → ℕ → ℕ
-meaningCell records i = leAt 2 records (8 * i + 4)
+use Rattle.table.specs.Holds.{insideCell, tokenAt}
 
 -- a name that is not declared: the outer name, or unknown
 abbrev pub outerOnly : ℕ
@@ -31,4 +27,4 @@ unfoldable pub meaningOf : Word → Table → Word → ℕ
 meaningOf outer ds n = meaningBy (numberOf ds n) (sameBytes outer n)
 
 pub record MeaningHolds (records : List ℕ) (ts : Tokens) (outer : Word) (ds : Table) : Type 0 where
-  pub means : (i : ℕ) → i < length ts → tokenAt ts i .kind ≡ Name → meaningCell records i ≡ meaningOf outer ds (tokenAt ts i .info .word)
+  pub means : (i : ℕ) → i < length ts → tokenAt ts i .kind ≡ Name → insideCell records i ≡ meaningOf outer ds (tokenAt ts i .info .word)

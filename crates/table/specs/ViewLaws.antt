@@ -6,7 +6,7 @@ use mathlib.Core.List.{List, [], _∷_}
 use mathlib.Core.Option.{Option, none, some}
 use native.Mathlib.Omega.{arith}
 use lib.ListN.{length, drop}
-use Rattle.rules.specs.Text.Tokens.{Name, Const, Less, Comma, Becomes, END, MAIN, Kind, kindNo, kindAt, Info, Token, tk}
+use Rattle.rules.specs.Text.Tokens.{Name, Const, Less, Comma, Becomes, END, MAIN, Kind, kindNo, kindAt, Info, Token, tk, LBra, BEGIN}
 use Rattle.rules.specs.Grammar.Trees.{Tokens, bit, upto, Action, block, actionTokens, Members, BitsEnd, bitsEndTokens, unnamed, named, body, mapped, meaningTokens, Given, carrier, given, givenTokens}
 use Rattle.rules.specs.Grammar.Trees.{words, with-bits, bare-body, MainBits, bitless, main-bits, mainBitsTokens, Declaration, plain, main}
 use Rattle.rules.specs.Grammar.Trees.{Declarations, declared-all, declared-also, declarationsTokens, headingTokens, declarationTokens}
@@ -131,13 +131,13 @@ module _ {records values : List ℕ} {i : ℕ} (v : View records values i) where
 
 -- what the table shows of a declaration's words, by the kind of the token behind its name
 pub data SeenWords (records values : List ℕ) (i : ℕ) (d : Declaration) : Type 0 where
-  words-seen : kindByte records (i + 1) ≡ 5 → 5 ≡ wordsSize d → Span (valueCell values (i + 2)) (valueCell values (i + 4)) ≡ shownWords (declaredOf d .words)
+  words-seen : kindByte records (i + 1) ≡ kindNo LBra → 5 ≡ wordsSize d → Span (valueCell values (i + 2)) (valueCell values (i + 4)) ≡ shownWords (declaredOf d .words)
       → SeenWords records values i d
-  no-words-seen : (kindByte records (i + 1) ≡ 5 → ⊥) → 0 ≡ wordsSize d → Missing ≡ shownWords (declaredOf d .words) → SeenWords records values i d
+  no-words-seen : (kindByte records (i + 1) ≡ kindNo LBra → ⊥) → 0 ≡ wordsSize d → Missing ≡ shownWords (declaredOf d .words) → SeenWords records values i d
 
 module _ {text records values : List ℕ} {ts : Tokens} (h : Holds text records values ts) (i : ℕ) (ds : Declarations) where
   -- a first token that is no `[`
-  wordless : (d : Declaration) (xs : Tokens) → drop i ts ≡ xs → 1 < length xs → (kindNo (tokenAt xs 1 .kind) ≡ 5 → ⊥) → 0 ≡ wordsSize d
+  wordless : (d : Declaration) (xs : Tokens) → drop i ts ≡ xs → 1 < length xs → (kindNo (tokenAt xs 1 .kind) ≡ kindNo LBra → ⊥) → 0 ≡ wordsSize d
       → Missing ≡ shownWords (declaredOf d .words) → SeenWords records values i d
   wordless d xs e l n = no-words-seen (λ z. n (sym (kind-far h i xs e (i + 1) 1 refl l) ∙ z))
 
@@ -156,11 +156,11 @@ pub seen-words : {records values : List ℕ} {i : ℕ} (v : View records values 
 seen-words {records} {values} {i} v = see-words (v .holds) i (v .stands .following) (v .declaration) (v .stands .reads)
 
 module _ {records values : List ℕ} {i : ℕ} {d : Declaration} where
-  pub words-size : {k : ℕ} → SeenWords records values i d → k ≡ kindByte records (i + 1) → k ≡ 5 → 5 ≡ wordsSize d
+  pub words-size : {k : ℕ} → SeenWords records values i d → k ≡ kindByte records (i + 1) → k ≡ kindNo LBra → 5 ≡ wordsSize d
   words-size (words-seen _ s _) e k = s
   words-size (no-words-seen n _ _) e k = absurd (n (sym e ∙ k))
 
-  pub no-words-size : {k : ℕ} → SeenWords records values i d → k ≡ kindByte records (i + 1) → (k ≡ 5 → ⊥) → 0 ≡ wordsSize d
+  pub no-words-size : {k : ℕ} → SeenWords records values i d → k ≡ kindByte records (i + 1) → (k ≡ kindNo LBra → ⊥) → 0 ≡ wordsSize d
   no-words-size (words-seen k _ _) e n = absurd (n (e ∙ k))
   no-words-size (no-words-seen _ s _) e n = s
 
@@ -184,7 +184,7 @@ other-kind j k n e d f = d (sym (kindAt-kindNo j) ∙ ap kindAt (sym e ∙ f) �
 -- what `:=` gives, by the kind of the token behind words and bits
 module _ {records values : List ℕ} {i : ℕ} (v : View records values i) {q k : ℕ} (place : q ≡ i + 1 + wordsSize (v .declaration) + bitsSize (bitsPart (v .declaration)))
     (kind : k ≡ kindByte records q) where
-  pub given-some : k ≡ 12 → GivenAt (v .tokens) (q + 1) (givenPart (v .declaration)) (behind v)
+  pub given-some : k ≡ kindNo Becomes → GivenAt (v .tokens) (q + 1) (givenPart (v .declaration)) (behind v)
   given-some is = go (givenPart (v .declaration)) (given-reads v q place)
     where
       go : (g : Given) → drop q (v .tokens) ≡ givenTokens g (behind v) → GivenAt (v .tokens) (q + 1) g (behind v)
@@ -193,7 +193,7 @@ module _ {records values : List ℕ} {i : ℕ} (v : View records values i) {q k 
           absurd (other-kind (a .next .kind) Becomes _ (kind-far (v .holds) q _ (e ∙ a .is) q 0 (omega arith) (omega arith)) (a .no-becomes) (sym kind ∙ is))
       go (given x m) e = (omega arith, behind-far _ q _ e 1)
 
-  pub given-none : (k ≡ 12 → ⊥) → GivenAt (v .tokens) 0 (givenPart (v .declaration)) (behind v)
+  pub given-none : (k ≡ kindNo Becomes → ⊥) → GivenAt (v .tokens) 0 (givenPart (v .declaration)) (behind v)
   given-none not = go (givenPart (v .declaration)) (given-reads v q place)
     where
       go : (g : Given) → drop q (v .tokens) ≡ givenTokens g (behind v) → GivenAt (v .tokens) 0 g (behind v)
@@ -203,9 +203,9 @@ module _ {records values : List ℕ} {i : ℕ} (v : View records values i) {q k 
 -- a body or a mapping's target, by the kind of the token behind `:=`
 pub data SeenGiven (records : List ℕ) (ts : Tokens) (r : ℕ) (d : Declaration) : Type 0 where
   nothing-seen : r ≡ 0 → BodyAt ts 0 (declaredOf d .body) → TargetAt ts 0 (declaredOf d .target) → SeenGiven records ts r d
-  body-seen : 0 < r → r < length ts → kindByte records r ≡ 19 → BodyAt ts r (declaredOf d .body) → TargetAt ts 0 (declaredOf d .target)
+  body-seen : 0 < r → r < length ts → kindByte records r ≡ kindNo BEGIN → BodyAt ts r (declaredOf d .body) → TargetAt ts 0 (declaredOf d .target)
       → SeenGiven records ts r d
-  target-seen : 0 < r → r < length ts → (kindByte records r ≡ 19 → ⊥) → BodyAt ts 0 (declaredOf d .body) → TargetAt ts r (declaredOf d .target)
+  target-seen : 0 < r → r < length ts → (kindByte records r ≡ kindNo BEGIN → ⊥) → BodyAt ts 0 (declaredOf d .body) → TargetAt ts r (declaredOf d .target)
       → SeenGiven records ts r d
 
 module _ {text records values : List ℕ} {ts : Tokens} (h : Holds text records values ts) (r : ℕ) (ds : Declarations) where
@@ -257,12 +257,12 @@ module _ {records : List ℕ} {ts : Tokens} {r : ℕ} {d : Declaration} where
   body-none (body-seen p _ _ _ _) z = absurd (omega arith)
   body-none (target-seen p _ _ _ _) z = absurd (omega arith)
 
-  pub body-some : {k : ℕ} → SeenGiven records ts r d → (r ≡ 0 → ⊥) → k ≡ kindByte records r → k ≡ 19 → BodyAt ts r (declaredOf d .body)
+  pub body-some : {k : ℕ} → SeenGiven records ts r d → (r ≡ 0 → ⊥) → k ≡ kindByte records r → k ≡ kindNo BEGIN → BodyAt ts r (declaredOf d .body)
   body-some (nothing-seen z _ _) n e k = absurd (n z)
   body-some (body-seen _ _ _ b _) n e k = b
   body-some (target-seen _ _ o _ _) n e k = absurd (o (sym e ∙ k))
 
-  pub body-other : {k : ℕ} → SeenGiven records ts r d → k ≡ kindByte records r → (k ≡ 19 → ⊥) → BodyAt ts 0 (declaredOf d .body)
+  pub body-other : {k : ℕ} → SeenGiven records ts r d → k ≡ kindByte records r → (k ≡ kindNo BEGIN → ⊥) → BodyAt ts 0 (declaredOf d .body)
   body-other (nothing-seen _ b _) e k = b
   body-other (body-seen _ _ o _ _) e k = absurd (k (e ∙ o))
   body-other (target-seen _ _ _ b _) e k = b
@@ -272,12 +272,12 @@ module _ {records : List ℕ} {ts : Tokens} {r : ℕ} {d : Declaration} where
   target-none (body-seen p _ _ _ _) z = absurd (omega arith)
   target-none (target-seen p _ _ _ _) z = absurd (omega arith)
 
-  pub target-body : {k : ℕ} → SeenGiven records ts r d → k ≡ kindByte records r → k ≡ 19 → TargetAt ts 0 (declaredOf d .target)
+  pub target-body : {k : ℕ} → SeenGiven records ts r d → k ≡ kindByte records r → k ≡ kindNo BEGIN → TargetAt ts 0 (declaredOf d .target)
   target-body (nothing-seen _ _ t) e k = t
   target-body (body-seen _ _ _ _ t) e k = t
   target-body (target-seen _ _ o _ _) e k = absurd (o (sym e ∙ k))
 
-  pub target-some : {k : ℕ} → SeenGiven records ts r d → (r ≡ 0 → ⊥) → k ≡ kindByte records r → (k ≡ 19 → ⊥) → TargetAt ts r (declaredOf d .target)
+  pub target-some : {k : ℕ} → SeenGiven records ts r d → (r ≡ 0 → ⊥) → k ≡ kindByte records r → (k ≡ kindNo BEGIN → ⊥) → TargetAt ts r (declaredOf d .target)
   target-some (nothing-seen z _ _) n e k = absurd (n z)
   target-some (body-seen _ _ o _ _) n e k = absurd (k (e ∙ o))
   target-some (target-seen _ _ _ _ t) n e k = t
@@ -321,14 +321,14 @@ module _ {records values : List ℕ} {i : ℕ} (v : View records values i) {k : 
   abbrev led-kind : k ≡ kindNo (tokenAt (v .tokens) (i - 1) .kind)
   led-kind = kind ∙ v .holds .entry (i - 1) main-within .kind
 
-  pub main-some : k ≡ 28 → MainAt (v .tokens) (i - 1) (declaredOf (v .declaration) .mainly)
+  pub main-some : k ≡ kindNo MAIN → MainAt (v .tokens) (i - 1) (declaredOf (v .declaration) .mainly)
   main-some is = go (v .declaration) (v .stands .led)
     where
       go : (d : Declaration) → LedBy (tokenAt (v .tokens) (i - 1)) d → MainAt (v .tokens) (i - 1) (declaredOf d .mainly)
       go (plain n f) led = absurd (other-kind _ MAIN _ led-kind led is)
       go (main x n o e b a m) led = (omega (arith, v .stands .past), (main-within, led))
 
-  pub main-none : (k ≡ 28 → ⊥) → MainAt (v .tokens) 0 (declaredOf (v .declaration) .mainly)
+  pub main-none : (k ≡ kindNo MAIN → ⊥) → MainAt (v .tokens) 0 (declaredOf (v .declaration) .mainly)
   main-none not = go (v .declaration) (v .stands .led)
     where
       go : (d : Declaration) → LedBy (tokenAt (v .tokens) (i - 1)) d → MainAt (v .tokens) 0 (declaredOf d .mainly)

@@ -4,6 +4,9 @@ ghost use Prim.Native.Nat.{_<_, _≤_, min};
 ghost use Rattle.rules.specs.Faults.Fault.{fault};
 ghost use Rattle.table.specs.Keys.{key, numberKey};
 
+// No fault: above every key.
+pub const NO_KEY: u32 = 4294967295;
+
 // The key of a fault where the place counts first.
 pub fn fault_key(number: u32, place: usize) -> u32
     requires { ⌜ (number < 128) × (place ≤ 32768) ⌝ }

@@ -1,4 +1,11 @@
 // A declaration whose name is the token i, seen by tokens at fixed distances from it.
+use crate::kinds::BECOMES;
+use crate::kinds::BEGIN;
+use crate::kinds::COLON;
+use crate::kinds::GREATER;
+use crate::kinds::LBRA;
+use crate::kinds::LESS;
+use crate::kinds::MAIN;
 use crate::records::kind_at;
 use crate::records::value_at;
 ghost use mathlib.Core.Path.{_≡_};
@@ -8,20 +15,6 @@ ghost use Rattle.rules.specs.Declarations.{declaredOf, mainNames};
 ghost use Rattle.table.specs.Bits.{BitsView, bitsSize};
 ghost use Rattle.table.specs.Views.{View, wordsSize, givenPart, behind, GivenAt, BodyAt, TargetAt, MainAt};
 ghost use Rattle.table.specs.Shown.{shownWords, shownBits, shownTarget};
-
-const LBRA: u8 = 5;
-
-const LESS: u8 = 7;
-
-const GREATER: u8 = 8;
-
-const COLON: u8 = 11;
-
-const BECOMES: u8 = 12;
-
-const BEGIN: u8 = 19;
-
-const MAIN: u8 = 28;
 
 // Names of words or bits: none; one bit without a name; from left to right.
 pub enum Names {

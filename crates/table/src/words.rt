@@ -10,7 +10,7 @@ ghost use Rattle.table.specs.Holds.{foldedAt};
 ghost use Rattle.table.specs.Words.{TwoNames, sameWords};
 
 // The byte in upper case.
-fn upper(b: u8) -> u8
+pub fn upper(b: u8) -> u8
     ensures { λ r. ⌜ r ≡ fold b ⌝ }
 {
     if b < 97 {

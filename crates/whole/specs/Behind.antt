@@ -1,43 +1,28 @@
--- Where an action ends: at the first separator at its own depth. Reading from its first token, one comes to what stands behind it.
-use Prim.Native.Nat.{ℕ, suc}
+-- What stands behind an action, from its first separator on; and the tokens that neither end an action nor nest.
+use Prim.Native.Nat.{ℕ}
 use mathlib.Core.Path.{_≡_, refl, sym, ap, _∙_}
-use mathlib.Core.Bool.{Bool, true, false, not, _||_, and-false, false≢true}
+use mathlib.Core.Bool.{Bool, true, false, not, _||_, false≢true}
 use mathlib.Core.List.{[], _∷_, _++_, append-assoc}
 use lib.Dec.{eqb}
-use Rattle.rules.specs.Text.Tokens.{Info, Token, tk, Op, opKind, join, plus, minus, eql, neq, lss, leq, gtr, geq, and, eqv, or, xor}
-use Rattle.rules.specs.Text.Tokens.{Name, Const, Masked, LPar, RPar, LBra, RBra, Less, Greater, Comma, Colon, Becomes, Equals, Arrow, At, NOT, BEGIN, END}
+use Rattle.rules.specs.Text.Tokens.{Info, Token, tk, Op, opKind, join, plus, minus, eql, neq, lss, leq, gtr, geq, and, eqv, or, xor, LEAVE, NEXT, RESTART, Semi, kindNo}
+use Rattle.rules.specs.Text.Tokens.{Name, Const, Masked, LPar, RPar, LBra, RBra, Less, Greater, Comma, Colon, Becomes, Equals, At, NOT, BEGIN, END}
 use Rattle.rules.specs.Grammar.Trees.{Tokens, bit, upto, Bits, all-bits, bits, bitsTokens}
 use Rattle.rules.specs.Grammar.Trees.{Operand, constant, access, parens, negated, operandTokens, Tail, no-more, with-op, tailTokens, Subscript, no-subscript, subscript, subscriptTokens}
 use Rattle.rules.specs.Grammar.Trees.{Joined, alone, joined, joinedTokens, Literal, exact, masked, literalTokens, Range, single, to, rangeTokens, Items, close, item, itemsTokens}
-use Rattle.rules.specs.Grammar.Trees.{Selector, one-of, any-of, selectorTokens, Action, block, labelled, if-then, decode, repeat, leave, restart, activate, stop, no-op, transfer, actionTokens}
-use Rattle.rules.specs.Grammar.Trees.{Members, end, also, next, membersTokens, Alternatives, counted, selected, alternativesTokens, Counted, counted-end, counted-more, countedTokens}
-use Rattle.rules.specs.Grammar.Trees.{Selected, select, otherwise, selectedTokens, SelectedMore, selected-end, selected-more, selectedMoreTokens}
+use Rattle.rules.specs.Grammar.Trees.{Selector, one-of, any-of, selectorTokens, leave, restart, transfer, actionTokens}
+use Rattle.rules.specs.Grammar.Trees.{end, next}
 use Rattle.rules.specs.Whole.Sets.{member}
-use Rattle.whole.specs.Kinds.{no, separates, deeper, ends}
+use Rattle.table.specs.Scans.{no, scan}
 
-unfoldable pub behind : ℕ → Tokens → Tokens
-behind d [] = []
-behind d (t ∷ ts) = elim (ends d (no t)) [ true ↦ t ∷ ts | false ↦ behind (deeper d (no t)) ts ]
-
--- one token at a time
-pub ends-here : (d : ℕ) (t : Token) (ts : Tokens) → ends d (no t) ≡ true → behind d (t ∷ ts) ≡ t ∷ ts
-unfolding behind
-ends-here d t ts e = rw (e, behind)
-
-pub goes-on : (d : ℕ) (t : Token) (ts : Tokens) → ends d (no t) ≡ false → behind d (t ∷ ts) ≡ behind (deeper d (no t)) ts
-unfolding behind
-goes-on d t ts e = rw (e, behind)
-
-pub all-passed : (d : ℕ) → behind d [] ≡ []
-unfolding behind
-all-passed d = refl
+abbrev pub behind : ℕ → Tokens → Tokens
+behind d ts = scan 0 d ts
 
 -- Kinds that neither separate, nest, label nor jump. Among those of selectors `,` may stand, and no name.
 unfoldable pub plain : ℕ → Bool
-plain k = not (member k (9 ∷ 10 ∷ 12 ∷ 19 ∷ 20 ∷ 21 ∷ 26 ∷ 27 ∷ []))
+plain k = not (member k (kindNo Comma ∷ kindNo Semi ∷ kindNo Becomes ∷ kindNo BEGIN ∷ kindNo END ∷ kindNo NEXT ∷ kindNo LEAVE ∷ kindNo RESTART ∷ []))
 
 unfoldable pub quiet : ℕ → Bool
-quiet k = not (member k (0 ∷ 10 ∷ 12 ∷ 19 ∷ 20 ∷ 21 ∷ 26 ∷ 27 ∷ []))
+quiet k = not (member k (kindNo Name ∷ kindNo Semi ∷ kindNo Becomes ∷ kindNo BEGIN ∷ kindNo END ∷ kindNo NEXT ∷ kindNo LEAVE ∷ kindNo RESTART ∷ []))
 
 -- tokens whose kinds pass a test
 pub data All (q : ℕ → Bool) : Tokens → Type 0 where
@@ -162,104 +147,30 @@ neither true b h = absurd (false≢true h)
 neither false b h = (refl, h)
 
 pub record Quiet (k : ℕ) : Type 0 where
-  pub semi : eqb k 10 ≡ false
-  pub becomes : eqb k 12 ≡ false
-  pub begin : eqb k 19 ≡ false
-  pub end : eqb k 20 ≡ false
-  pub next : eqb k 21 ≡ false
-  pub leave : eqb k 26 ≡ false
-  pub restart : eqb k 27 ≡ false
+  pub semi : eqb k (kindNo Semi) ≡ false
+  pub becomes : eqb k (kindNo Becomes) ≡ false
+  pub begin : eqb k (kindNo BEGIN) ≡ false
+  pub end : eqb k (kindNo END) ≡ false
+  pub next : eqb k (kindNo NEXT) ≡ false
+  pub leave : eqb k (kindNo LEAVE) ≡ false
+  pub restart : eqb k (kindNo RESTART) ≡ false
 
-still : (k : ℕ) → not (member k (10 ∷ 12 ∷ 19 ∷ 20 ∷ 21 ∷ 26 ∷ 27 ∷ [])) ≡ true → Quiet k
+still : (k : ℕ) → not (member k (kindNo Semi ∷ kindNo Becomes ∷ kindNo BEGIN ∷ kindNo END ∷ kindNo NEXT ∷ kindNo LEAVE ∷ kindNo RESTART ∷ [])) ≡ true → Quiet k
 unfolding member
 still k h =
-    let a = neither (eqb k 10) _ h in
-    let b = neither (eqb k 12) _ (a .1) in
-    let c = neither (eqb k 19) _ (b .1) in
-    let d = neither (eqb k 20) _ (c .1) in
-    let e = neither (eqb k 21) _ (d .1) in
-    let f = neither (eqb k 26) _ (e .1) in
-    let g = neither (eqb k 27) _ (f .1) in
+    let a = neither (eqb k (kindNo Semi)) _ h in
+    let b = neither (eqb k (kindNo Becomes)) _ (a .1) in
+    let c = neither (eqb k (kindNo BEGIN)) _ (b .1) in
+    let d = neither (eqb k (kindNo END)) _ (c .1) in
+    let e = neither (eqb k (kindNo NEXT)) _ (d .1) in
+    let f = neither (eqb k (kindNo LEAVE)) _ (e .1) in
+    let g = neither (eqb k (kindNo RESTART)) _ (f .1) in
     record { semi = a .0; becomes = b .0; begin = c .0; end = d .0; next = e .0; leave = f .0; restart = g .0 }
 
-pub plain-kind : (k : ℕ) → plain k ≡ true → (eqb k 9 ≡ false) × Quiet k
+pub plain-kind : (k : ℕ) → plain k ≡ true → (eqb k (kindNo Comma) ≡ false) × Quiet k
 unfolding plain member
-plain-kind k h = let a = neither (eqb k 9) _ h in (a .0, still k (a .1))
+plain-kind k h = let a = neither (eqb k (kindNo Comma)) _ h in (a .0, still k (a .1))
 
-pub quiet-kind : (k : ℕ) → quiet k ≡ true → (eqb k 0 ≡ false) × Quiet k
+pub quiet-kind : (k : ℕ) → quiet k ≡ true → (eqb k (kindNo Name) ≡ false) × Quiet k
 unfolding quiet member
-quiet-kind k h = let a = neither (eqb k 0) _ h in (a .0, still k (a .1))
-
--- a token that neither ends the action nor nests
-past : (d : ℕ) (t : Token) (ts : Tokens) → ends d (no t) ≡ false → deeper d (no t) ≡ d → behind d (t ∷ ts) ≡ behind d ts
-unfolding behind
-past d t ts e h = ap (λ (b : Bool). elim b [ true ↦ t ∷ ts | false ↦ behind (deeper d (no t)) ts ]) e ∙ ap (λ (x : ℕ). behind x ts) h
-
-pub level : (d k : ℕ) → Quiet k → deeper d k ≡ d
-unfolding deeper
-level d k q = rw (q .begin, q .end, deeper)
-
-pub inner : (d k : ℕ) → ends (suc d) k ≡ false
-unfolding ends
-inner d k = and-false (separates k)
-
-pub plain-goes-on : (d k : ℕ) → eqb k 9 ≡ false → Quiet k → ends d k ≡ false
-unfolding ends separates member
-plain-goes-on d k c q = rw (c, q .semi, q .end, q .next)
-
-past-plain : (d : ℕ) (xs ts : Tokens) → All plain xs → behind d (xs ++ ts) ≡ behind d ts
-past-plain d xs ts all-none = refl
-past-plain d xs ts (all-more {t} {ts = ys} e a) =
-    let q = plain-kind (no t) e in
-    past d t (ys ++ ts) (plain-goes-on d (no t) (q .0) (q .1)) (level d (no t) (q .1)) ∙ past-plain d ys ts a
-
-past-quiet : (d : ℕ) (xs ts : Tokens) → All quiet xs → behind (suc d) (xs ++ ts) ≡ behind (suc d) ts
-past-quiet d xs ts all-none = refl
-past-quiet d xs ts (all-more {t} {ts = ys} e a) = past (suc d) t (ys ++ ts) (inner d (no t)) (level (suc d) (no t) (quiet-kind (no t) e .1))
-    ∙ past-quiet d ys ts a
-
-past-made : (d : ℕ) (f : Tokens → Tokens) (ts : Tokens) → Made plain f → behind d (f ts) ≡ behind d ts
-past-made d f ts m = ap (behind d) (m .writes ts) ∙ past-plain d (m .tokens) ts (m .kinds)
-
-past-expression : (d : ℕ) (o : Operand) (t : Tail) (ts : Tokens) → behind d (operandTokens o (tailTokens t ts)) ≡ behind d ts
-past-expression d o t ts = past-made d (λ (l : Tokens). operandTokens o (tailTokens t l)) ts (expression-made o t)
-
-mutual
-  unfolding behind ends deeper separates member
-
-  pub past-action : (a : Action) (d : ℕ) (ts : Tokens) → behind d (actionTokens a ts) ≡ behind d ts
-  past-action (block b a m) d ts = past-action a (suc d) (membersTokens m ts) ∙ past-members m d ts
-  past-action (labelled n b a) d ts = past-action a d ts
-  past-action (if-then i o t w a) d ts = past-expression d o t (tk Arrow w ∷ actionTokens a ts) ∙ past-action a d ts
-  past-action (decode i o t w b v) d ts = past-expression d o t (tk Arrow w ∷ tk BEGIN b ∷ alternativesTokens v ts) ∙ past-alternatives v d ts
-  past-action (repeat i a) d ts = past-action a d ts
-  past-action (leave i n) d ts = refl
-  past-action (restart i n) d ts = refl
-  past-action (activate n l r) d ts = refl
-  past-action (stop i l r) d ts = refl
-  past-action (no-op i l r) d ts = refl
-  past-action (transfer n s b j e o t) d ts = past-made d (actionTokens (transfer n s b j e o t)) ts (transfer-made n s b j e o t)
-
-  past-members : (m : Members) (d : ℕ) (ts : Tokens) → behind (suc d) (membersTokens m ts) ≡ behind d ts
-  past-members (end i) d ts = refl
-  past-members (also i a m) d ts = past-action a (suc d) (membersTokens m ts) ∙ past-members m d ts
-  past-members (next i a m) d ts = past-action a (suc d) (membersTokens m ts) ∙ past-members m d ts
-
-  past-alternatives : (v : Alternatives) (d : ℕ) (ts : Tokens) → behind (suc d) (alternativesTokens v ts) ≡ behind d ts
-  past-alternatives (counted a c) d ts = past-action a (suc d) (countedTokens c ts) ∙ past-counted c d ts
-  past-alternatives (selected s) d ts = past-selected s d ts
-
-  past-counted : (c : Counted) (d : ℕ) (ts : Tokens) → behind (suc d) (countedTokens c ts) ≡ behind d ts
-  past-counted (counted-end i) d ts = refl
-  past-counted (counted-more i a c) d ts = past-action a (suc d) (countedTokens c ts) ∙ past-counted c d ts
-
-  past-selected : (s : Selected) (d : ℕ) (ts : Tokens) → behind (suc d) (selectedTokens s ts) ≡ behind d ts
-  past-selected (select s b a m) d ts =
-      let rest = tk Becomes b ∷ actionTokens a (selectedMoreTokens m ts) in
-      ap (behind (suc d)) (selector-made s .writes rest) ∙ (past-quiet d (selector-made s .tokens) rest (selector-made s .kinds)
-      ∙ (past-action a (suc d) (selectedMoreTokens m ts) ∙ past-more m d ts))
-  past-selected (otherwise i b a e) d ts = past-action a (suc d) (tk END e ∷ ts)
-
-  past-more : (m : SelectedMore) (d : ℕ) (ts : Tokens) → behind (suc d) (selectedMoreTokens m ts) ≡ behind d ts
-  past-more (selected-end i) d ts = refl
-  past-more (selected-more i s) d ts = past-selected s d ts
+quiet-kind k h = let a = neither (eqb k (kindNo Name)) _ h in (a .0, still k (a .1))

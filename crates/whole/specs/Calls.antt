@@ -8,16 +8,17 @@ use native.Mathlib.Decide.{decLt}
 use borrow.Author.Tests.{eq-eqb, ne-eqb}
 use lib.Dec.{eqb}
 use lib.ListN.{drop}
-use Rattle.rules.specs.Text.Tokens.{Token}
+use Rattle.rules.specs.Text.Tokens.{Token, Name, LPar, kindNo}
 use Rattle.rules.specs.Grammar.Trees.{Tokens}
 use Rattle.rules.specs.Declarations.{Name as Word}
 use Rattle.rules.specs.Whole.Sets.{anyName, member}
 use Rattle.table.specs.Holds.{kindByte, tokenAt}
 use Rattle.table.specs.Words.{wordAt}
-use Rattle.whole.specs.Kinds.{no as number, nextNo, stores, tests, begins, deeper, ends, closes, mode}
+use Rattle.whole.specs.Kinds.{nextNo, stores, tests, begins, ends, closes, mode}
 use Rattle.whole.specs.Reading.{Kinded, next-token, no-more}
 use Rattle.whole.specs.Events.{Event, reads, writes, activates, halts, actingEvent, nameEvent, event, heard}
 use Rattle.whole.specs.Touches.{anyEvent, callHit}
+use Rattle.table.specs.Scans.{no as number, deeper}
 
 unfoldable pub callsOf : List Event → List Word
 callsOf [] = []
@@ -59,7 +60,7 @@ module _ (d m : ℕ) (t : Token) (ts : Tokens) where
 
 -- which tokens activate: a name in front of `(` where an action begins
 module _ (m : ℕ) (t : Token) (k : ℕ) where
-  pub calls-name : number t ≡ 0 → m ≡ 0 → k ≡ 3 → event m t k ≡ activates (t .info .word) ∷ []
+  pub calls-name : number t ≡ 0 → m ≡ 0 → k ≡ kindNo LPar → event m t k ≡ activates (t .info .word) ∷ []
   unfolding event nameEvent actingEvent
   calls-name e z h = rw (eq-eqb (number t) 0 e, event, z, eq-eqb k 3 h, actingEvent)
 
@@ -79,7 +80,7 @@ module _ (m : ℕ) (t : Token) (k : ℕ) where
       by zero n = absurd (n refl)
       by (suc m) n = refl
 
-  storing : (k ≡ 3 → ⊥) → callsOf (actingEvent (t .info .word) k) ≡ []
+  storing : (k ≡ kindNo LPar → ⊥) → callsOf (actingEvent (t .info .word) k) ≡ []
   unfolding actingEvent callsOf
   storing n = rw (ne-eqb k 3 n, actingEvent) (by (stores k))
     where
@@ -87,7 +88,7 @@ module _ (m : ℕ) (t : Token) (k : ℕ) where
       by true = refl
       by false = refl
 
-  pub calls-nothing : (number t ≡ 0 → m ≡ 0 → k ≡ 3 → ⊥) → callsOf (event m t k) ≡ []
+  pub calls-nothing : (number t ≡ 0 → m ≡ 0 → k ≡ kindNo LPar → ⊥) → callsOf (event m t k) ≡ []
   unfolding event nameEvent
   calls-nothing n = by (decLt 0 (number t)) (decLt 0 m)
     where
@@ -98,15 +99,15 @@ module _ (m : ℕ) (t : Token) (k : ℕ) where
 
 -- a token that activates, by its kind, the mode and the kind behind it
 abbrev pub Activates : Bool → ℕ → ℕ → ℕ → Type 0
-Activates true k m x = (k ≡ 0) × ((m ≡ 0) × (x ≡ 3))
-Activates false k m x = k ≡ 0 → m ≡ 0 → x ≡ 3 → ⊥
+Activates true k m x = (k ≡ 0) × ((m ≡ 0) × (x ≡ kindNo LPar))
+Activates false k m x = k ≡ 0 → m ≡ 0 → x ≡ kindNo LPar → ⊥
 
 -- The next activation of the tokens from `at` on: a name, and where to go on. From n on there is none.
 pub record Found (records : List ℕ) (n at depth mode name next deep new-mode : ℕ) : Type 0 where
   pub low : at ≤ name
   pub high : name < next
   pub within : next ≤ n
-  pub is-name : kindByte records name ≡ 0
+  pub is-name : kindByte records name ≡ kindNo Name
   pub shallow : deep ≤ next
   pub counted : new-mode ≤ next + 1
   pub calls : (v : Kinded records n) → callsOf (heard depth mode (drop at (v .tokens))) ≡ wordAt (v .tokens) name ∷ callsOf

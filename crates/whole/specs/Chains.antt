@@ -11,12 +11,12 @@ use native.Mathlib.Decide.{decLt}
 use borrow.Author.Tests.{eq-eqb, ne-eqb, lt-ltb, le-ltb}
 use lib.Dec.{eqb, ltb}
 use lib.ListN.{length, drop}
+use Rattle.rules.specs.Text.Tokens.{Name, kindNo}
 use Rattle.rules.specs.Declarations.{Name as Word, Table, numberOf, bodyNumber, bodyOf}
 use Rattle.rules.specs.Steps.Runs.{bodyAct, actOr}
 use Rattle.rules.specs.Whole.Sets.{callsIn, anyName, chainOver}
-use Rattle.table.specs.Holds.{kindByte}
+use Rattle.table.specs.Holds.{kindByte, insideCell}
 use Rattle.table.specs.Words.{wordAt}
-use Rattle.table.specs.Meaning.{meaningCell}
 use Rattle.whole.specs.Reading.{Reading, tableOf, kinded}
 use Rattle.whole.specs.Names.{number-bound}
 use Rattle.whole.specs.Meanings.{means-number, means-nothing}
@@ -42,7 +42,7 @@ pub in-all : {records decls : List ℕ} {m n : ℕ} (i : ℕ) (w : List ℕ) {al
 unfolding inLevel
 in-all i w a v = sym (rw a)
 
-module _ {records decls : List ℕ} {m n i k : ℕ} (w : List ℕ) {all : Bool} (a : all ≡ false) (h : i < n) (e : kindByte records i ≡ 0) (q : k ≡ meaningCell records i) where
+module _ {records decls : List ℕ} {m n i k : ℕ} (w : List ℕ) {all : Bool} (a : all ≡ false) (h : i < n) (e : kindByte records i ≡ kindNo Name) (q : k ≡ insideCell records i) where
   pub in-none : m ≤ k → (v : Reading records decls m n) → false ≡ inLevel (tableOf v) w all (wordAt (v .tokens) i)
   unfolding inLevel
   in-none l v = sym (rw (a, means-nothing v i k h e q l))
@@ -67,7 +67,7 @@ module _ {records decls : List ℕ} {m n from : ℕ} {w : List ℕ} {all : Bool}
   asked-all h v = sym (inv .left v ∙ ap (anyName (inLevel (tableOf v) w all)) (c .nothing h (kinded v)))
 
   module _ (h : name < n) where
-    pub called-name : kindByte records name ≡ 0
+    pub called-name : kindByte records name ≡ kindNo Name
     called-name = c .found h .is-name
 
     pub fewer-left : n - next < n - at

@@ -11,7 +11,8 @@ use Rattle.rules.specs.Grammar.Trees.{Action, block, labelled, if-then, decode,
 use Rattle.rules.specs.Grammar.Trees.{Members, end, also, next, Alternatives, counted, selected, Counted, counted-end, counted-more}
 use Rattle.rules.specs.Grammar.Trees.{Selected, select, otherwise, SelectedMore, selected-end, selected-more}
 use Rattle.rules.specs.Declarations.{Name as Word}
-use Rattle.whole.specs.Kinds.{no, nextNo, stores, deeper, ends, closes, mode}
+use Rattle.whole.specs.Kinds.{nextNo, stores, ends, closes, mode}
+use Rattle.table.specs.Scans.{no, deeper}
 
 pub data Event : Type 0 where
   reads writes activates : Word → Event

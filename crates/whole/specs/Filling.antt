@@ -12,11 +12,10 @@ use Rattle.cells.specs.Cells.{cell}
 use Rattle.rules.specs.Text.Tokens.{Name, Token, tk, kindNo}
 use Rattle.rules.specs.Declarations.{Name as Word, declaredOf, numberOf, bodyNumber, bodyOf}
 use Rattle.rules.specs.Steps.Runs.{bodyAct, actOr}
-use Rattle.rules.specs.Whole.Sets.{Sets, setsOf, bodySets, stopsIn, bodyStops, callsIn, anyName, chainOver, member}
 use Rattle.rules.specs.Limits.{longestChain}
-use Rattle.table.specs.Holds.{kindByte, tokenAt}
+use Rattle.rules.specs.Whole.Sets.{Sets, setsOf, bodySets, stopsIn, bodyStops, callsIn, anyName, chainOver, member}
+use Rattle.table.specs.Holds.{kindByte, tokenAt, insideCell}
 use Rattle.table.specs.Words.{wordAt}
-use Rattle.table.specs.Meaning.{meaningCell}
 use Rattle.laws.specs.Orders.Chains.{sets-closed, stops-closed}
 use Rattle.laws.specs.Orders.Tests.{or-neither}
 use Rattle.whole.specs.Reading.{Reading, tableOf, kinded}
@@ -131,7 +130,7 @@ pub record Fills (records decls old new : List ℕ) (m n i : ℕ) : Type 0 where
   pub grows : Grows records decls old new m n
   pub done : (v : Reading records decls m n) → Done v new (wordAt (v .tokens) i)
 
-module _ {records decls memo : List ℕ} {m n i k : ℕ} (f : Fillable records decls memo m n) (h : i < n) (e : kindByte records i ≡ 0) (q : k ≡ meaningCell records i) where
+module _ {records decls memo : List ℕ} {m n i k : ℕ} (f : Fillable records decls memo m n) (h : i < n) (e : kindByte records i ≡ kindNo Name) (q : k ≡ insideCell records i) where
   same-memo : Grows records decls memo memo m n
   same-memo = record { remembers = f .remembers; kept = λ j a. a }
 
@@ -255,7 +254,7 @@ module _ {records decls old memo : List ℕ} {m n from left at depth mode name n
     pub call-short : (v : Reading records decls m n) → chainOver (tableOf v) left (wordAt (v .tokens) name) ≡ false
     call-short v = parts v .0
 
-    pub call-name : kindByte records name ≡ 0
+    pub call-name : kindByte records name ≡ kindNo Name
     call-name = c .found h .is-name
 
     pub call-fewer : n - next < n - at
@@ -360,7 +359,7 @@ module _ {records decls old memo : List ℕ} {m n k : ℕ} (inv : Collecting rec
     pub name-inside : p < n
     name-inside = let v = inv .fillable .reading in omega (arith, its-name v .0, v .count)
 
-    pub name-kind : kindByte records p ≡ 0
+    pub name-kind : kindByte records p ≡ kindNo Name
     name-kind = let v = inv .fillable .reading in v .ready .holds .entry p (its-name v .0) .kind ∙ ap (λ (t : Token). kindNo (t .kind)) (its-name v .1)
 
     pub name-short : (v : Reading records decls m n) → chainOver (tableOf v) 16 (wordAt (v .tokens) p) ≡ false

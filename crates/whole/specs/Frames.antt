@@ -13,7 +13,7 @@ use Rattle.rules.specs.Grammar.Trees.{Tokens}
 use Rattle.rules.specs.Declarations.{Table}
 use Rattle.rules.specs.Faults.Whole.{Scope, memberScope}
 use Rattle.table.specs.Holds.{kindByte, tokenAt}
-use Rattle.whole.specs.Kinds.{no as number}
+use Rattle.table.specs.Scans.{no as number}
 use Rattle.whole.specs.Reading.{Kinded, next-token}
 use Rattle.whole.specs.Groups.{more}
 use Rattle.whole.specs.Walks.{around, outside, lastOpen, labelling, walk, faultsAt, walk-begin, walk-end, walk-semi, walk-next, walk-comma, walk-becomes, walk-other}

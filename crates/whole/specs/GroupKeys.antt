@@ -7,7 +7,7 @@ use native.Mathlib.Omega.{arith}
 use native.Mathlib.Decide.{decLt}
 use borrow.Author.Tests.{eq-eqb, ne-eqb}
 use lib.ListN.{drop}
-use Rattle.rules.specs.Text.Tokens.{Token}
+use Rattle.rules.specs.Text.Tokens.{Token, Semi, kindNo}
 use Rattle.rules.specs.Declarations.{Name as Word, Table}
 use Rattle.rules.specs.Grammar.Trees.{Tokens}
 use Rattle.rules.specs.Whole.Sets.{Sets, sets, union, bodySets, member, meet, race}
@@ -16,7 +16,7 @@ use Rattle.rules.specs.Faults.Fault.{fault, when}
 use Rattle.table.specs.Holds.{placeCell, tokenAt}
 use Rattle.table.specs.Keys.{noKey, numberKey, leastNumberKey, least-append, least-bounded, least-none}
 use Rattle.laws.specs.Orders.Tests.{member-append}
-use Rattle.whole.specs.Kinds.{no as number, nextNo}
+use Rattle.whole.specs.Kinds.{nextNo}
 use Rattle.whole.specs.Reading.{Reading, tableOf, kinded, Kinded, next-token, no-more}
 use Rattle.whole.specs.Events.{heard}
 use Rattle.whole.specs.Calls.{callsOf}
@@ -28,6 +28,7 @@ use Rattle.whole.specs.Filling.{Complete}
 use Rattle.whole.specs.Behind.{behind}
 use Rattle.whole.specs.Walks.{min-assoc}
 use Rattle.whole.specs.Groups.{placeOf, touchAt, stopsAt, memberAt, alsoAt, membersAt, onward, also-onward}
+use Rattle.table.specs.Scans.{no as number}
 
 -- words that hold the carriers of sets
 pub record Holding (r w : List ℕ) (s : Sets) : Type 0 where
@@ -119,7 +120,7 @@ module _ {records decls memo : List ℕ} {m n : ℕ} (i : ℕ) (r w : List ℕ) 
   unfolding stopsAt
   action-stops = shown .stopping
 
-no-onward : (ds : Table) (u : Sets) (ts : Tokens) → (nextNo ts ≡ 10 → ⊥) → onward ds u ts ≡ []
+no-onward : (ds : Table) (u : Sets) (ts : Tokens) → (nextNo ts ≡ kindNo Semi → ⊥) → onward ds u ts ≡ []
 unfolding onward
 no-onward ds u [] n = refl
 no-onward ds u (t ∷ ts) n = rw (ne-eqb (number t) 10 n, onward)
@@ -147,7 +148,7 @@ compare-none from x c a b = record {
 }
 
 -- `;` is a token
-pub end-inside : {records : List ℕ} {n k : ℕ} (e : ℕ) → Kinded records n → ((v : Kinded records n) → k ≡ nextNo (drop e (v .tokens))) → k ≡ 10 → e < n
+pub end-inside : {records : List ℕ} {n k : ℕ} (e : ℕ) → Kinded records n → ((v : Kinded records n) → k ≡ nextNo (drop e (v .tokens))) → k ≡ kindNo Semi → e < n
 end-inside {n = n} e v kind h = by (decLt e n)
   where
     by : Dec (e < n) → e < n
@@ -189,7 +190,7 @@ module _ {records decls memo : List ℕ} {m n from : ℕ} {r w : List ℕ} {key 
       ap (λ (z : ℕ). min z (leastNumberKey (onward (tableOf v) (union u t) (drop e (v .tokens))))) (x .least)
       ∙ (min-assoc key (x .own) (leastNumberKey (onward (tableOf v) (union u t) (drop e (v .tokens)))) ∙ (ap (min key) (sym both) ∙ y .2))
 
-  pub last-member : (k ≡ 10 → ⊥) → (v : Reading records decls m n) → next ≡ leastNumberKey (membersAt (tableOf v) (sets [] []) (drop from (v .tokens)))
+  pub last-member : (k ≡ kindNo Semi → ⊥) → (v : Reading records decls m n) → next ≡ leastNumberKey (membersAt (tableOf v) (sets [] []) (drop from (v .tokens)))
   last-member h v =
       let u = union (inv .so-far v .0) (touchAt (tableOf v) (drop i (v .tokens))) in
       let none-left : leastNumberKey (onward (tableOf v) u (drop e (v .tokens))) ≡ noKey =
@@ -197,7 +198,7 @@ module _ {records decls memo : List ℕ} {m n from : ℕ} {r w : List ℕ} {key 
       let small : next ≤ noKey = omega (arith, inv .small, x .least) in
       sym (ap (min next) none-left ∙ omega arith) ∙ with-member v
 
-  module _ (h : k ≡ 10) where
+  module _ (h : k ≡ kindNo Semi) where
     pub next-member : {r₂ w₂ : List ℕ} → ((j : ℕ) → holds r₂ j ≡ (holds r j || holds r₁ j)) → ((j : ℕ) → holds w₂ j ≡ (holds w j || holds w₁ j))
         → Comparing records decls memo m n from r₂ w₂ next (e + 1)
     next-member a b = record {

@@ -4,7 +4,7 @@ use mathlib.Core.Path.{_≡_, refl, sym, ap, ap₂, _∙_}
 use mathlib.Core.Bool.{Bool, true, false, or-false}
 use mathlib.Core.List.{List, [], _∷_, _++_}
 use lib.Dec.{eqb}
-use Rattle.rules.specs.Text.Tokens.{Info, tk, END, Comma, Colon, RBra, Becomes}
+use Rattle.rules.specs.Text.Tokens.{Info, tk, END, Comma, Colon, RBra, Becomes, Semi, kindNo}
 use Rattle.rules.specs.Grammar.Trees.{Tokens, Literal, exact, masked, literalTokens, Range, single, to, rangeTokens, close, item, itemsTokens, Selector, one-of, any-of, selectorTokens}
 use Rattle.rules.specs.Grammar.Trees.{Action, block, labelled, if-then, decode, repeat, leave, restart, activate, stop, no-op, transfer, actionTokens, Members, end, also, next, membersTokens}
 use Rattle.rules.specs.Grammar.Trees.{Alternatives, counted, selected, alternativesTokens, Counted, counted-end, counted-more, countedTokens, Selected, select, otherwise, selectedTokens, SelectedMore, selected-end, selected-more, selectedMoreTokens}
@@ -15,12 +15,14 @@ use Rattle.rules.specs.Limits.{longestChain}
 use Rattle.rules.specs.Faults.Fault.{Fault, when}
 use Rattle.rules.specs.Faults.Bodies.{firstPlace}
 use Rattle.rules.specs.Faults.Whole.{hasMore, memberFaults}
-use Rattle.whole.specs.Kinds.{no, nextNo, separates, deeper, ends}
+use Rattle.whole.specs.Kinds.{nextNo, ends}
 use Rattle.whole.specs.Events.{Event, heard}
 use Rattle.whole.specs.Hearing.{Apart, members-apart, heard-action}
 use Rattle.whole.specs.Touches.{anyEvent, any-action, readHit, writeHit, stopHit, anyAct, act-reads, act-writes, act-stops}
 use Rattle.whole.specs.Races.{touch, touch-reads, touch-writes, AlikeSets, race-alike, Covers, covers-none, covers-more}
-use Rattle.whole.specs.Behind.{behind, past-action}
+use Rattle.table.specs.Laws.Scans.{past-action}
+use Rattle.whole.specs.Behind.{behind}
+use Rattle.table.specs.Scans.{no, separates, deeper, halts, scan, stops}
 
 abbrev pub placeOf : Tokens → ℕ
 placeOf [] = 0
@@ -28,12 +30,12 @@ placeOf (t ∷ ts) = t .info .place
 
 -- whether `;` stands behind the action
 unfoldable pub more : Tokens → Bool
-more ts = eqb (nextNo (behind 0 ts)) 10
+more ts = eqb (nextNo (behind 0 ts)) (kindNo Semi)
 
 -- by where it ends
-pub more-behind : (ts rest : Tokens) {k : ℕ} → rest ≡ behind 0 ts → k ≡ nextNo rest → eqb k 10 ≡ more ts
+pub more-behind : (ts rest : Tokens) {k : ℕ} → rest ≡ behind 0 ts → k ≡ nextNo rest → eqb k (kindNo Semi) ≡ more ts
 unfolding more
-more-behind ts rest e h = ap (λ (x : ℕ). eqb x 10) (h ∙ ap nextNo e)
+more-behind ts rest e h = ap (λ (x : ℕ). eqb x (kindNo Semi)) (h ∙ ap nextNo e)
 
 module _ (ds : Table) where
   -- what the action that begins the tokens touches, and whether it may stop
@@ -52,7 +54,7 @@ module _ (ds : Table) where
   alsoAt d u [] = []
   alsoAt d u (t ∷ ts) =
       elim (ends d (no t)) [
-        | true ↦ elim (eqb (no t) 10) [ true ↦ memberAt u ts ++ alsoAt 0 (union u (touchAt ts)) ts | false ↦ [] ]
+        | true ↦ elim (eqb (no t) (kindNo Semi)) [ true ↦ memberAt u ts ++ alsoAt 0 (union u (touchAt ts)) ts | false ↦ [] ]
         | false ↦ alsoAt (deeper d (no t)) u ts
       ]
 
@@ -66,15 +68,15 @@ module _ (ds : Table) where
   -- reading on, one comes to the separator first
   unfoldable pub onward : Sets → Tokens → List Fault
   onward u [] = []
-  onward u (t ∷ ts) = elim (eqb (no t) 10) [ true ↦ membersAt u ts | false ↦ [] ]
+  onward u (t ∷ ts) = elim (eqb (no t) (kindNo Semi)) [ true ↦ membersAt u ts | false ↦ [] ]
 
   pub also-onward : (d : ℕ) (u : Sets) (ts : Tokens) → alsoAt d u ts ≡ onward u (behind d ts)
-  unfolding alsoAt behind onward membersAt
+  unfolding alsoAt scan onward membersAt
   also-onward d u [] = refl
   also-onward d u (t ∷ ts) = by (ends d (no t)) (also-onward (deeper d (no t)) u ts)
     where
       by : (b : Bool) → alsoAt (deeper d (no t)) u ts ≡ onward u (behind (deeper d (no t)) ts)
-          → elim b [ true ↦ elim (eqb (no t) 10) [ true ↦ memberAt u ts ++ alsoAt 0 (union u (touchAt ts)) ts | false ↦ [] ] | false ↦ alsoAt (deeper d (no t)) u ts ]
+          → elim b [ true ↦ elim (eqb (no t) (kindNo Semi)) [ true ↦ memberAt u ts ++ alsoAt 0 (union u (touchAt ts)) ts | false ↦ [] ] | false ↦ alsoAt (deeper d (no t)) u ts ]
           ≡ onward u (elim b [ true ↦ t ∷ ts | false ↦ behind (deeper d (no t)) ts ])
       by true h = refl
       by false h = h
@@ -140,7 +142,7 @@ module _ (ds : Table) where
       ∙ rest (union u v) (covers-more u (touched ds (actOf a)) v before c (touch-action a (membersTokens m ts) s)))
 
   also-members : (m : Members) (ts : Tokens) (u : Sets) (before : List Sets) → Covers u before → alsoAt 0 u (membersTokens m ts) ≡ alsoFaults before m
-  unfolding alsoAt alsoFaults membersAt ends separates member
+  unfolding alsoAt alsoFaults membersAt halts stops separates member
   also-members (end e) ts u before c = refl
   also-members (next i a m) ts u before c = refl
   also-members (also i a m) ts u before c = member-then a m ts u before c (λ w d. also-members m ts w (touched ds (actOf a) ∷ before) d)
@@ -151,10 +153,10 @@ module _ (ds : Table) where
   group-members a m ts = member-then a m ts (sets [] []) [] covers-none (λ w d. also-members m ts w (touched ds (actOf a) ∷ []) d)
 
 pub more-members : (a : Action) (m : Members) (ts : Tokens) → more (actionTokens a (membersTokens m ts)) ≡ hasMore m
-unfolding more behind ends separates member
-more-members a m ts = ap (λ (l : Tokens). eqb (nextNo l) 10) (past-action a 0 (membersTokens m ts)) ∙ by m
+unfolding more scan halts stops separates member
+more-members a m ts = ap (λ (l : Tokens). eqb (nextNo l) (kindNo Semi)) (past-action a 0 (membersTokens m ts)) ∙ by m
   where
-    by : (m : Members) → eqb (nextNo (behind 0 (membersTokens m ts))) 10 ≡ hasMore m
+    by : (m : Members) → eqb (nextNo (behind 0 (membersTokens m ts))) (kindNo Semi) ≡ hasMore m
     by (end e) = refl
     by (also i b n) = refl
     by (next i b n) = refl
@@ -162,36 +164,36 @@ more-members a m ts = ap (λ (l : Tokens). eqb (nextNo l) 10) (past-action a 0 (
 -- alternatives are no members
 lone : (a : Action) (ts : Tokens) → more ts ≡ false → more (actionTokens a ts) ≡ false
 unfolding more
-lone a ts h = ap (λ (l : Tokens). eqb (nextNo l) 10) (past-action a 0 ts) ∙ h
+lone a ts h = ap (λ (l : Tokens). eqb (nextNo l) (kindNo Semi)) (past-action a 0 ts) ∙ h
 
 lone-counted : (c : Counted) (ts : Tokens) → more (countedTokens c ts) ≡ false
-unfolding more behind ends separates member
+unfolding more scan halts stops separates member
 lone-counted (counted-end i) ts = refl
 lone-counted (counted-more i a c) ts = refl
 
 lone-more : (m : SelectedMore) (ts : Tokens) → more (selectedMoreTokens m ts) ≡ false
-unfolding more behind ends separates member
+unfolding more scan halts stops separates member
 lone-more (selected-end i) ts = refl
 lone-more (selected-more i s) ts = refl
 
 past-literal : (l : Literal) (ts : Tokens) → more (literalTokens l ts) ≡ more ts
-unfolding more behind ends deeper separates member
+unfolding more scan halts stops deeper separates member
 past-literal (exact i) ts = refl
 past-literal (masked i) ts = refl
 
 past-range : (l : Literal) (r : Range) (ts : Tokens) → more (literalTokens l (rangeTokens r ts)) ≡ more ts
-unfolding more behind ends deeper separates member
+unfolding more scan halts stops deeper separates member
 past-range l single ts = past-literal l ts
 past-range l (to c k) ts = past-literal l (tk Colon c ∷ literalTokens k ts) ∙ past-literal k ts
 
 lone-selector : (s : Selector) (b : Info) (ts : Tokens) → more ts ≡ false → more (selectorTokens s (tk Becomes b ∷ ts)) ≡ false
-unfolding more behind ends deeper separates member
+unfolding more scan halts stops deeper separates member
 lone-selector (one-of l r) b ts h = past-range l r (tk Becomes b ∷ ts) ∙ h
 lone-selector (any-of i l r (close j)) b ts h = past-range l r (tk RBra j ∷ tk Becomes b ∷ ts) ∙ h
 lone-selector (any-of i l r (item c k q v)) b ts h = past-range l r (tk Comma c ∷ literalTokens k (rangeTokens q (itemsTokens v (tk Becomes b ∷ ts))))
 
 lone-selected : (s : Selected) (ts : Tokens) → more (selectedTokens s ts) ≡ false
-unfolding more behind ends deeper separates member
+unfolding more scan halts stops deeper separates member
 lone-selected (select s b a m) ts = lone-selector s b (actionTokens a (selectedMoreTokens m ts)) (lone a (selectedMoreTokens m ts) (lone-more m ts))
 lone-selected (otherwise i b a e) ts = lone a (tk END e ∷ ts) refl
 

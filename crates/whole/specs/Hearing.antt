@@ -12,8 +12,9 @@ use Rattle.rules.specs.Grammar.Trees.{Selector, one-of, any-of, selectorTokens,
 use Rattle.rules.specs.Grammar.Trees.{Members, end, also, next, membersTokens, Alternatives, counted, selected, alternativesTokens, Counted, counted-end, counted-more, countedTokens}
 use Rattle.rules.specs.Grammar.Trees.{Selected, select, otherwise, selectedTokens, SelectedMore, selected-end, selected-more, selectedMoreTokens}
 use Rattle.rules.specs.Whole.Sets.{member}
-use Rattle.whole.specs.Kinds.{nextNo, separates, tests, begins, stores, outermost, deeper, ends, closes, mode}
+use Rattle.whole.specs.Kinds.{nextNo, tests, begins, stores, closes, mode}
 use Rattle.whole.specs.Events.{Event, reads, writes, actingEvent, nameEvent, event, heard, operandEvents, tailEvents, subscriptEvents, joinedEvents, actionEvents, membersEvents, alternativesEvents, countedEvents, selectedEvents, selectedMoreEvents}
+use Rattle.table.specs.Scans.{separates, outermost, deeper, halts, stops}
 
 -- what may stand behind an action
 pub data Apart : Tokens → Type 0 where
@@ -36,13 +37,13 @@ more-apart (selected-end i) ts = by-end
 more-apart (selected-more i s) ts = by-comma
 
 bits-heard : (b : Bits) (d m : ℕ) (ts : Tokens) → heard d m (bitsTokens b ts) ≡ heard d m ts
-unfolding heard event ends closes deeper mode separates tests begins member
+unfolding heard event halts stops closes deeper mode separates tests begins member
 bits-heard all-bits d m ts = refl
 bits-heard (bits l n (bit g)) d m ts = refl
 bits-heard (bits l n (upto c k g)) d m ts = refl
 
 op-heard : (op : Op) (i : Info) (d m : ℕ) (ts : Tokens) → heard d m (tk (opKind op) i ∷ ts) ≡ heard d m ts
-unfolding heard event ends closes deeper mode separates tests begins member
+unfolding heard event halts stops closes deeper mode separates tests begins member
 op-heard join i d m ts = refl
 op-heard plus i d m ts = refl
 op-heard minus i d m ts = refl
@@ -58,7 +59,7 @@ op-heard or i d m ts = refl
 op-heard xor i d m ts = refl
 
 mutual
-  unfolding heard event nameEvent ends closes deeper mode separates tests begins member operandEvents
+  unfolding heard event nameEvent halts stops closes deeper mode separates tests begins member operandEvents
 
   operand-heard : (o : Operand) (d m : ℕ) (ts : Tokens) → heard d (suc m) (operandTokens o ts) ≡ operandEvents o (heard d (suc m) ts)
   operand-heard (constant i) d m ts = refl
@@ -91,37 +92,37 @@ stored-event w (subscript l o t r) b j e ts = refl
 stored-heard : (n : Info) (s : Subscript) (b : Bits) (j : Joined) (e : Info) (d : ℕ) (ts : Tokens) (es : List Event)
     → heard d 0 (joinedTokens j (tk Equals e ∷ ts)) ≡ es
     → heard d 0 (tk Name n ∷ subscriptTokens s (bitsTokens b (joinedTokens j (tk Equals e ∷ ts)))) ≡ writes (n .word) ∷ subscriptEvents s es
-unfolding heard event nameEvent ends closes deeper mode separates tests begins member
+unfolding heard event nameEvent halts stops closes deeper mode separates tests begins member
 stored-heard n s b j e d ts es h =
     let rest = joinedTokens j (tk Equals e ∷ ts) in
     ap (λ l. l ++ heard d 0 (subscriptTokens s (bitsTokens b rest))) (stored-event (n .word) s b j e ts)
     ∙ ap (λ l. writes (n .word) ∷ l) (subscript-heard s d 0 (bitsTokens b rest) ∙ ap (subscriptEvents s) (bits-heard b d 0 rest ∙ h))
 
 joined-heard : (j : Joined) (e : Info) (d : ℕ) (ts : Tokens) → heard d 0 (joinedTokens j (tk Equals e ∷ ts)) ≡ joinedEvents j (heard d 1 ts)
-unfolding heard event ends closes deeper mode separates tests begins member joinedEvents
+unfolding heard event halts stops closes deeper mode separates tests begins member joinedEvents
 joined-heard alone e d ts = refl
 joined-heard (joined a n s b j) e d ts = stored-heard n s b j e d ts (joinedEvents j (heard d 1 ts)) (joined-heard j e d ts)
 
 -- a selector names nothing, and `:=` stands behind it
 literal-heard : (l : Literal) (d m : ℕ) (ts : Tokens) → heard d m (literalTokens l ts) ≡ heard d m ts
-unfolding heard event ends closes deeper mode separates tests begins member
+unfolding heard event halts stops closes deeper mode separates tests begins member
 literal-heard (exact i) d m ts = refl
 literal-heard (masked i) d m ts = refl
 
 range-heard : (r : Range) (d m : ℕ) (ts : Tokens) → heard d m (rangeTokens r ts) ≡ heard d m ts
-unfolding heard event ends closes deeper mode separates tests begins member
+unfolding heard event halts stops closes deeper mode separates tests begins member
 range-heard single d m ts = refl
 range-heard (to c l) d m ts = literal-heard l d m ts
 
 items-heard : (v : Items) (d m : ℕ) (b : Info) (ts : Tokens) → heard (suc d) m (itemsTokens v (tk Becomes b ∷ ts)) ≡ heard (suc d) 0 ts
-unfolding heard event ends closes deeper mode separates tests begins member
+unfolding heard event halts stops closes deeper mode separates tests begins member
 items-heard (close r) d m b ts = refl
 items-heard (item c l r v) d m b ts =
     let rest = itemsTokens v (tk Becomes b ∷ ts) in
     literal-heard l (suc d) 0 (rangeTokens r rest) ∙ (range-heard r (suc d) 0 rest ∙ items-heard v d 0 b ts)
 
 selector-heard : (s : Selector) (d : ℕ) (b : Info) (ts : Tokens) → heard (suc d) 0 (selectorTokens s (tk Becomes b ∷ ts)) ≡ heard (suc d) 0 ts
-unfolding heard event ends closes deeper mode separates tests begins member
+unfolding heard event halts stops closes deeper mode separates tests begins member
 selector-heard (one-of l r) d b ts = literal-heard l (suc d) 0 (rangeTokens r (tk Becomes b ∷ ts)) ∙ range-heard r (suc d) 0 (tk Becomes b ∷ ts)
 selector-heard (any-of c l r v) d b ts =
     let rest = itemsTokens v (tk Becomes b ∷ ts) in
@@ -136,7 +137,7 @@ apart-mode d m by-end = refl
 apart-mode d m by-next = refl
 
 target-heard : {ts : Tokens} (n : Info) (d : ℕ) → Apart ts → heard d 0 (tk Name n ∷ ts) ≡ heard d 0 ts
-unfolding heard event nameEvent actingEvent ends closes deeper mode separates tests begins stores member
+unfolding heard event nameEvent actingEvent halts stops closes deeper mode separates tests begins stores member
 target-heard n d by-comma = refl
 target-heard n d by-semi = refl
 target-heard n d by-end = refl
@@ -147,7 +148,7 @@ unfoldable pub further : ℕ → Tokens → List Event
 further d ts = elim (outermost d) [ true ↦ [] | false ↦ heard d 0 ts ]
 
 silent : {ts : Tokens} → Apart ts → heard 0 0 ts ≡ []
-unfolding heard ends separates member
+unfolding heard halts stops separates member
 silent by-comma = refl
 silent by-semi = refl
 silent by-end = refl
@@ -164,7 +165,7 @@ expression-heard : (o : Operand) (t : Tail) (d : ℕ) (ts : Tokens) → heard d 
 expression-heard o t d ts = operand-heard o d 0 (tailTokens t ts) ∙ ap (operandEvents o) (tail-heard t d 0 ts)
 
 mutual
-  unfolding heard event nameEvent actingEvent ends closes deeper mode separates tests begins stores member actionEvents further
+  unfolding heard event nameEvent actingEvent halts stops closes deeper mode separates tests begins stores member actionEvents further
 
   pub action-heard : (a : Action) (d : ℕ) (ts : Tokens) → Apart ts → heard d 0 (actionTokens a ts) ≡ actionEvents a (heard d 0 ts)
   action-heard (block b a m) d ts s =
@@ -220,5 +221,5 @@ pub heard-action : (a : Action) (ts : Tokens) → Apart ts → heard 0 0 (action
 heard-action a ts s = action-heard a 0 ts s ∙ ap (actionEvents a) (silent s)
 
 pub heard-body : (b : Info) (a : Action) (m : Members) (ts : Tokens) → heard 0 0 (actionTokens (block b a m) ts) ≡ actionEvents (block b a m) []
-unfolding heard event ends closes deeper mode separates tests begins member actionEvents further
+unfolding heard event halts stops closes deeper mode separates tests begins member actionEvents further
 heard-body b a m ts = action-heard a 1 (membersTokens m ts) (members-apart m ts) ∙ ap (actionEvents a) (members-heard m 0 ts)

@@ -1,59 +1,43 @@
 -- What the kinds of tokens mean to one who reads a body from left to right. Kinds go by their numbers, as in the table.
 use Prim.Native.Nat.{ℕ, zero, suc, _+_, _-_, _<_, _≤_}
-use mathlib.Core.Path.{_≡_, refl, sym, ap, ap₂, _∙_}
-use mathlib.Core.Bool.{Bool, true, false, _&&_, _||_, and-true, and-false}
-use mathlib.Core.List.{List, [], _∷_}
+use mathlib.Core.Path.{_≡_, refl, sym, ap, _∙_}
+use mathlib.Core.Bool.{Bool, true, false, _&&_}
+use mathlib.Core.List.{[], _∷_}
 use native.Mathlib.Omega.{arith}
 use native.Mathlib.Numerals.{add-one}
 use borrow.Author.Tests.{eq-eqb, ne-eqb}
 use lib.Dec.{eqb}
-use Rattle.rules.specs.Text.Tokens.{Token, kindNo}
+use Rattle.rules.specs.Text.Tokens.{LBra, RBra, Less, Comma, Semi, Becomes, Equals, Arrow, At, BEGIN, END, NEXT, IF, DECODE, REPEAT, kindNo}
 use Rattle.rules.specs.Grammar.Trees.{Tokens}
 use Rattle.rules.specs.Whole.Sets.{member}
-
-abbrev pub no : Token → ℕ
-no t = kindNo (t .kind)
+use Rattle.table.specs.Holds.{noKind}
+use Rattle.table.specs.Scans.{no, down, outermost, halts}
+use Rattle.table.specs.Laws.Scans.{below}
 
 -- the kind that comes next; past the end a number that no kind has
 abbrev pub nextNo : Tokens → ℕ
-nextNo [] = 42
+nextNo [] = noKind
 nextNo (t ∷ ts) = no t
-
--- `,`, `;`, END and NEXT stand behind an action
-unfoldable pub separates : ℕ → Bool
-separates k = member k (9 ∷ 10 ∷ 20 ∷ 21 ∷ [])
 
 -- behind `=`, IF and DECODE stands an expression
 unfoldable pub tests : ℕ → Bool
-tests k = member k (13 ∷ 22 ∷ 23 ∷ [])
+tests k = member k (kindNo Equals ∷ kindNo IF ∷ kindNo DECODE ∷ [])
 
 -- behind `,`, `;`, `:=`, `=>`, BEGIN, END, NEXT and REPEAT stands an action, or nothing that names a carrier
 unfoldable pub begins : ℕ → Bool
-begins k = member k (9 ∷ 10 ∷ 12 ∷ 14 ∷ 19 ∷ 20 ∷ 21 ∷ 25 ∷ [])
+begins k = member k (kindNo Comma ∷ kindNo Semi ∷ kindNo Becomes ∷ kindNo Arrow ∷ kindNo BEGIN ∷ kindNo END ∷ kindNo NEXT ∷ kindNo REPEAT ∷ [])
 
 -- `[`, `<`, `=` and `@` stand behind a name that is stored to
 unfoldable pub stores : ℕ → Bool
-stores k = member k (5 ∷ 7 ∷ 13 ∷ 15 ∷ [])
-
-abbrev pub down : ℕ → ℕ
-down zero = zero
-down (suc d) = d
-
-abbrev pub outermost : ℕ → Bool
-outermost zero = true
-outermost (suc d) = false
-
--- how many BEGINs are open
-unfoldable pub deeper : ℕ → ℕ → ℕ
-deeper d k = elim (eqb k 19) [ true ↦ suc d | false ↦ elim (eqb k 20) [ true ↦ down d | false ↦ d ] ]
+stores k = member k (kindNo LBra ∷ kindNo Less ∷ kindNo Equals ∷ kindNo At ∷ [])
 
 -- an action ends at the first separator at its own depth
-unfoldable pub ends : ℕ → ℕ → Bool
-ends d k = separates k && outermost d
+abbrev pub ends : ℕ → ℕ → Bool
+ends d k = halts 0 d k
 
 -- or with the END of its own block
 unfoldable pub closes : ℕ → ℕ → Bool
-closes d k = eqb k 20 && outermost (down d)
+closes d k = eqb k (kindNo END) && outermost (down d)
 
 -- Where names are stored to, 0; where they are read, one more than the open `[`.
 unfoldable pub mode : ℕ → ℕ → ℕ
@@ -62,60 +46,14 @@ mode m k =
       | true ↦ 1
       | false ↦ elim (begins k) [
         | true ↦ 0
-        | false ↦ elim (eqb k 5) [
+        | false ↦ elim (eqb k (kindNo LBra)) [
           | true ↦ suc m
-          | false ↦ elim (eqb k 6) [ true ↦ down m | false ↦ m ]
+          | false ↦ elim (eqb k (kindNo RBra)) [ true ↦ down m | false ↦ m ]
         ]
       ]
     ]
 
--- a number that is none of a list
-abbrev pub Misses : ℕ → List ℕ → Type 0
-Misses k [] = Unit {0}
-Misses k (x ∷ xs) = (k ≡ x → ⊥) × Misses k xs
-
-pub missing : (k : ℕ) (xs : List ℕ) → Misses k xs → false ≡ member k xs
-unfolding member
-missing k [] h = refl
-missing k (x ∷ xs) h = ap₂ _||_ (sym (ne-eqb k x (h .0))) (missing k xs (h .1))
-
 -- the arms of the functions that count depths and modes
-pub below : (d : ℕ) → (d ≡ 0 → ⊥) → d - 1 ≡ down d
-below zero n = absurd (n refl)
-below (suc d) n = omega arith
-
-at-top : (d : ℕ) → d ≡ 0 → outermost d ≡ true
-at-top d e = ap outermost e
-
-not-top : (d : ℕ) → (d ≡ 0 → ⊥) → outermost d ≡ false
-not-top zero n = absurd (n refl)
-not-top (suc d) n = refl
-
-module _ (d k : ℕ) where
-  pub deeper-begin : k ≡ 19 → d + 1 ≡ deeper d k
-  unfolding deeper
-  deeper-begin e = add-one d ∙ sym (rw (eq-eqb k 19 e, deeper))
-
-  pub deeper-shut : (k ≡ 19 → ⊥) → k ≡ 20 → d ≡ 0 → 0 ≡ deeper d k
-  unfolding deeper
-  deeper-shut n e z = sym (rw (ne-eqb k 19 n, eq-eqb k 20 e, deeper) (ap down z))
-
-  pub deeper-end : (k ≡ 19 → ⊥) → k ≡ 20 → (d ≡ 0 → ⊥) → d - 1 ≡ deeper d k
-  unfolding deeper
-  deeper-end n e z = below d z ∙ sym (rw (ne-eqb k 19 n, eq-eqb k 20 e, deeper))
-
-  pub deeper-same : (k ≡ 19 → ⊥) → (k ≡ 20 → ⊥) → d ≡ deeper d k
-  unfolding deeper
-  deeper-same n e = sym (rw (ne-eqb k 19 n, ne-eqb k 20 e, deeper))
-
-  pub ends-top : (r : Bool) → d ≡ 0 → r ≡ separates k → r ≡ ends d k
-  unfolding ends
-  ends-top r z e = e ∙ sym (ap (λ (b : Bool). separates k && b) (at-top d z) ∙ and-true (separates k))
-
-  pub ends-inside : (d ≡ 0 → ⊥) → false ≡ ends d k
-  unfolding ends
-  ends-inside z = sym (ap (λ (b : Bool). separates k && b) (not-top d z) ∙ and-false (separates k))
-
 inner-block : (d : ℕ) → 2 ≤ d → outermost (down d) ≡ false
 inner-block zero h = absurd (omega arith)
 inner-block (suc zero) h = absurd (omega arith)
@@ -127,15 +65,15 @@ own-block (suc zero) h = refl
 own-block (suc (suc d)) h = absurd (omega arith)
 
 module _ (d k : ℕ) where
-  pub closes-other : (k ≡ 20 → ⊥) → false ≡ closes d k
+  pub closes-other : (k ≡ kindNo END → ⊥) → false ≡ closes d k
   unfolding closes
   closes-other n = sym (rw (ne-eqb k 20 n))
 
-  pub closes-own : k ≡ 20 → d < 2 → true ≡ closes d k
+  pub closes-own : k ≡ kindNo END → d < 2 → true ≡ closes d k
   unfolding closes
   closes-own e h = sym (rw (eq-eqb k 20 e, own-block d h))
 
-  pub closes-inner : k ≡ 20 → 2 ≤ d → false ≡ closes d k
+  pub closes-inner : k ≡ kindNo END → 2 ≤ d → false ≡ closes d k
   unfolding closes
   closes-inner e h = sym (rw (eq-eqb k 20 e, inner-block d h))
 
@@ -150,19 +88,19 @@ module _ (m k : ℕ) (t : Bool) (e : t ≡ tests k) where
     mode-begins h = sym (rw (sym e ∙ n, sym f ∙ h, mode))
 
     module _ (h : b ≡ false) where
-      pub mode-open : k ≡ 5 → m + 1 ≡ mode m k
+      pub mode-open : k ≡ kindNo LBra → m + 1 ≡ mode m k
       unfolding mode
       mode-open q = add-one m ∙ sym (rw (sym e ∙ n, sym f ∙ h, eq-eqb k 5 q, mode))
 
-      module _ (o : k ≡ 5 → ⊥) where
-        pub mode-shut : k ≡ 6 → m ≡ 0 → 0 ≡ mode m k
+      module _ (o : k ≡ kindNo LBra → ⊥) where
+        pub mode-shut : k ≡ kindNo RBra → m ≡ 0 → 0 ≡ mode m k
         unfolding mode
         mode-shut q z = sym (rw (sym e ∙ n, sym f ∙ h, ne-eqb k 5 o, eq-eqb k 6 q, mode) (ap down z))
 
-        pub mode-less : k ≡ 6 → (m ≡ 0 → ⊥) → m - 1 ≡ mode m k
+        pub mode-less : k ≡ kindNo RBra → (m ≡ 0 → ⊥) → m - 1 ≡ mode m k
         unfolding mode
         mode-less q z = below m z ∙ sym (rw (sym e ∙ n, sym f ∙ h, ne-eqb k 5 o, eq-eqb k 6 q, mode))
 
-        pub mode-same : (k ≡ 6 → ⊥) → m ≡ mode m k
+        pub mode-same : (k ≡ kindNo RBra → ⊥) → m ≡ mode m k
         unfolding mode
         mode-same q = sym (rw (sym e ∙ n, sym f ∙ h, ne-eqb k 5 o, ne-eqb k 6 q, mode))

@@ -12,7 +12,7 @@ use lib.Dec.{eqb}
 use lib.ListN.{length, drop}
 use Rattle.cells.specs.Cells.{cell, putCell}
 use Rattle.cells.specs.Laws.{length-put, le-put-same, le-put-below, le-put-above}
-use Rattle.rules.specs.Text.Tokens.{kindAt}
+use Rattle.rules.specs.Text.Tokens.{kindAt, Name, kindNo}
 use Rattle.rules.specs.Text.Scan.{sameBytes}
 use Rattle.rules.specs.Grammar.Trees.{Tokens}
 use Rattle.rules.specs.Declarations.{Name as Word}
@@ -23,10 +23,11 @@ use Rattle.laws.specs.Grammar.Kinds.{kindAt-kindNo}
 use Rattle.table.specs.Holds.{kindByte, placeCell, tokenAt, Holds}
 use Rattle.table.specs.Words.{NameAt, wordAt, TwoNames, sameWords}
 use Rattle.table.specs.Keys.{noKey, numberKey, leastNumberKey, least-none}
-use Rattle.whole.specs.Kinds.{no as number, nextNo}
+use Rattle.whole.specs.Kinds.{nextNo}
 use Rattle.whole.specs.Reading.{Kinded, next-token, no-more}
 use Rattle.whole.specs.Least.{when-key}
 use Rattle.whole.specs.Walks.{jumps, labelling, jumpAt, nextWord}
+use Rattle.table.specs.Scans.{no as number}
 
 -- n tokens with their words
 pub record Worded (text records : List ℕ) (n : ℕ) : Type 0 where
@@ -45,20 +46,20 @@ module _ {text records : List ℕ} {n : ℕ} (v : Worded text records n) where
     kind = λ i h. v .holds .entry i (omega (arith, v .count)) .kind;
   }
 
-  pub word-at : (i : ℕ) → i < n → kindByte records i ≡ 0 → NameAt (v .tokens) i
+  pub word-at : (i : ℕ) → i < n → kindByte records i ≡ kindNo Name → NameAt (v .tokens) i
   word-at i h e = record {
     within = omega (arith, v .count);
     kind = sym (kindAt-kindNo (tokenAt (v .tokens) i .kind)) ∙ ap kindAt (sym (by-kinds .kind i h) ∙ e);
   }
 
-  abbrev pub two-words : (i j : ℕ) → i < n → kindByte records i ≡ 0 → j < n → kindByte records j ≡ 0 → TwoNames text records i j
+  abbrev pub two-words : (i j : ℕ) → i < n → kindByte records i ≡ kindNo Name → j < n → kindByte records j ≡ kindNo Name → TwoNames text records i j
   two-words i j h e l f = record { values = v .values; tokens = v .tokens; holds = v .holds; first = word-at i h e; second = word-at j l f }
 
 -- the cells below the top are names
 pub record Labelled (records labels : List ℕ) (n top : ℕ) : Type 0 where
   pub room : 2 * top ≤ length labels
   pub inside : (j : ℕ) → j < top → cell 2 labels j < n
-  pub names : (j : ℕ) → j < top → kindByte records (cell 2 labels j) ≡ 0
+  pub names : (j : ℕ) → j < top → kindByte records (cell 2 labels j) ≡ kindNo Name
 
 -- the words of c cells from the base on, the last first
 unfoldable pub namesFrom : Tokens → List ℕ → ℕ → ℕ → List Word
@@ -76,7 +77,7 @@ pub record Seeking (text records labels : List ℕ) (n base top name : ℕ) (j :
   pub worded : Worded text records n
   pub labelled : Labelled records labels n top
   pub name-in : name < n
-  pub is-name : kindByte records name ≡ 0
+  pub is-name : kindByte records name ≡ kindNo Name
   pub left : (v : Worded text records n)
       → isKnown (wordAt (v .tokens) name) (namesFrom (v .tokens) labels base (top - base)) ≡ isKnown (wordAt (v .tokens) name)
       (namesFrom (v .tokens) labels base (j - base))
@@ -125,7 +126,7 @@ module _ {text records labels : List ℕ} {n base top name j : ℕ} (inv : Seeki
       }
 
 pub seek : {text records labels : List ℕ} {n base top name : ℕ} → Worded text records n → Labelled records labels n top → base ≤ top → name < n
-    → kindByte records name ≡ 0
+    → kindByte records name ≡ kindNo Name
     → Seeking text records labels n base top name top
 seek w l b h e = record { low = b; high = omega arith; worded = w; labelled = l; name-in = h; is-name = e; left = λ v. refl }
 
@@ -147,11 +148,11 @@ module _ {records : List ℕ} {n next : ℕ} (i : ℕ) (behind : (v : Kinded rec
       by (yes l) = l
       by (no l) = absurd (let past : n ≤ i + 1 = omega arith in omega (arith, behind v, ap nextNo (no-more v (i + 1) past)))
 
-  target-name : (v : Kinded records n) → kindByte records (i + 1) ≡ 0
+  target-name : (v : Kinded records n) → kindByte records (i + 1) ≡ kindNo Name
   target-name v = v .kind (i + 1) (target-in v) ∙ (sym (ap nextNo (next-token v (i + 1) (target-in v))) ∙ (sym (behind v) ∙ name))
 
   pub to-seek : {text labels : List ℕ} {base top : ℕ} → Worded text records n → Labelled records labels n top → base ≤ top
-      → Worded text records n × (Labelled records labels n top × ((base ≤ top) × ((i + 1 < n) × (kindByte records (i + 1) ≡ 0))))
+      → Worded text records n × (Labelled records labels n top × ((base ≤ top) × ((i + 1 < n) × (kindByte records (i + 1) ≡ kindNo Name))))
   to-seek v l b = (v, (l, (b, (target-in (by-kinds v), target-name (by-kinds v)))))
 
   target-word : (v : Kinded records n) → nextWord (drop (i + 1) (v .tokens)) ≡ wordAt (v .tokens) (i + 1)
@@ -302,7 +303,7 @@ module _ {text records labels : List ℕ} {n i base top : ℕ} (h : i < n) (one 
         by-inside x j g (yes y) = rw (below-kept j y) (x .inside j y)
         by-inside x j g (no y) = let s : j ≡ top = omega arith in omega (arith, ap (cell 2 new) s, top-cell)
 
-        by-names : Labelled records labels n top → (j : ℕ) → j < top + 1 → Dec (j < top) → kindByte records (cell 2 new j) ≡ 0
+        by-names : Labelled records labels n top → (j : ℕ) → j < top + 1 → Dec (j < top) → kindByte records (cell 2 new j) ≡ kindNo Name
         by-names x j g (yes y) = rw (below-kept j y) (x .names j y)
         by-names x j g (no y) = let s : j ≡ top = omega arith in ap (kindByte records) (ap (cell 2 new) s ∙ top-cell) ∙ (sym q ∙ z)
 

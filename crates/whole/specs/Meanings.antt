@@ -1,33 +1,28 @@
 -- What the table says of a name: the number of its declaration, the declaration of a number, the carrier under it.
-use Prim.Native.Nat.{ℕ, zero, suc, _+_, _*_, _<_, _≤_}
+use Prim.Native.Nat.{ℕ, _+_, _*_, _<_, _≤_}
 use mathlib.Core.Path.{_≡_, refl, sym, ap, _∙_, subst}
 use mathlib.Core.Logic.{_⊎_, inl, inr}
 use mathlib.Core.Bool.{Bool, true, false}
-use mathlib.Core.List.{List, [], _∷_, map}
-use mathlib.Core.Option.{Option, none, some, Option·none-ne-some}
+use mathlib.Core.List.{List, [], _∷_}
+use mathlib.Core.Option.{Option, none, some}
 use native.Mathlib.Omega.{arith}
-use lib.ListN.{length, drop, getElem?, length-map}
+use lib.ListN.{length, drop, getElem?}
 use Rattle.cells.specs.Cells.{cell}
 use Rattle.rules.specs.Text.Tokens.{Name, LBra, Less, Becomes, Token, tk, kindNo}
 use Rattle.rules.specs.Text.Scan.{sameBytes}
 use Rattle.rules.specs.Grammar.Trees.{Tokens, Declaration, plain, main, words, with-bits, bare-body, carrier, given, body, mapped, bitless, main-bits, declarationsTokens}
-use Rattle.rules.specs.Declarations.{Name as Word, Target, BitNames, Table, declaredOf, numberOf, outerName, ownNames}
+use Rattle.rules.specs.Declarations.{Name as Word, Target, BitNames, declaredOf, numberOf, outerName, ownNames}
 use Rattle.rules.specs.Whole.Sets.{owner}
 use Rattle.laws.specs.Accepted.Declared.{declares as lawful-table}
-use Rattle.table.specs.Holds.{kindByte}
+use Rattle.table.specs.Holds.{kindByte, insideCell}
 use Rattle.table.specs.Words.{wordAt}
 use Rattle.table.specs.Positions.{far, kind-far}
-use Rattle.table.specs.Declarations.{DeclaredAt, nameTokens, declarationList, all-declared}
+use Rattle.table.specs.Declarations.{DeclaredAt, nameTokens}
 use Rattle.table.specs.Views.{View, TargetAt, TargetStands}
-use Rattle.table.specs.Lookups.{nth}
-use Rattle.table.specs.Meaning.{meaningCell, meaningBy, meaningOf}
+use Rattle.table.specs.Laws.Kth.{table-length, kth, kth-found}
+use Rattle.table.specs.Meaning.{meaningBy, meaningOf}
 use Rattle.whole.specs.Reading.{Reading, tableOf, kinded, name-at}
 use Rattle.whole.specs.Names.{number-bound, Owned, owner-unknown, owner-bare, owner-storage, owner-mapped}
-
-found-map : (list : List Declaration) (k : ℕ) (d : Declaration) → getElem? list k ≡ some d → getElem? (map declaredOf list) k ≡ some (declaredOf d)
-found-map [] k d e = absurd (Option·none-ne-some d e)
-found-map (x ∷ list) zero d e = let h : x ≡ d = cc in ap (λ (y : Declaration). some (declaredOf y)) h
-found-map (x ∷ list) (suc k) d e = found-map list k d e
 
 -- the declaration of the number k
 pub record Declares {records decls : List ℕ} {m n : ℕ} (v : Reading records decls m n) (k : ℕ) : Type 0 where
@@ -37,16 +32,14 @@ pub record Declares {records decls : List ℕ} {m n : ℕ} (v : Reading records 
 
 module _ {records decls : List ℕ} {m n : ℕ} (v : Reading records decls m n) where
   pub table-size : length (tableOf v) ≡ m
-  table-size = ap length (all-declared (v .description)) ∙ (length-map (declarationList (v .description)) declaredOf ∙ sym (v .ready .count))
+  table-size = table-length (v .ready)
 
   pub declares : (k : ℕ) → k < m → Declares v k
-  declares k h =
-      let x = nth (declarationList (v .description)) k (omega (arith, v .ready .count)) in
-      record {
-        declaration = x .declaration;
-        found = ap (λ (l : Table). getElem? l k) (all-declared (v .description)) ∙ found-map (declarationList (v .description)) k (x .declaration) (x .found);
-        stands = v .ready .declared .each k (x .declaration) (x .found);
-      }
+  declares k h = record {
+    declaration = kth (v .ready) h .declaration;
+    found = kth-found (v .ready) h;
+    stands = v .ready .declared .each k (kth (v .ready) h .declaration) (kth (v .ready) h .found);
+  }
 
   abbrev pub view : (k : ℕ) (h : k < m) → View records (v .values) (cell 2 decls k)
   view k h = record {
@@ -57,12 +50,12 @@ module _ {records decls : List ℕ} {m n : ℕ} (v : Reading records decls m n) 
     stands = declares k h .stands;
   }
 
-  meaning-by : (i : ℕ) → i < n → kindByte records i ≡ 0 → meaningCell records i ≡ meaningBy (numberOf (tableOf v) (wordAt (v .tokens) i))
+  meaning-by : (i : ℕ) → i < n → kindByte records i ≡ kindNo Name → insideCell records i ≡ meaningBy (numberOf (tableOf v) (wordAt (v .tokens) i))
       (sameBytes (outerName (v .description) .word) (wordAt (v .tokens) i))
   unfolding meaningOf
   meaning-by i h e = v .ready .means .means i (omega (arith, v .count)) (name-at v i h e .kind)
 
-  pub means-number : (i r : ℕ) → i < n → kindByte records i ≡ 0 → r ≡ meaningCell records i → r < m → numberOf (tableOf v) (wordAt (v .tokens) i) ≡ some r
+  pub means-number : (i r : ℕ) → i < n → kindByte records i ≡ kindNo Name → r ≡ insideCell records i → r < m → numberOf (tableOf v) (wordAt (v .tokens) i) ≡ some r
   means-number i r h e q l = by (numberOf (tableOf v) (wordAt (v .tokens) i)) (sameBytes (outerName (v .description) .word) (wordAt (v .tokens) i))
       (q ∙ meaning-by i h e)
     where
@@ -71,7 +64,7 @@ module _ {records decls : List ℕ} {m n : ℕ} (v : Reading records decls m n) 
       by none true p = absurd (omega (arith, v .ready .few))
       by none false p = absurd (omega (arith, v .ready .few))
 
-  pub means-nothing : (i r : ℕ) → i < n → kindByte records i ≡ 0 → r ≡ meaningCell records i → m ≤ r → numberOf (tableOf v) (wordAt (v .tokens) i) ≡ none
+  pub means-nothing : (i r : ℕ) → i < n → kindByte records i ≡ kindNo Name → r ≡ insideCell records i → m ≤ r → numberOf (tableOf v) (wordAt (v .tokens) i) ≡ none
   means-nothing i r h e q l = by (numberOf (tableOf v) (wordAt (v .tokens) i)) refl (sameBytes (outerName (v .description) .word) (wordAt (v .tokens) i))
       (q ∙ meaning-by i h e)
     where
@@ -92,7 +85,7 @@ record Second (d : Declaration) (ts : Tokens) : Type 0 where
   second : Token
   others : Tokens
   reads : nameTokens d ts ≡ first ∷ second ∷ others
-  bits : ((kindNo (second .kind) ≡ 12) × (declaredOf d .bits ≡ none)) ⊎ ((kindNo (second .kind) ≡ 12 → ⊥) × ((b : BitNames) × (declaredOf d .bits ≡ some b)))
+  bits : ((kindNo (second .kind) ≡ kindNo Becomes) × (declaredOf d .bits ≡ none)) ⊎ ((kindNo (second .kind) ≡ kindNo Becomes → ⊥) × ((b : BitNames) × (declaredOf d .bits ≡ some b)))
 
 second-token : (d : Declaration) (ts : Tokens) → Second d ts
 second-token (plain n (words l f c t r b o)) ts =
@@ -111,7 +104,7 @@ second-token (main i n (main-bits l o) e b a m) ts =
     record { first = tk Name n; second = tk Less l; others = _; reads = refl; bits = inr ((λ e. omega arith), (ownNames o, refl)) }
 
 -- the name i has the number k
-module _ {records decls : List ℕ} {m n i k : ℕ} (h : i < n) (e : kindByte records i ≡ 0) (q : k ≡ meaningCell records i) where
+module _ {records decls : List ℕ} {m n i k : ℕ} (h : i < n) (e : kindByte records i ≡ kindNo Name) (q : k ≡ insideCell records i) where
   pub unknown-carrier : m ≤ k → (v : Reading records decls m n) → Owned (owner (tableOf v) (wordAt (v .tokens) i)) 65535
   unknown-carrier l v = record {
     one = λ x. absurd (omega arith);
@@ -137,11 +130,11 @@ module _ {records decls : List ℕ} {m n i k : ℕ} (h : i < n) (e : kindByte re
       pub target-room : 8 * t + 8 ≤ length records
       target-room = omega (arith, target-stands .2 .within, v .ready .holds .record-room)
 
-      pub mapped-carrier : {r : ℕ} → r ≡ meaningCell records t → Owned (owner (tableOf v) (wordAt (v .tokens) i)) r
+      pub mapped-carrier : {r : ℕ} → r ≡ insideCell records t → Owned (owner (tableOf v) (wordAt (v .tokens) i)) r
       mapped-carrier {r} f =
           let s = target-stands .2 in
           let inside : t < n = omega (arith, s .within, v .count) in
-          let kind : kindByte records t ≡ 0 = kinded v .kind t inside ∙ ap (λ (x : Token). kindNo (x .kind)) (s .name) in
+          let kind : kindByte records t ≡ kindNo Name = kinded v .kind t inside ∙ ap (λ (x : Token). kindNo (x .kind)) (s .name) in
           let u = mapped-storage v k (target-stands .0) l (wordAt (v .tokens) i) (means-number v i k h e q l) (target-stands .1) in
           let same : r ≡ u .0 =
           f ∙ (meaning-by v t inside kind ∙ (ap
@@ -180,8 +173,8 @@ module _ {records decls : List ℕ} {m n i k : ℕ} (h : i < n) (e : kindByte re
       pub bare-carrier : {b : ℕ} → b ≡ kindByte records (p + 1) → b ≡ 12 → Owned (owner (tableOf v) (wordAt (v .tokens) i)) 65535
       bare-carrier f g = by (second .bits)
         where
-          by : ((kindNo (second .second .kind) ≡ 12) × (declaredOf (declares v k l .declaration) .bits ≡ none))
-              ⊎ ((kindNo (second .second .kind) ≡ 12 → ⊥) × ((b : BitNames) × (declaredOf (declares v k l .declaration) .bits ≡ some b)))
+          by : ((kindNo (second .second .kind) ≡ kindNo Becomes) × (declaredOf (declares v k l .declaration) .bits ≡ none))
+              ⊎ ((kindNo (second .second .kind) ≡ kindNo Becomes → ⊥) × ((b : BitNames) × (declaredOf (declares v k l .declaration) .bits ≡ some b)))
               → Owned (owner (tableOf v) (wordAt (v .tokens) i)) 65535
           by (inl y) = record {
             one = λ x. absurd (omega arith);
@@ -192,8 +185,8 @@ module _ {records decls : List ℕ} {m n i k : ℕ} (h : i < n) (e : kindByte re
       pub own-carrier : {b : ℕ} → b ≡ kindByte records (p + 1) → (b ≡ 12 → ⊥) → Owned (owner (tableOf v) (wordAt (v .tokens) i)) k
       own-carrier f g = by (second .bits)
         where
-          by : ((kindNo (second .second .kind) ≡ 12) × (declaredOf (declares v k l .declaration) .bits ≡ none))
-              ⊎ ((kindNo (second .second .kind) ≡ 12 → ⊥) × ((b : BitNames) × (declaredOf (declares v k l .declaration) .bits ≡ some b)))
+          by : ((kindNo (second .second .kind) ≡ kindNo Becomes) × (declaredOf (declares v k l .declaration) .bits ≡ none))
+              ⊎ ((kindNo (second .second .kind) ≡ kindNo Becomes → ⊥) × ((b : BitNames) × (declaredOf (declares v k l .declaration) .bits ≡ some b)))
               → Owned (owner (tableOf v) (wordAt (v .tokens) i)) k
           by (inl y) = absurd (g (f ∙ (second-kind ∙ y .0)))
           by (inr y) = record {

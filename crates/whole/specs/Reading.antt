@@ -6,15 +6,16 @@ use native.Mathlib.Omega.{arith}
 use native.Mathlib.Numerals.{add-one}
 use lib.ListN.{length, drop, drop-of-length-le}
 use lib.Seq.{drop-cons}
-use Rattle.rules.specs.Text.Tokens.{Name, tk, kindAt}
+use Rattle.rules.specs.Text.Tokens.{Name, tk, kindAt, kindNo}
 use Rattle.rules.specs.Text.Scan.{plainInfo}
 use Rattle.rules.specs.Grammar.Trees.{Tokens, Description}
 use Rattle.rules.specs.Declarations.{Table, declarations}
 use Rattle.laws.specs.Grammar.Kinds.{kindAt-kindNo}
-use Rattle.table.specs.Holds.{kindByte, tokenAt}
+use Rattle.table.specs.Holds.{noKind, kindByte, tokenAt}
 use Rattle.table.specs.Words.{NameAt}
 use Rattle.table.specs.Ready.{Ready}
-use Rattle.whole.specs.Kinds.{no, nextNo}
+use Rattle.whole.specs.Kinds.{nextNo}
+use Rattle.table.specs.Scans.{no}
 
 -- n tokens by their kinds
 pub record Kinded (records : List ℕ) (n : ℕ) : Type 0 where
@@ -35,7 +36,7 @@ module _ {records : List ℕ} {n i : ℕ} where
   pub kind-there : {k : ℕ} → i < n → k ≡ kindByte records i → (v : Kinded records n) → k ≡ nextNo (drop i (v .tokens))
   kind-there h e v = e ∙ (v .kind i h ∙ sym (ap nextNo (next-token v i h)))
 
-  pub kind-past : n ≤ i → (v : Kinded records n) → 42 ≡ nextNo (drop i (v .tokens))
+  pub kind-past : n ≤ i → (v : Kinded records n) → noKind ≡ nextNo (drop i (v .tokens))
   kind-past h v = sym (ap nextNo (no-more v i h))
 
 -- n tokens and m declarations, which are passed
@@ -61,7 +62,7 @@ module _ {records decls : List ℕ} {m n : ℕ} (v : Reading records decls m n) 
   tableOf = declarations (v .description)
 
   -- the name that is the token i
-  pub name-at : (i : ℕ) → i < n → kindByte records i ≡ 0 → NameAt (v .tokens) i
+  pub name-at : (i : ℕ) → i < n → kindByte records i ≡ kindNo Name → NameAt (v .tokens) i
   name-at i h e = record {
     within = omega (arith, v .count);
     kind = sym (kindAt-kindNo (tokenAt (v .tokens) i .kind)) ∙ ap kindAt (sym (kinded .kind i h) ∙ e);

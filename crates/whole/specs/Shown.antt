@@ -8,14 +8,14 @@ use native.Mathlib.Omega.{arith}
 use borrow.Author.Tests.{eq-eqb, ne-eqb}
 use lib.Dec.{eqb}
 use lib.ListN.{drop}
+use Rattle.rules.specs.Text.Tokens.{Name, STOP, kindNo}
 use Rattle.rules.specs.Declarations.{Name as Word, bodyNumber, bodyOf}
 use Rattle.rules.specs.Steps.Runs.{bodyAct, actOr}
-use Rattle.rules.specs.Whole.Sets.{Sets, owner, setsOf, bodySets, stopsIn, bodyStops, member}
 use Rattle.rules.specs.Limits.{longestChain}
-use Rattle.table.specs.Holds.{kindByte, tokenAt}
+use Rattle.rules.specs.Whole.Sets.{Sets, owner, setsOf, bodySets, stopsIn, bodyStops, member}
+use Rattle.table.specs.Holds.{kindByte, tokenAt, insideCell}
 use Rattle.table.specs.Words.{wordAt}
-use Rattle.table.specs.Meaning.{meaningCell}
-use Rattle.whole.specs.Kinds.{no as number, nextNo, stores, deeper, ends, closes, mode as turned}
+use Rattle.whole.specs.Kinds.{nextNo, stores, ends, closes, mode as turned}
 use Rattle.whole.specs.Reading.{Reading, tableOf, kinded, Kinded, next-token, no-more}
 use Rattle.whole.specs.Names.{Owned}
 use Rattle.whole.specs.Meanings.{means-number, means-nothing}
@@ -24,6 +24,7 @@ use Rattle.whole.specs.Touches.{anyEvent, readHit, writeHit, stopHit}
 use Rattle.whole.specs.Calls.{callsOf, calls-append, heard-ends, heard-closes, heard-on}
 use Rattle.whole.specs.Bits.{holds}
 use Rattle.whole.specs.Memory.{Recalls, markOf, readsAt, writesAt}
+use Rattle.table.specs.Scans.{no as number, deeper}
 
 any-append : (p : Event → Bool) (xs ys : List Event) → anyEvent p (xs ++ ys) ≡ (anyEvent p xs || anyEvent p ys)
 unfolding anyEvent
@@ -130,13 +131,13 @@ module _ {records decls memo : List ℕ} {m n mode i : ℕ} where
   }
 
   module _ {k : ℕ} (h : i < n) (q : k ≡ kindByte records i) where
-    pub halting : {r w r₁ w₁ : List ℕ} {s s₁ : Bool} → k ≡ 29 → r₁ ≡ r → w₁ ≡ w → s₁ ≡ true → Hears records decls memo m n mode i r w s r₁ w₁ s₁
+    pub halting : {r w r₁ w₁ : List ℕ} {s s₁ : Bool} → k ≡ kindNo STOP → r₁ ≡ r → w₁ ≡ w → s₁ ≡ true → Hears records decls memo m n mode i r w s r₁ w₁ s₁
     unfolding event
     halting {r} {w} {s = s} e a b c =
         loud (λ v. halts) (λ v. let t = number (tokenAt (v .tokens) i) in let z : t ≡ 29 = kind-is h q v ∙ e in rw (ne-eqb t 0 (λ y. omega arith), eq-eqb t 29 z, event))
         (λ v x j. same r _ a j) (λ v x j. same w _ b j) (λ v x. c ∙ sym (or-true s))
 
-    pub marking : {r w : List ℕ} {s : Bool} → (k ≡ 29 → ⊥) → (k ≡ 0 → ⊥) → Hears records decls memo m n mode i r w s r w s
+    pub marking : {r w : List ℕ} {s : Bool} → (k ≡ kindNo STOP → ⊥) → (k ≡ 0 → ⊥) → Hears records decls memo m n mode i r w s r w s
     unfolding event
     marking a b =
         quiet (λ v. rw (
@@ -182,7 +183,7 @@ module _ {records decls memo : List ℕ} {m n mode i : ℕ} where
           naming t = quiet (λ v. acts h q name acting behind v ∙ rw (ne-eqb next 3 other, actingEvent, sym stored ∙ t))
 
 -- the body of a name that is not declared, or of which an entry is remembered
-module _ {records decls : List ℕ} {m n i k : ℕ} (h : i < n) (e : kindByte records i ≡ 0) (q : k ≡ meaningCell records i) where
+module _ {records decls : List ℕ} {m n i k : ℕ} (h : i < n) (e : kindByte records i ≡ kindNo Name) (q : k ≡ insideCell records i) where
   pub unknown-body : {r w : List ℕ} {s : Bool} (memo : List ℕ) → m ≤ k → ((j : ℕ) → holds r j ≡ false) → ((j : ℕ) → holds w j ≡ false) → s ≡ false
       → (v : Reading records decls m n) → Recalls v memo (wordAt (v .tokens) i) → Touches v (wordAt (v .tokens) i) r w s
   unfolding bodySets bodyStops bodyAct bodyOf bodyNumber setsOf stopsIn member

@@ -10,6 +10,8 @@ use lib.Dec.{eqb}
 use lib.ListN.{length, getElem?, take, drop, length-take, length-drop, drop-of-length-le}
 use lib.Seq.{length-take-le, take-all, drop-at}
 use borrow.Rule.Slice.PartMut.{midOf, putMid, take-put, same-len-mid}
+use Rattle.table.specs.Room.{labelsFrom}
+use Rattle.rules.specs.Text.Tokens.{END, kindNo}
 use Rattle.rules.specs.Grammar.Trees.{Tokens, Action, actionTokens}
 use Rattle.rules.specs.Declarations.{Declared, Table, bodyNumber}
 use Rattle.rules.specs.Whole.Sets.{sets}
@@ -18,7 +20,7 @@ use Rattle.rules.specs.Faults.Whole.{Scope, groupFaults, bodyGroups, groupsFaul
 use Rattle.laws.specs.Accepted.Named.{and-both}
 use Rattle.table.specs.Holds.{kindByte, tokenAt}
 use Rattle.table.specs.Keys.{noKey, numberKey, leastNumberKey, least-append, least-bounded, least-none}
-use Rattle.whole.specs.Kinds.{no as number, outermost, down, closes}
+use Rattle.whole.specs.Kinds.{closes}
 use Rattle.whole.specs.Reading.{Reading, tableOf, Kinded, kinded, next-token, no-more}
 use Rattle.whole.specs.Filling.{Complete}
 use Rattle.whole.specs.Groups.{more, groupAt, membersAt}
@@ -28,12 +30,13 @@ use Rattle.whole.specs.Frames.{no-frames, Standing, Stack, Turning, Turn
 use Rattle.whole.specs.Bodies.{Body}
 use Rattle.whole.specs.Least.{Gathered, gather-none, gather-more, gathered-all}
 use Rattle.whole.specs.Written.{Written, reading, worded, whole}
+use Rattle.table.specs.Scans.{no as number, outermost, down}
 
 abbrev pub memoOf : List ℕ → List ℕ
-memoOf room = take 18432 room
+memoOf room = take labelsFrom room
 
 abbrev pub labelsOf : List ℕ → List ℕ
-labelsOf room = drop 18432 room
+labelsOf room = drop labelsFrom room
 
 pub record Roomy (records decls room : List ℕ) (m n : ℕ) : Type 0 where
   pub complete : Complete records decls (memoOf room) m n
@@ -49,7 +52,7 @@ roomy-kept {records} {decls} {m = m} {n = n} s r =
     record { complete = subst (λ (l : List ℕ). Complete records decls l m n) (sym (s .memo)) (r .complete); size = omega (arith, s .size, r .size) }
 
 pub memo-room : {text records decls room : List ℕ} {m n : ℕ} → Written text records decls m n → Roomy records decls room m n → 72 * m ≤ length (memoOf room)
-memo-room {room = room} v r = omega (arith, length-take 18432 room, v .ready .few, r .size)
+memo-room {room = room} v r = omega (arith, length-take labelsFrom room, v .ready .few, r .size)
 
 -- the faults of a group, if it has two or more members
 module _ {records decls : List ℕ} {m n : ℕ} (from : ℕ) {b : Bool} (tells : (v : Kinded records n) → b ≡ more (drop from (v .tokens))) where
@@ -93,24 +96,24 @@ pub record TurnedIn (text records old new : List ℕ) (n i depth base top depth�
   pub turned : Turned text records (labelsOf old) (labelsOf new) n i depth base top depth₁ base₁ top₁
 
 -- a part of the room that goes on to its end
-pub all-labels : (room : List ℕ) → take (length room - 18432) (drop 18432 room) ≡ labelsOf room
-all-labels room = take-all (length room - 18432) (drop 18432 room) (omega (arith, length-drop 18432 room))
+pub all-labels : (room : List ℕ) → take (length room - labelsFrom) (drop labelsFrom room) ≡ labelsOf room
+all-labels room = take-all (length room - labelsFrom) (drop labelsFrom room) (omega (arith, length-drop labelsFrom room))
 
 pub turned-in : {text records : List ℕ} {n i depth base top depth₁ base₁ top₁ : ℕ} (old new : List ℕ) → 51200 ≤ length old → length new ≡ length
-    (midOf 18432 (length old - 18432) old)
-    → Turned text records (midOf 18432 (length old - 18432) old) new n i depth base top depth₁ base₁ top₁
-    → TurnedIn text records old (putMid 18432 (length old - 18432) old new) n i depth base top depth₁ base₁ top₁
+    (midOf labelsFrom (length old - labelsFrom) old)
+    → Turned text records (midOf labelsFrom (length old - labelsFrom) old) new n i depth base top depth₁ base₁ top₁
+    → TurnedIn text records old (putMid labelsFrom (length old - labelsFrom) old new) n i depth base top depth₁ base₁ top₁
 turned-in {text} {records} {n} {i} {depth} {base} {top} {depth₁} {base₁} {top₁} old new h e t =
-    let k = length old - 18432 in
-    let a : 18432 ≤ length old = omega arith in
-    let none-behind : drop k (drop 18432 old) ≡ [] = let l : length (drop 18432 old) ≤ k = omega (arith, length-drop 18432 old) in drop-of-length-le (drop 18432 old) l in
-    let labels : drop 18432 (putMid 18432 k old new) ≡ new =
-    drop-at (take 18432 old) (new ++ drop k (drop 18432 old)) 18432 (length-take-le 18432 old a)
+    let k = length old - labelsFrom in
+    let a : labelsFrom ≤ length old = omega arith in
+    let none-behind : drop k (drop labelsFrom old) ≡ [] = let l : length (drop labelsFrom old) ≤ k = omega (arith, length-drop labelsFrom old) in drop-of-length-le (drop labelsFrom old) l in
+    let labels : drop labelsFrom (putMid labelsFrom k old new) ≡ new =
+    drop-at (take labelsFrom old) (new ++ drop k (drop labelsFrom old)) labelsFrom (length-take-le labelsFrom old a)
     ∙ (ap (λ (l : List ℕ). new ++ l) none-behind ∙ append-nil new) in
     record {
-      same = record { memo = take-put 18432 k old new a; size = same-len-mid 18432 k old new e };
-      turned = subst (λ (l : List ℕ). Turned text records l (drop 18432 (putMid 18432 k old new)) n i depth base top depth₁ base₁ top₁) (all-labels old)
-          (subst (λ (l : List ℕ). Turned text records (midOf 18432 k old) l n i depth base top depth₁ base₁ top₁) (sym labels) t);
+      same = record { memo = take-put labelsFrom k old new a; size = same-len-mid labelsFrom k old new e };
+      turned = subst (λ (l : List ℕ). Turned text records l (drop labelsFrom (putMid labelsFrom k old new)) n i depth base top depth₁ base₁ top₁) (all-labels old)
+          (subst (λ (l : List ℕ). Turned text records (midOf labelsFrom k old) l n i depth base top depth₁ base₁ top₁) (sym labels) t);
     }
 
 -- a walk from `from` that has come to the token i
@@ -147,7 +150,7 @@ walk-starts {room = room} {from = from} w r h = record {
   stack = record {
     labelled = record { room = omega arith; inside = λ j l. absurd (omega arith); names = λ j l. absurd (omega arith) };
     edge = omega arith;
-    space = omega (arith, length-drop 18432 room, r .size);
+    space = omega (arith, length-drop labelsFrom room, r .size);
   };
   so-far = λ v. record {
     scopes = [];
@@ -158,7 +161,7 @@ walk-starts {room = room} {from = from} w r h = record {
 }
 
 -- the END of the body itself
-closing : (d k : ℕ) → closes d k ≡ true → (k ≡ 20) × (d < 2)
+closing : (d k : ℕ) → closes d k ≡ true → (k ≡ kindNo END) × (d < 2)
 unfolding closes
 closing d k e = let x = and-both (eqb k 20) (outermost (down d)) e in (eqb-true k 20 (x .0), by d (x .1))
   where
@@ -167,7 +170,7 @@ closing d k e = let x = and-both (eqb k 20) (outermost (down d)) e in (eqb-true 
     by (suc zero) h = omega arith
     by (suc (suc d)) h = absurd (false≢true h)
 
-not-closing : (d k : ℕ) → closes d k ≡ false → k ≡ 20 → 2 ≤ d
+not-closing : (d k : ℕ) → closes d k ≡ false → k ≡ kindNo END → 2 ≤ d
 unfolding closes
 not-closing zero k e q = absurd (false≢true (sym e ∙ ap (λ (b : Bool). b && true) (eq-eqb k 20 q)))
 not-closing (suc zero) k e q = absurd (false≢true (sym e ∙ ap (λ (b : Bool). b && true) (eq-eqb k 20 q)))

@@ -9,7 +9,7 @@ use native.Mathlib.Nat.{min-comm}
 use native.Mathlib.Omega.{arith}
 use borrow.Author.Tests.{ne-eqb}
 use lib.Dec.{eqb}
-use Rattle.rules.specs.Text.Tokens.{Kind, kindAt, Info, Token, tk, Name, RPar, Comma, Semi, Becomes, Arrow, BEGIN, END, NEXT}
+use Rattle.rules.specs.Text.Tokens.{Kind, kindAt, Info, Token, tk, Name, RPar, Comma, Semi, Becomes, Arrow, BEGIN, END, NEXT, LEAVE, RESTART, kindNo}
 use Rattle.rules.specs.Text.Scan.{plainInfo}
 use Rattle.rules.specs.Grammar.Trees.{Tokens, Operand, operandTokens, Tail, tailTokens, Selector, selectorTokens}
 use Rattle.rules.specs.Grammar.Trees.{Action, block, labelled, if-then, decode, repeat, leave, restart, activate, stop, no-op, transfer, actionTokens, Members, end, also, next, membersTokens}
@@ -21,10 +21,11 @@ use Rattle.rules.specs.Faults.Fault.{Fault, when}
 use Rattle.rules.specs.Faults.Whole.{Scope, labelled-in, aimsOut, hasMore, memberFaults, memberScope, groupFaults, membersOf, alternativesGroups, countedGroups, selectedGroups, moreGroups}
 use Rattle.laws.specs.Grammar.Kinds.{kindAt-kindNo}
 use Rattle.table.specs.Keys.{leastNumberKey, noKey, numberKey, least-append, least-bounded, least-none}
-use Rattle.whole.specs.Kinds.{no, nextNo}
+use Rattle.whole.specs.Kinds.{nextNo}
 use Rattle.whole.specs.Hearing.{Apart, by-comma, by-semi, by-end, by-next, members-apart, counted-apart, more-apart}
 use Rattle.whole.specs.Behind.{plain, quiet, All, all-none, all-more, Quiet, plain-kind, quiet-kind, expression-made, transfer-made, selector-made}
 use Rattle.whole.specs.Groups.{more, groupAt, alsoFaults, group-members, more-members, lone-alternatives}
+use Rattle.table.specs.Scans.{no}
 
 abbrev pub nextWord : Tokens → Word
 nextWord [] = []
@@ -32,11 +33,11 @@ nextWord (t ∷ ts) = t .info .word
 
 -- LEAVE and RESTART
 unfoldable pub jumps : ℕ → Bool
-jumps k = member k (26 ∷ 27 ∷ [])
+jumps k = member k (kindNo LEAVE ∷ kindNo RESTART ∷ [])
 
 -- behind BEGIN and NEXT a group begins
 unfoldable pub opens : ℕ → Bool
-opens k = member k (19 ∷ 21 ∷ [])
+opens k = member k (kindNo BEGIN ∷ kindNo NEXT ∷ [])
 
 -- the scope around the innermost open block; whether that is the body itself
 abbrev pub around : List Scope → Scope

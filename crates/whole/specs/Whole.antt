@@ -8,6 +8,7 @@ use native.Mathlib.Omega.{arith}
 use native.Mathlib.Decide.{decLt}
 use lib.ListN.{length, take, drop}
 use lib.Seq.{take-at, length-take-le, length-front}
+use Rattle.table.specs.Room.{labelsFrom}
 use Rattle.rules.specs.Grammar.Trees.{Action}
 use Rattle.rules.specs.Declarations.{Name, Table, bodyOf}
 use Rattle.rules.specs.Steps.Runs.{bodyAct}
@@ -80,10 +81,10 @@ module _ {records decls : List ℕ} {m n a b first : ℕ} (of50 : (v : Reading r
     told-last e h v = h v ∙ sym (all-three v ∙ omega (arith, least-bounded numberKey (groupsFaults (whole v) (whole v))))
 
 -- the front of the room takes what is gathered
-pub gathered-in : {records decls : List ℕ} {m n : ℕ} (old new : List ℕ) → 51200 ≤ length old → length new ≡ length (take 18432 old)
+pub gathered-in : {records decls : List ℕ} {m n : ℕ} (old new : List ℕ) → 51200 ≤ length old → length new ≡ length (take labelsFrom old)
     → Complete records decls new m n
-    → Roomy records decls (new ++ drop 18432 old) m n
+    → Roomy records decls (new ++ drop labelsFrom old) m n
 gathered-in {records} {decls} {m} {n} old new h e c = record {
-  complete = subst (λ (l : List ℕ). Complete records decls l m n) (sym (take-at new (drop 18432 old) 18432 (e ∙ length-take-le 18432 old (omega arith)))) c;
-  size = omega (arith, length-front old new 18432 e);
+  complete = subst (λ (l : List ℕ). Complete records decls l m n) (sym (take-at new (drop labelsFrom old) labelsFrom (e ∙ length-take-le labelsFrom old (omega arith)))) c;
+  size = omega (arith, length-front old new labelsFrom e);
 }

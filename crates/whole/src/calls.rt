@@ -1,12 +1,13 @@
 // The activations of an action, one after the other.
-use crate::kinds::LPAR;
-use crate::kinds::NAME;
 use crate::kinds::closes;
-use crate::kinds::deeper;
-use crate::kinds::ends;
 use crate::kinds::kind_of;
 use crate::kinds::mode;
+use table::kinds::LPAR;
+use table::kinds::NAME;
 use table::records::kind_at;
+use table::scans::SEPARATOR;
+use table::scans::deeper;
+use table::scans::halts;
 ghost use Prim.Native.Nat.{_+_, _≤_, _<_};
 ghost use lib.ListN.{drop};
 ghost use Rattle.whole.specs.Kinds.{nextNo};
@@ -60,7 +61,7 @@ pub fn next_call(records: &[u8], n: usize, at: usize, depth: usize, from: usize)
     while i < n {
         let here = i;
         let kind = kind_at(records, here);
-        if ends(d, kind) {
+        if halts(SEPARATOR, d, kind) {
             return no_call(n);
         }
         if activates(records, n, here, kind, m) {

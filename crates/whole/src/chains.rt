@@ -7,11 +7,11 @@ use crate::bits::only;
 use crate::bits::union;
 use crate::bodies::body_at;
 use crate::calls::next_call;
-use crate::keys::NO_KEY;
-use crate::names::meaning;
 use cells::get16;
+use table::keys::NO_KEY;
 use table::keys::earlier;
 use table::keys::number_key;
+use table::records::inside_at;
 use table::records::place_at;
 ghost use mathlib.Core.Path.{_≡_};
 ghost use mathlib.Core.Bool.{_&&_, _||_, false};
@@ -49,7 +49,7 @@ fn in_level(
     if all {
         return true;
     }
-    let k = meaning(records, i);
+    let k = inside_at(records, i);
     if m <= k {
         return false;
     }

@@ -4,10 +4,10 @@ use crate::calls::next_call;
 use crate::memory::nothing;
 use crate::memory::put_word;
 use crate::memory::remember;
-use crate::names::meaning;
 use crate::touches::touched;
 use cells::get16;
 use cells::get64;
+use table::records::inside_at;
 ghost use mathlib.Core.Path.{_≡_};
 ghost use mathlib.Core.Bool.{false};
 ghost use Prim.Native.Nat.{ℕ, _*_, _<_, _≤_};
@@ -37,7 +37,7 @@ pub fn gather(
         × ((left ≤ 16) × ((v : Reading (now records) (now decls) m n) → chainOver (tableOf v) left (wordAt (v .tokens) i) ≡ false)))) ⌝ }
     ensures { λ _. ⌜ Fills (now (records .entry)) (now (decls .entry)) (now (memo .entry)) (now (memo .exit)) m n i ⌝ }
 {
-    let k = meaning(records, i);
+    let k = inside_at(records, i);
     if m <= k {
         return;
     }

@@ -1,16 +1,16 @@
 // The members of a group: each against the union of those before it.
 use crate::bits::meets;
 use crate::bits::union;
-use crate::keys::NO_KEY;
-use crate::kinds::SEMI;
 use crate::kinds::end_of;
 use crate::kinds::kind_of;
 use crate::memory::Touched;
 use crate::memory::nothing;
 use crate::touches::joined;
 use crate::touches::touched;
+use table::keys::NO_KEY;
 use table::keys::earlier;
 use table::keys::number_key;
+use table::kinds::SEMI;
 use table::records::place_at;
 ghost use mathlib.Core.Path.{_≡_};
 ghost use mathlib.Core.List.{_++_, []};

@@ -1,68 +1,31 @@
 // The tokens of a body by their kinds: what separates actions, how deep they stand, where an action ends.
+use table::kinds::ARROW;
+use table::kinds::AT;
+use table::kinds::BECOMES;
+use table::kinds::BEGIN;
+use table::kinds::COMMA;
+use table::kinds::DECODE;
+use table::kinds::END;
+use table::kinds::EQUALS;
+use table::kinds::IF;
+use table::kinds::LBRA;
+use table::kinds::LESS;
+use table::kinds::NEXT;
+use table::kinds::NO_KIND;
+use table::kinds::RBRA;
+use table::kinds::REPEAT;
+use table::kinds::SEMI;
 use table::records::kind_at;
+use table::scans::SEPARATOR;
+use table::scans::deeper;
+use table::scans::halts;
 ghost use mathlib.Core.Path.{_≡_};
 ghost use Prim.Native.Nat.{_+_, _<_, _≤_};
 ghost use lib.ListN.{drop};
-ghost use Rattle.whole.specs.Kinds.{nextNo, separates, tests, begins, stores, deeper, ends, closes, mode};
+ghost use Rattle.whole.specs.Kinds.{nextNo, tests, begins, stores, closes, mode};
 ghost use Rattle.whole.specs.Reading.{Kinded};
 ghost use Rattle.whole.specs.Behind.{behind};
 ghost use Rattle.whole.specs.Groups.{more};
-
-pub const NAME: u8 = 0;
-
-pub const LPAR: u8 = 3;
-
-const LBRA: u8 = 5;
-
-const RBRA: u8 = 6;
-
-const LESS: u8 = 7;
-
-pub const COMMA: u8 = 9;
-
-pub const SEMI: u8 = 10;
-
-pub const BECOMES: u8 = 12;
-
-const EQUALS: u8 = 13;
-
-const ARROW: u8 = 14;
-
-const AT: u8 = 15;
-
-pub const BEGIN: u8 = 19;
-
-pub const END: u8 = 20;
-
-pub const NEXT: u8 = 21;
-
-const IF: u8 = 22;
-
-const DECODE: u8 = 23;
-
-const REPEAT: u8 = 25;
-
-pub const LEAVE: u8 = 26;
-
-pub const RESTART: u8 = 27;
-
-pub const STOP: u8 = 29;
-
-// No kind: past the last token.
-const NOTHING: u8 = 42;
-
-// Whether it stands behind an action: `,`, `;`, END or NEXT.
-fn separates(kind: u8) -> bool
-    ensures { λ r. ⌜ r ≡ separates kind ⌝ }
-{
-    match kind {
-        COMMA => true,
-        SEMI => true,
-        END => true,
-        NEXT => true,
-        _ => false,
-    }
-}
 
 // Whether an expression stands behind it: `=`, IF or DECODE.
 fn tests(kind: u8) -> bool
@@ -104,33 +67,6 @@ pub fn stores(kind: u8) -> bool
         AT => true,
         _ => false,
     }
-}
-
-// How many BEGINs are open behind a token, with d before it.
-pub fn deeper(d: usize, kind: u8) -> usize
-    requires { ⌜ d < 65536 ⌝ }
-    ensures { λ r. ⌜ (r ≡ deeper d kind) × (r ≤ d + 1) ⌝ }
-{
-    if kind == BEGIN {
-        return d + 1;
-    }
-    if kind == END {
-        if d == 0 {
-            return 0;
-        }
-        return d - 1;
-    }
-    d
-}
-
-// Whether an action ends before a token, at the depth d in it.
-pub fn ends(d: usize, kind: u8) -> bool
-    ensures { λ r. ⌜ r ≡ ends d kind ⌝ }
-{
-    if d == 0 {
-        return separates(kind);
-    }
-    false
 }
 
 // Whether an action ends with a token, at the depth d in it.
@@ -177,7 +113,7 @@ pub fn kind_of(records: &[u8], n: usize, i: usize) -> u8
     if i < n {
         return kind_at(records, i);
     }
-    NOTHING
+    NO_KIND
 }
 
 // The separator behind the action that begins at i.
@@ -190,7 +126,7 @@ pub fn end_of(records: &[u8], n: usize, from: usize) -> usize
     while i < n {
         let at = i;
         let kind = kind_at(records, at);
-        if ends(d, kind) {
+        if halts(SEPARATOR, d, kind) {
             return at;
         }
         d = deeper(d, kind);

@@ -1,12 +1,12 @@
 // The labels around a token, kept as a stack of their tokens' numbers in lent bytes.
-use crate::keys::NO_KEY;
-use crate::kinds::LEAVE;
-use crate::kinds::NAME;
-use crate::kinds::RESTART;
 use crate::kinds::kind_of;
 use cells::get16;
 use cells::put16;
+use table::keys::NO_KEY;
 use table::keys::number_key;
+use table::kinds::LEAVE;
+use table::kinds::NAME;
+use table::kinds::RESTART;
 use table::records::kind_at;
 use table::records::place_at;
 use table::words::same_word;

@@ -5,7 +5,6 @@ mod calls;
 mod chains;
 mod gathering;
 mod groups;
-mod keys;
 mod kinds;
 mod labels;
 mod mains;
@@ -17,11 +16,11 @@ mod walks;
 
 use crate::chains::chain_key;
 use crate::gathering::gather_all;
-use crate::keys::NO_KEY;
 use crate::mains::main_key;
-use crate::walks::LABELS;
 use crate::walks::groups_key;
+use table::keys::NO_KEY;
 use table::keys::earlier;
+use table::room::LABELS;
 ghost use mathlib.Core.Path.{_≡_};
 ghost use mathlib.Core.Bool.{false};
 ghost use Prim.Native.Nat.{_≤_};
@@ -44,7 +43,7 @@ fn gather_in(records: &[u8], decls: &[u8], room: &mut [u8], m: usize, n: usize)
     gather_all(records, decls, &mut room[..LABELS], m, n);
 }
 
-// The least key of 50 to 53 of a description, or 4294967295. The number counts first, so 50 and 51 hide the others.
+// The least key of 50 to 53 of a description, or `NO_KEY`. The number counts first, so 50 and 51 hide the others.
 pub fn fault50(
     text: &[u8],
     records: &[u8],

@@ -1,6 +1,6 @@
 // MAIN: that there is one, and no second.
-use crate::keys::NO_KEY;
 use cells::get16;
+use table::keys::NO_KEY;
 use table::keys::earlier;
 use table::keys::number_key;
 use table::records::place_at;

@@ -1,14 +1,16 @@
 // The scopes around a token: the labels of the innermost member, and for each open block those around it.
-use crate::kinds::BECOMES;
-use crate::kinds::BEGIN;
-use crate::kinds::COMMA;
-use crate::kinds::END;
-use crate::kinds::NEXT;
-use crate::kinds::SEMI;
 use crate::kinds::more;
 use crate::labels::push_label;
 use cells::get16;
 use cells::put16;
+use table::kinds::BECOMES;
+use table::kinds::BEGIN;
+use table::kinds::COMMA;
+use table::kinds::END;
+use table::kinds::NEXT;
+use table::kinds::SEMI;
+use table::room::FIRST_SCOPE;
+use table::room::SCOPES_END;
 ghost use mathlib.Core.Path.{_≡_};
 ghost use Prim.Native.Nat.{_<_, _≤_};
 ghost use lib.ListN.{length};
@@ -27,7 +29,7 @@ fn push_frame(labels: &mut [u8], depth: usize, base: usize, top: usize)
     requires { ⌜ (32768 ≤ length (now labels)) × ((depth < 8192) × ((base < 65536) × (top < 65536))) ⌝ }
     ensures { λ _. ⌜ FramePushed (now (labels .entry)) (now (labels .exit)) depth base top ⌝ }
 {
-    let at = 16382 - 2 * depth;
+    let at = FIRST_SCOPE - 2 * depth;
     put16(labels, at, base as u16);
     put16(labels, at + 1, top as u16);
 }
@@ -72,7 +74,7 @@ fn surrounding(labels: &[u8], depth: usize, top: usize) -> Nest
             top,
         };
     }
-    let at = 16384 - 2 * depth;
+    let at = SCOPES_END - 2 * depth;
     Nest {
         depth,
         base: get16(labels, at) as usize,

@@ -2,12 +2,7 @@
 use crate::bits::Set;
 use crate::bits::only;
 use crate::bits::union;
-use crate::kinds::LPAR;
-use crate::kinds::NAME;
-use crate::kinds::STOP;
 use crate::kinds::closes;
-use crate::kinds::deeper;
-use crate::kinds::ends;
 use crate::kinds::kind_of;
 use crate::kinds::mode;
 use crate::kinds::stores;
@@ -15,8 +10,14 @@ use crate::memory::Touched;
 use crate::memory::nothing;
 use crate::memory::recalled;
 use crate::names::carrier;
-use crate::names::meaning;
+use table::kinds::LPAR;
+use table::kinds::NAME;
+use table::kinds::STOP;
+use table::records::inside_at;
 use table::records::kind_at;
+use table::scans::SEPARATOR;
+use table::scans::deeper;
+use table::scans::halts;
 ghost use mathlib.Core.Path.{_≡_};
 ghost use mathlib.Core.Bool.{_||_, true};
 ghost use mathlib.Core.List.{List};
@@ -96,7 +97,7 @@ fn called(records: &[u8], decls: &[u8], memo: &[u8], m: usize, n: usize, i: usiz
     ensures { λ r. ⌜ ((v : Reading (now (records .entry)) (now (decls .entry)) m n) → Recalls v (now (memo .entry)) (wordAt (v .tokens) i)
         → Touches v (wordAt (v .tokens) i) (r .reads .w) (r .writes .w) (r .stops)) ⌝ }
 {
-    let k = meaning(records, i);
+    let k = inside_at(records, i);
     if m <= k {
         return nothing();
     }
@@ -156,7 +157,7 @@ pub fn touched(
     while i < n {
         let at = i;
         let kind = kind_at(records, at);
-        if ends(d, kind) {
+        if halts(SEPARATOR, d, kind) {
             return t;
         }
         t = heard(records, decls, memo, m, n, at, kind, at_mode, t);

@@ -1,16 +1,17 @@
 // The bodies, each from its first token to its last: the least key of its groups and of its jumps.
 use crate::bodies::body_at;
 use crate::groups::group_key;
-use crate::keys::NO_KEY;
-use crate::kinds::BEGIN;
-use crate::kinds::NEXT;
 use crate::kinds::closes;
 use crate::kinds::more;
 use crate::labels::jump_key;
 use crate::scopes::Nest;
 use crate::scopes::turn;
+use table::keys::NO_KEY;
 use table::keys::earlier;
+use table::kinds::BEGIN;
+use table::kinds::NEXT;
 use table::records::kind_at;
+use table::room::LABELS;
 ghost use mathlib.Core.Path.{_≡_};
 ghost use Prim.Native.Nat.{_+_, _*_, _<_, _≤_};
 ghost use lib.ListN.{length, drop};
@@ -23,9 +24,6 @@ ghost use Rattle.whole.specs.Walks.{opens};
 ghost use Rattle.whole.specs.Frames.{Turning};
 ghost use Rattle.whole.specs.Written.{Written, whole};
 ghost use Rattle.whole.specs.WalkKeys.{labelsOf, Roomy, Faulty, FaultKey, TurnedIn, Walked, BodyKey};
-
-// Where the labels begin in the room; in front of them is what is gathered of the bodies.
-pub const LABELS: usize = 18432;
 
 // Whether a group begins behind it.
 fn opens(kind: u8) -> bool

@@ -6,7 +6,7 @@ use mathlib.Core.List.{List, _∷_}
 use native.Mathlib.Omega.{arith}
 use lib.ListN.{length}
 use Rattle.rules.specs.Grammar.Trees.{Action, block, labelled, if-then, decode, repeat, leave, restart, activate, stop, no-op, transfer}
-use Rattle.rules.specs.Text.Tokens.{kindNo}
+use Rattle.rules.specs.Text.Tokens.{kindNo, BEGIN, DECODE}
 use Rattle.laws.specs.Grammar.Heads.{headKind, action-head}
 use Rattle.table.specs.Holds.{kindByte}
 use Rattle.table.specs.Positions.{here, kind-here}
@@ -17,7 +17,7 @@ use Rattle.bodies.specs.Actions.{labelCells, levelBase, ActionView, Acti
 use Rattle.bodies.specs.Prefixes.{Bare, PrefixAnswer}
 use Rattle.bodies.specs.Laws.Forms.{first-room}
 
-bare-block : (a : Action) → Bare a → kindNo (headKind a) ≡ 19 → IsBlock a
+bare-block : (a : Action) → Bare a → kindNo (headKind a) ≡ kindNo BEGIN → IsBlock a
 bare-block (block b a m) p e = (b, a, m, refl)
 bare-block (labelled n b a) p e = absurd p
 bare-block (if-then i o t w a) p e = absurd p
@@ -30,7 +30,7 @@ bare-block (stop i l r) p e = absurd (omega arith)
 bare-block (no-op i l r) p e = absurd (omega arith)
 bare-block (transfer n s b j q o t) p e = absurd (omega arith)
 
-bare-decode : (a : Action) → Bare a → kindNo (headKind a) ≡ 23 → IsDecode a
+bare-decode : (a : Action) → Bare a → kindNo (headKind a) ≡ kindNo DECODE → IsDecode a
 bare-decode (block b a m) p e = absurd (omega arith)
 bare-decode (labelled n b a) p e = absurd p
 bare-decode (if-then i o t w a) p e = absurd p
@@ -43,7 +43,7 @@ bare-decode (stop i l r) p e = absurd (omega arith)
 bare-decode (no-op i l r) p e = absurd (omega arith)
 bare-decode (transfer n s b j q o t) p e = absurd (omega arith)
 
-bare-simple : (a : Action) → Bare a → (kindNo (headKind a) ≡ 19 → ⊥) → (kindNo (headKind a) ≡ 23 → ⊥) → Simple a
+bare-simple : (a : Action) → Bare a → (kindNo (headKind a) ≡ kindNo BEGIN → ⊥) → (kindNo (headKind a) ≡ kindNo DECODE → ⊥) → Simple a
 bare-simple (block b a m) p x y = absurd (x refl)
 bare-simple (labelled n b a) p x y = absurd p
 bare-simple (if-then i o t w a) p x y = absurd p
@@ -86,13 +86,13 @@ module _ {text records values decls room₀ room : List ℕ} {i count depth : �
         let first = here (v .stage .tokens) (front .at) _ _ (p .ahead .reads ∙ action-head (p .ahead .action) (v .next ∷ v .rest)) in
         is-kind ∙ kind-here (v .stage .ready .holds) (front .at) _ (first .within) (first .token)
 
-    pub block-behind : c ≡ 19 → IsBlock (p .ahead .action)
+    pub block-behind : c ≡ kindNo BEGIN → IsBlock (p .ahead .action)
     block-behind e = bare-block (p .ahead .action) (p .bare) (sym head ∙ e)
 
-    pub decode-behind : c ≡ 23 → IsDecode (p .ahead .action)
+    pub decode-behind : c ≡ kindNo DECODE → IsDecode (p .ahead .action)
     decode-behind e = bare-decode (p .ahead .action) (p .bare) (sym head ∙ e)
 
-    pub simple-behind : (c ≡ 19 → ⊥) → (c ≡ 23 → ⊥) → Simple (p .ahead .action)
+    pub simple-behind : (c ≡ kindNo BEGIN → ⊥) → (c ≡ kindNo DECODE → ⊥) → Simple (p .ahead .action)
     simple-behind x y = bare-simple (p .ahead .action) (p .bare) (λ e. x (head ∙ e)) (λ e. y (head ∙ e))
 
   pub whole-answer : {r : Walked} {k : ℕ} → ActionAnswer bare-view r → k ≡ min (front .key) (r .key) → ActionAnswer v (record { key = k; next = r .next })

@@ -177,7 +177,7 @@ module _ {text records values decls room₀ : List ℕ} {i count depth bits k nu
       kind-there c t xs e q = let n = here (v .stage .tokens) (r .next) t xs (e ∙ q) in kind-here (v .stage .ready .holds) (r .next) t (n .within) (n .token)
 
       module _ {c k′ : ℕ} (is-kind : c ≡ kindByte records (r .next)) (is-key : k′ ≡ min k (min f (r .key))) where
-        pub counted-ends : c ≡ 20 → ChoicesAnswer v (record { key = k′; next = r .next + 1 })
+        pub counted-ends : c ≡ kindNo END → ChoicesAnswer v (record { key = k′; next = r .next + 1 })
         unfolding countedChoices
         counted-ends e = go (h .left) refl (a .behind ∙ sym (follow .is))
           where
@@ -195,7 +195,7 @@ module _ {text records values decls room₀ : List ℕ} {i count depth bits k nu
                 }
             go (counted-more x b y) q d = absurd (omega (arith, kind-there (counted-more x b y) _ _ d refl))
 
-        pub counted-goes-on : (c ≡ 20 → ⊥) → CountedAhead v p k′ (number + 1) (r .next + 1)
+        pub counted-goes-on : (c ≡ kindNo END → ⊥) → CountedAhead v p k′ (number + 1) (r .next + 1)
         unfolding countedChoices
         counted-goes-on n = go (h .left) refl (a .behind ∙ sym (follow .is)) (h .shallow)
           where

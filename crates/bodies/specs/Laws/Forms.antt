@@ -9,7 +9,7 @@ use lib.ListN.{length, drop, length-drop, length-append}
 use Rattle.laws.specs.Grammar.Heads.{action-head}
 use Rattle.laws.specs.Grammar.Nesting.{actionNest}
 use Rattle.laws.specs.Grammar.Positions.{action-writes}
-use Rattle.rules.specs.Text.Tokens.{Kind, Name, LPar, RPar, Equals, LEAVE, RESTART, STOP, NO-OP, Info, Token, tk, kindNo}
+use Rattle.rules.specs.Text.Tokens.{Kind, Name, LPar, RPar, Equals, LEAVE, RESTART, STOP, NO-OP, Info, Token, tk, kindNo, Becomes}
 use Rattle.rules.specs.Grammar.Trees.{Tokens, Bits, all-bits, bits, bitsTokens, Operand, operandTokens, Tail, tailTokens, Subscript, no-subscript, subscript, subscriptTokens, Joined, alone, joined, joinedTokens}
 use Rattle.rules.specs.Grammar.Trees.{Action, block, labelled, if-then, decode, repeat, leave, restart, activate, stop, no-op, transfer, actionTokens}
 use Rattle.rules.specs.Declarations.{numberOf}
@@ -33,7 +33,7 @@ behindName s b j e ts = subscriptTokens s (bitsTokens b (joinedTokens j (tk Equa
 
 pub second-token : (s : Subscript) (b : Bits) (j : Joined) (e : Info) (ts : Tokens)
     → (0 < length (behindName s b j e ts))
-    × ((kindNo (tokenAt (behindName s b j e ts) 0 .kind) ≡ 3 → ⊥) × (kindNo (tokenAt (behindName s b j e ts) 0 .kind) ≡ 12 → ⊥))
+    × ((kindNo (tokenAt (behindName s b j e ts) 0 .kind) ≡ kindNo LPar → ⊥) × (kindNo (tokenAt (behindName s b j e ts) 0 .kind) ≡ kindNo Becomes → ⊥))
 second-token (subscript l o t r) b j e ts = (omega arith, (λ z. omega arith, λ z. omega arith))
 second-token no-subscript (bits l n x) j e ts = (omega arith, (λ z. omega arith, λ z. omega arith))
 second-token no-subscript all-bits (joined a n s b j) e ts = (omega arith, (λ z. omega arith, λ z. omega arith))
@@ -44,17 +44,17 @@ module _ {text records values decls : List ℕ} (s : Stage text records values d
   ts = s .tokens
 
   pub data SeenSimple : Action → Type 0 where
-    jump-seen : {a : Action} → (kindByte records i ≡ 0 → ⊥) → isJump (kindByte records i) ≡ true → NameAt ts (i + 1) → drop (i + 2) ts ≡ rest
+    jump-seen : {a : Action} → (kindByte records i ≡ kindNo Name → ⊥) → isJump (kindByte records i) ≡ true → NameAt ts (i + 1) → drop (i + 2) ts ≡ rest
         → ((ws : List (List ℕ)) → actionFaults (outerOf s) (tableOf s) ws a ≡ when (not (isKnown (wordAt ts (i + 1)) ws)) 44 (tokenAt ts i .info .place))
         → SeenSimple a
-    call-seen : {a : Action} → kindByte records i ≡ 0 → kindByte records (i + 1) ≡ 3 → NameAt ts i → drop (i + 3) ts ≡ rest
+    call-seen : {a : Action} → kindByte records i ≡ kindNo Name → kindByte records (i + 1) ≡ kindNo LPar → NameAt ts i → drop (i + 3) ts ≡ rest
         → ((ws : List (List ℕ)) → actionFaults (outerOf s) (tableOf s) ws a
         ≡ activated (outerOf s) (tableOf s) (tokenAt ts i .info) (declaredAt (tableOf s) (numberOf (tableOf s) (tokenAt ts i .info .word))))
         → SeenSimple a
-    plain-seen : {a : Action} → (kindByte records i ≡ 0 → ⊥) → isJump (kindByte records i) ≡ false → i + 2 < length ts → drop (i + 3) ts ≡ rest
+    plain-seen : {a : Action} → (kindByte records i ≡ kindNo Name → ⊥) → isJump (kindByte records i) ≡ false → i + 2 < length ts → drop (i + 3) ts ≡ rest
         → ((ws : List (List ℕ)) → actionFaults (outerOf s) (tableOf s) ws a ≡ []) → SeenSimple a
-    transfer-seen : {a : Action} {n : Info} {x : Subscript} {b : Bits} {j : Joined} {e : Info} {o : Operand} {t : Tail} → kindByte records i ≡ 0
-        → (kindByte records (i + 1) ≡ 3 → ⊥) → a ≡ transfer n x b j e o t → SeenSimple a
+    transfer-seen : {a : Action} {n : Info} {x : Subscript} {b : Bits} {j : Joined} {e : Info} {o : Operand} {t : Tail} → kindByte records i ≡ kindNo Name
+        → (kindByte records (i + 1) ≡ kindNo LPar → ⊥) → a ≡ transfer n x b j e o t → SeenSimple a
 
   module _ (xs : Tokens) (reads : drop i ts ≡ xs) where
     pub first-kind : 0 < length xs → kindByte records i ≡ kindNo (tokenAt xs 0 .kind)
@@ -69,7 +69,7 @@ module _ {text records values decls : List ℕ} (s : Stage text records values d
     pub token-next : tokenAt ts (i + 1) ≡ tokenAt xs 1
     token-next = token-far ts i xs reads 1
 
-  see-jump : (a : Action) (k : Kind) (x n : Info) → drop i ts ≡ tk k x ∷ tk Name n ∷ rest → (kindNo k ≡ 0 → ⊥) → isJump (kindNo k) ≡ true
+  see-jump : (a : Action) (k : Kind) (x n : Info) → drop i ts ≡ tk k x ∷ tk Name n ∷ rest → (kindNo k ≡ kindNo Name → ⊥) → isJump (kindNo k) ≡ true
       → ((ws : List (List ℕ)) → actionFaults (outerOf s) (tableOf s) ws a ≡ when (not (isKnown (n .word) ws)) 44 (x .place)) → SeenSimple a
   see-jump a k x n e z j f =
       let is-kind = first-kind _ e (omega arith) in
@@ -77,7 +77,7 @@ module _ {text records values decls : List ℕ} (s : Stage text records values d
       (record { within = far ts i _ e 1 (omega arith); kind = ap (λ (t : Token). t .kind) (token-next _ e) }) (behind-far ts i _ e 2)
       (λ ws. f ws ∙ sym (ap₂ (λ (t u : Token). when (not (isKnown (t .info .word) ws)) 44 (u .info .place)) (token-next _ e) (token-now _ e)))
 
-  see-plain : (a : Action) (k : Kind) (x l r : Info) → drop i ts ≡ tk k x ∷ tk LPar l ∷ tk RPar r ∷ rest → (kindNo k ≡ 0 → ⊥) → isJump (kindNo k) ≡ false
+  see-plain : (a : Action) (k : Kind) (x l r : Info) → drop i ts ≡ tk k x ∷ tk LPar l ∷ tk RPar r ∷ rest → (kindNo k ≡ kindNo Name → ⊥) → isJump (kindNo k) ≡ false
       → ((ws : List (List ℕ)) → actionFaults (outerOf s) (tableOf s) ws a ≡ []) → SeenSimple a
   see-plain a k x l r e z j f =
       let is-kind = first-kind _ e (omega arith) in
@@ -141,7 +141,7 @@ module _ {text records values decls room : List ℕ} {i count depth : ℕ} (v : 
 
   module _ {k : ℕ} (is-kind : k ≡ kindByte records i) where
     -- LEAVE and RESTART
-    module _ (z : k ≡ 0 → ⊥) (j : isJump k ≡ true) where
+    module _ (z : k ≡ kindNo Name → ⊥) (j : isJump k ≡ true) where
       pub jump-target : {a : Action} → Seen a → NameAt (v .stage .tokens) (i + 1)
       jump-target (jump-seen _ _ n _ _) = n
       jump-target (call-seen e _ _ _ _) = absurd (z (is-kind ∙ e))
@@ -161,7 +161,7 @@ module _ {text records values decls room : List ℕ} {i count depth : ℕ} (v : 
           go (transfer-seen q _ _) = absurd (z (is-kind ∙ q))
 
     -- STOP() and NO.OP()
-    module _ (z : k ≡ 0 → ⊥) (j : isJump k ≡ false) where
+    module _ (z : k ≡ kindNo Name → ⊥) (j : isJump k ≡ false) where
       pub plain-answer : ActionAnswer v (record { key = noKey; next = i + 3 })
       unfolding leastBy
       plain-answer = go seen
@@ -172,7 +172,7 @@ module _ {text records values decls room : List ℕ} {i count depth : ℕ} (v : 
           go (plain-seen _ _ _ d f) = record { key = sym (ap leastKey (f (stackedWords (v .stage .tokens) room count))); past = omega arith; behind = d }
           go (transfer-seen q _ _) = absurd (z (is-kind ∙ q))
 
-    module _ (n : k ≡ 0) {m : ℕ} (is-next : m ≡ kindByte records (i + 1)) where
+    module _ (n : k ≡ kindNo Name) {m : ℕ} (is-next : m ≡ kindByte records (i + 1)) where
       -- an activation
       module _ (c : m ≡ 3) where
         pub call-name : {a : Action} → Seen a → NameAt (v .stage .tokens) i

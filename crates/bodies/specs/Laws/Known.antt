@@ -16,9 +16,9 @@ use Rattle.rules.specs.Declarations.{Name as Word, Table, numberFrom, numberOf}
 use Rattle.rules.specs.Faults.Fault.{fault, when}
 use Rattle.rules.specs.Faults.Declared.{isKnown}
 use Rattle.rules.specs.Faults.Bodies.{declaredNames}
-use Rattle.table.specs.Holds.{tokenAt, placeCell}
+use Rattle.table.specs.Holds.{tokenAt, placeCell, insideCell}
 use Rattle.table.specs.Keys.{key, noKey, leastBy, leastKey, by-place, least-one}
-use Rattle.table.specs.Meaning.{meaningCell, outerOnly, unknownName}
+use Rattle.table.specs.Meaning.{outerOnly, unknownName}
 use Rattle.table.specs.Positions.{record-within}
 use Rattle.table.specs.Words.{NameAt, wordAt}
 use Rattle.expressions.specs.Lookups.{undeclared, declared}
@@ -68,7 +68,7 @@ pub name-here : {ts : Tokens} {i : ℕ} → NameAt ts i → tokenAt ts i ≡ tk 
 name-here {ts} {i} n = ap (λ (x : Kind). tk x (tokenAt ts i .info)) (n .kind)
 
 -- what a name's cell says of it
-module _ {text records values decls : List ℕ} (s : Stage text records values decls) {i k : ℕ} (n : NameAt (s .tokens) i) (e : k ≡ meaningCell records i) where
+module _ {text records values decls : List ℕ} (s : Stage text records values decls) {i k : ℕ} (n : NameAt (s .tokens) i) (e : k ≡ insideCell records i) where
   abbrev word : Word
   word = wordAt (s .tokens) i
 
@@ -104,7 +104,7 @@ module _ {text records values decls room : List ℕ} {count i : ℕ} (v : LabelV
   abbrev pub label-name : NameView text records room count i
   label-name = record { values = values; tokens = v .stage .tokens; holds = v .stage .ready .holds; stacked = v .stacked; name = v .name }
 
-  module _ {p k : ℕ} (is-place : p ≡ placeCell records i) (is-meaning : k ≡ meaningCell records i) where
+  module _ {p k : ℕ} (is-place : p ≡ placeCell records i) (is-meaning : k ≡ insideCell records i) where
     faulty : {r : ℕ} → isKnown (wordAt (v .stage .tokens) i) (stackedWords (v .stage .tokens) room count ++ knownNames (v .stage)) ≡ true → r ≡ key (fault 44 p)
         → r ≡ leastKey (labelFault v)
     faulty e f =

@@ -116,7 +116,7 @@ module _ {text records values decls room₀ room : List ℕ} {i count depth k at
     kind-there m t xs e q = let n = here (v .stage .tokens) (r .next) t xs (e ∙ q) in kind-here (v .stage .ready .holds) (r .next) t (n .within) (n .token)
 
     module _ {c k′ : ℕ} (is-kind : c ≡ kindByte records (r .next)) (is-key : k′ ≡ min k (r .key)) where
-      pub block-ends : c ≡ 20 → ActionAnswer v (record { key = k′; next = r .next + 1 })
+      pub block-ends : c ≡ kindNo END → ActionAnswer v (record { key = k′; next = r .next + 1 })
       unfolding membersFaults leastBy
       block-ends e = go (h .left) refl (a .behind ∙ sym (follow .is))
         where
@@ -142,7 +142,7 @@ module _ {text records values decls room₀ room : List ℕ} {i count depth k at
         same-key = ap (λ x. min x (leastKey (memberFaults (v .stage) (words v) b m))) is-key ∙ f;
       }
 
-      pub block-goes-on : (c ≡ 20 → ⊥) → BlockAhead v k′ (r .next + 1)
+      pub block-goes-on : (c ≡ kindNo END → ⊥) → BlockAhead v k′ (r .next + 1)
       unfolding membersFaults
       block-goes-on n = go (h .left) refl (a .behind ∙ sym (follow .is)) (h .shallow)
         where

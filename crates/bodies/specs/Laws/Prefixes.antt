@@ -9,7 +9,7 @@ use borrow.Author.Tests.{eqb-true}
 use lib.Dec.{eqb}
 use lib.ListN.{length, drop}
 use Rattle.cells.specs.Cells.{putCell}
-use Rattle.rules.specs.Text.Tokens.{Kind, Name, Arrow, Info, Token, tk, kindNo}
+use Rattle.rules.specs.Text.Tokens.{Kind, Name, Arrow, Info, Token, tk, kindNo, REPEAT, IF, Becomes}
 use Rattle.rules.specs.Grammar.Trees.{Tokens, Operand, operandTokens, Tail, tailTokens}
 use Rattle.rules.specs.Grammar.Trees.{Action, block, labelled, if-then, decode, repeat, leave, restart, activate, stop, no-op, transfer, actionTokens}
 use Rattle.rules.specs.Grammar.Precedence.{exprOf}
@@ -32,13 +32,13 @@ use Rattle.bodies.specs.Laws.Known.{token-room}
 
 module _ {text records values decls : List ℕ} (s : Stage text records values decls) (at : ℕ) (rest : Tokens) where
   pub data SeenPrefix (a : Action) : Type 0 where
-    loop-seen : {x : Info} {b : Action} → kindByte records at ≡ 25 → a ≡ repeat x b → SeenPrefix a
-    test-seen : {x : Info} {o : Operand} {t : Tail} {w : Info} {b : Action} → kindByte records at ≡ 22 → a ≡ if-then x o t w b → SeenPrefix a
-    label-seen : {n x : Info} {b : Action} → kindByte records at ≡ 0 → labelAt records at ≡ true → a ≡ labelled n x b → SeenPrefix a
-    bare-seen : (kindByte records at ≡ 25 → ⊥) → (kindByte records at ≡ 22 → ⊥) → (labelAt records at ≡ true → ⊥) → Bare a → SeenPrefix a
+    loop-seen : {x : Info} {b : Action} → kindByte records at ≡ kindNo REPEAT → a ≡ repeat x b → SeenPrefix a
+    test-seen : {x : Info} {o : Operand} {t : Tail} {w : Info} {b : Action} → kindByte records at ≡ kindNo IF → a ≡ if-then x o t w b → SeenPrefix a
+    label-seen : {n x : Info} {b : Action} → kindByte records at ≡ kindNo Name → labelAt records at ≡ true → a ≡ labelled n x b → SeenPrefix a
+    bare-seen : (kindByte records at ≡ kindNo REPEAT → ⊥) → (kindByte records at ≡ kindNo IF → ⊥) → (labelAt records at ≡ true → ⊥) → Bare a → SeenPrefix a
 
   -- a first token of another kind than a name
-  keyword : (a : Action) (k : Kind) (x : Info) (xs : Tokens) → drop at (s .tokens) ≡ tk k x ∷ xs → (kindNo k ≡ 0 → ⊥) → (kindNo k ≡ 25 → ⊥) → (kindNo k ≡ 22 → ⊥) → Bare a
+  keyword : (a : Action) (k : Kind) (x : Info) (xs : Tokens) → drop at (s .tokens) ≡ tk k x ∷ xs → (kindNo k ≡ kindNo Name → ⊥) → (kindNo k ≡ kindNo REPEAT → ⊥) → (kindNo k ≡ kindNo IF → ⊥) → Bare a
       → SeenPrefix a
   keyword a k x xs e n r i b =
       let is = first-kind s at rest _ e (omega arith) in
@@ -46,7 +46,7 @@ module _ {text records values decls : List ℕ} (s : Stage text records values d
       (λ z. n (sym is ∙ eqb-true (kindByte records at) 0 (both-true (eqb (kindByte records at) 0) (eqb (kindByte records (at + 1)) 12) z .0))) b
 
   -- a name with another token than `:=` behind it
-  named : (a : Action) (n : Info) (xs : Tokens) → drop at (s .tokens) ≡ tk Name n ∷ xs → 0 < length xs → (kindNo (tokenAt xs 0 .kind) ≡ 12 → ⊥) → Bare a → SeenPrefix a
+  named : (a : Action) (n : Info) (xs : Tokens) → drop at (s .tokens) ≡ tk Name n ∷ xs → 0 < length xs → (kindNo (tokenAt xs 0 .kind) ≡ kindNo Becomes → ⊥) → Bare a → SeenPrefix a
   named a n xs e l d b =
       let is = first-kind s at rest _ e (omega arith) in
       let next = next-kind s at rest _ e (omega arith) in
@@ -126,7 +126,7 @@ module _ {text records values decls room₀ room : List ℕ} {i count₀ depth k
 
   module _ {c : ℕ} (is-kind : c ≡ kindByte records at) where
     -- REPEAT
-    pub ahead-loop : c ≡ 25 → Ahead v room k (at + 1) count
+    pub ahead-loop : c ≡ kindNo REPEAT → Ahead v room k (at + 1) count
     unfolding actionFaults
     ahead-loop e = go seen
       where
@@ -143,7 +143,7 @@ module _ {text records values decls room₀ room : List ℕ} {i count₀ depth k
       pub inside : (value : Value) → ExpressionAnswer view value → value .next < 8192
       pub goes-on : (value : Value) (k′ : ℕ) → ExpressionAnswer view value → k′ ≡ min k (value .key) → Ahead v room k′ (value .next + 1) count
 
-    pub ahead-test : c ≡ 22 → TestHere
+    pub ahead-test : c ≡ kindNo IF → TestHere
     unfolding actionFaults faultsIn
     ahead-test e = go seen
       where
@@ -201,7 +201,7 @@ module _ {text records values decls room₀ room : List ℕ} {i count₀ depth k
                   ∙ ap (λ a. min k (leastKey (faultsUnder (v .stage) room count a))) (sym q) ∙ h .same-key;
             }
 
-    pub ahead-bare : {c : ℕ} → c ≡ kindByte records at → (c ≡ 25 → ⊥) → (c ≡ 22 → ⊥) → t ≡ false → Bare (h .action)
+    pub ahead-bare : {c : ℕ} → c ≡ kindByte records at → (c ≡ kindNo REPEAT → ⊥) → (c ≡ kindNo IF → ⊥) → t ≡ false → Bare (h .action)
     ahead-bare is-kind r f e = go seen
       where
         go : Seen → Bare (h .action)

@@ -8,7 +8,7 @@ use native.Mathlib.Omega.{arith}
 use lib.Dec.{leb}
 use lib.ListN.{length, drop, length-drop}
 use Rattle.cells.specs.Cells.{cell}
-use Rattle.rules.specs.Text.Tokens.{Token, kindNo}
+use Rattle.rules.specs.Text.Tokens.{Token, kindNo, END}
 use Rattle.rules.specs.Limits.{longestText}
 use Rattle.rules.specs.Grammar.Trees.{Tokens, actionTokens, selected, Selected, selectedTokens}
 use Rattle.rules.specs.Faults.Fault.{Fault, fault, when}
@@ -225,7 +225,7 @@ module _ {text records values decls room₀ room : List ℕ} {i count depth bits
           left-length : (cs : List Choice) → ahead .more ≡ cs → length (choicesOf (h .left)) ≡ suc (length cs)
           left-length cs e = ap length (ahead .choices) ∙ ap (λ l. suc (length l)) e
 
-          pub selected-goes-on : (c ≡ 20 → ⊥) → SelectedAhead v p room₂ k′ (number + 1) (r .next + 1)
+          pub selected-goes-on : (c ≡ kindNo END → ⊥) → SelectedAhead v p room₂ k′ (number + 1) (r .next + 1)
           selected-goes-on n = go (ahead .tail)
             where
               go : Tail (v .next ∷ v .rest) (selectedNest (h .left)) (ahead .next) (ahead .tokens) (ahead .more) → SelectedAhead v p room₂ k′ (number + 1) (r .next + 1)
@@ -249,7 +249,7 @@ module _ {text records values decls room₀ room : List ℕ} {i count depth bits
           number-of-all : ahead .more ≡ [] → length (all v p) ≡ number + 1
           number-of-all e = omega (arith, length-drop number (all v p), ap length (listed-now ∙ ap (λ cs. ahead .first ∷ cs) e))
 
-          pub selected-ends : c ≡ 20 → {o k″ : ℕ} → OverlapAnswer overlap-view o → k″ ≡ min k′ o → ChoicesAnswer v (record { key = k″; next = r .next + 1 })
+          pub selected-ends : c ≡ kindNo END → {o k″ : ℕ} → OverlapAnswer overlap-view o → k″ ≡ min k′ o → ChoicesAnswer v (record { key = k″; next = r .next + 1 })
           selected-ends e {o} {k″} x w = go (ahead .tail)
             where
               key-total : ahead .more ≡ [] → k′ ≡ total v p

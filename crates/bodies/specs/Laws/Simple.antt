@@ -16,13 +16,13 @@ use Rattle.rules.specs.Declarations.{declaredOf, reach}
 use Rattle.rules.specs.Faults.Fault.{fault, when}
 use Rattle.rules.specs.Faults.Declared.{isKnown}
 use Rattle.rules.specs.Faults.Bodies.{faultsIn, judge, judgeJoined, judgeDestination, ownerOf, storedTwice, actionFaults}
-use Rattle.table.specs.Holds.{tokenAt, placeCell}
+use Rattle.table.specs.Holds.{tokenAt, placeCell, insideCell}
 use Rattle.table.specs.Keys.{key, noKey, leastBy, leastKey, least-append}
-use Rattle.table.specs.Meaning.{meaningCell, outerOnly, unknownName}
+use Rattle.table.specs.Meaning.{outerOnly, unknownName}
 use Rattle.table.specs.Positions.{Here, here}
 use Rattle.table.specs.Views.{View, BodyAt}
 use Rattle.table.specs.Words.{wordAt}
-use Rattle.expressions.specs.Kinds.{endsExpression}
+use Rattle.table.specs.Operators.{endsExpression}
 use Rattle.expressions.specs.Scene.{ExpressionAt, ExpressionAnswer}
 use Rattle.expressions.specs.Destinations.{DestinationAt, DestinationAnswer}
 use Rattle.expressions.specs.Lookups.{Found, view-of, undeclared, declared}
@@ -78,7 +78,7 @@ module _ {records decls : List ℕ} {i : ℕ} (v : CallView records decls i) whe
   abbrev named : tokenAt (v .stage .tokens) i ≡ tk Name info
   named = name-here (v .name)
 
-  module _ {k p r : ℕ} (is-meaning : k ≡ meaningCell records i) (is-place : p ≡ placeCell records i) where
+  module _ {k p r : ℕ} (is-meaning : k ≡ insideCell records i) (is-place : p ≡ placeCell records i) where
     pub call-unknown : k ≡ unknownName → r ≡ key (fault 40 p) → r ≡ leastKey (callFaults v)
     call-unknown u f =
         let q = undeclared (sceneOf (v .stage)) i info (v .name .within) named false (sym is-meaning ∙ u) in
@@ -90,7 +90,7 @@ module _ {records decls : List ℕ} {i : ℕ} (v : CallView records decls i) whe
         one-fault 41 (omega arith) is-place f (rw (q .0, q .1) refl)
 
   -- declared, with a body or without
-  module _ {k : ℕ} (is-meaning : k ≡ meaningCell records i) (u : k ≡ unknownName → ⊥) (o : k ≡ outerOnly → ⊥) where
+  module _ {k : ℕ} (is-meaning : k ≡ insideCell records i) (u : k ≡ unknownName → ⊥) (o : k ≡ outerOnly → ⊥) where
     abbrev pub call-found : Found (sceneOf (v .stage)) k
     call-found = declared (sceneOf (v .stage)) i info (v .name .within) named k is-meaning u o .1
 

@@ -7,7 +7,7 @@ use native.Mathlib.Omega.{arith}
 use lib.ListN.{length, take, drop, length-drop}
 use lib.Seq.{take-all, getD-drop}
 use Rattle.cells.specs.Cells.{leAt, cell}
-use Rattle.rules.specs.Text.Tokens.{Becomes, tk, kindAt}
+use Rattle.rules.specs.Text.Tokens.{Becomes, tk, kindAt, kindNo}
 use Rattle.rules.specs.Limits.{longestText}
 use Rattle.rules.specs.Grammar.Trees.{Tokens}
 use Rattle.rules.specs.Faults.Fault.{fault}
@@ -90,8 +90,8 @@ behind-starts v = record { front = v .front; reads = v .reads; none = v .none; p
 
 -- the next token: `:=` itself, or another
 pub data SeenBehind {records : List ℕ} {at : ℕ} (v : BehindView records at) (i : ℕ) : Type 0 where
-  becomes-seen : i < length (v .tokens) → kindByte records i ≡ 12 → BehindAnswer v (i + 1) → SeenBehind v i
-  other-seen : i < length (v .tokens) → (kindByte records i ≡ 12 → ⊥) → Behind v (i + 1) → SeenBehind v i
+  becomes-seen : i < length (v .tokens) → kindByte records i ≡ kindNo Becomes → BehindAnswer v (i + 1) → SeenBehind v i
+  other-seen : i < length (v .tokens) → (kindByte records i ≡ kindNo Becomes → ⊥) → Behind v (i + 1) → SeenBehind v i
 
 pub see-behind : {records : List ℕ} {at i : ℕ} {v : BehindView records at} → Behind v i → SeenBehind v i
 see-behind {records} {at} {i} {v} b = go (b .front) (b .reads) (b .none)
@@ -113,10 +113,10 @@ module _ {records : List ℕ} {at i : ℕ} {v : BehindView records at} where
   pub behind-room : SeenBehind v i → 8 * i + 8 ≤ length records
   behind-room s = record-within (v .holds) i (behind-within s)
 
-  pub behind-found : {k : ℕ} → SeenBehind v i → k ≡ kindByte records i → k ≡ 12 → BehindAnswer v (i + 1)
+  pub behind-found : {k : ℕ} → SeenBehind v i → k ≡ kindByte records i → k ≡ kindNo Becomes → BehindAnswer v (i + 1)
   behind-found (becomes-seen _ _ a) e k = a
   behind-found (other-seen _ n _) e k = absurd (n (sym e ∙ k))
 
-  pub behind-on : {k : ℕ} → SeenBehind v i → k ≡ kindByte records i → (k ≡ 12 → ⊥) → Behind v (i + 1)
+  pub behind-on : {k : ℕ} → SeenBehind v i → k ≡ kindByte records i → (k ≡ kindNo Becomes → ⊥) → Behind v (i + 1)
   behind-on (becomes-seen _ q _) e k = absurd (k (e ∙ q))
   behind-on (other-seen _ _ b) e k = b

@@ -1,4 +1,4 @@
--- The scan gives constants of 1 to 64 bits, each with a value of its length.
+-- The scan gives constants of 1 to 64 bits, each with a value of its length; one without `?` leaves no bit free.
 use Prim.Native.Nat.{ℕ, zero, suc, _+_, _-_, _*_, _^_, _≤_, _<_}
 use mathlib.Core.Path.{_≡_, refl, sym, _∙_, ap}
 use mathlib.Core.Bool.{Bool, true, false, _&&_, _||_, false≢true}
@@ -9,15 +9,16 @@ use native.Mathlib.Nat.{mul-suc, one-le-mul}
 use native.Mathlib.Omega.{arith}
 use lib.Arith.{digits-lt}
 use lib.Dec.{eqb, leb, ltb}
-use lib.ListN.{length, take}
+use lib.ListN.{length, take, getD}
 use lib.Pow.{pow-pos, pow-add}
 use borrow.Author.Tests.{ltb-true, leb-true, eqb-true}
 use Rattle.rules.specs.Text.Bytes.{Class, classOf, run, fold, inName, inConstant}
 use Rattle.rules.specs.Text.Bytes.{forbidden, blank, exclamation, letter, digit, dot, prefix, query, mark, other}
-use Rattle.rules.specs.Text.Tokens.{Kind, Const, Token, tk, Spelling, keywords, marks, same}
-use Rattle.rules.specs.Text.Constants.{Constant, malformed, constant, isQuery, isDigitOf, isBasedDigit, all, any, digitBits, digitValue, valueFrom, freeFrom, bitsFrom, decimalBits, decimal, based}
-use Rattle.rules.specs.Text.Scan.{Lexeme, nothing, token, refused, wordKind, markAt, wordLexeme, constantLexeme, maskedKind, markLexeme, lexemeBy, lexeme, Scan, scanFrom, scan, sameBytes, wordInfo, after, ended, refuse}
+use Rattle.rules.specs.Text.Tokens.{Kind, Const, Token, tk, Spelling, keywords, marks, same, kindNo}
+use Rattle.rules.specs.Text.Constants.{Constant, malformed, constant, isQuery, isDigitOf, isBasedDigit, all, any, digitBits, digitValue, valueFrom, freeDigit, freeFrom, bitsFrom, decimalBits, decimal, based}
 use Rattle.rules.specs.Limits.{longestName, mostTokens}
+use Rattle.rules.specs.Text.Scan.{Lexeme, nothing, token, refused, wordKind, markAt, wordLexeme, constantLexeme, maskedKind, markLexeme, lexemeBy, lexeme, Scan, scanFrom, scan, sameBytes, wordInfo, after, ended, refuse}
+use Rattle.rules.specs.Grammar.Trees.{Tokens}
 use Rattle.laws.specs.Orders.Tests.{impossible, or-neither, or-either}
 use Rattle.laws.specs.Accepted.Named.{and-both}
 use Rattle.laws.specs.Accepted.Constants.{InBits, ConstantOk, ConstantsOk}
@@ -93,6 +94,40 @@ based-sound n ds h = by (all (isBasedDigit (2 ^ n)) ds && (ltb 0 (length ds) && 
         }
     by false e = tt
 
+-- digits without `?`
+abbrev Fixed : Constant → Type 0
+Fixed malformed = Unit {0}
+Fixed (constant v f b) = f ≡ 0
+
+decimal-fixed : (ds : List ℕ) → Fixed (decimal ds)
+unfolding decimal
+decimal-fixed ds = by (all (isDigitOf 10) ds && ltb (valueFrom 10 0 ds) (2 ^ 64))
+  where
+    by : (b : Bool) → Fixed (elim b [ true ↦ constant (valueFrom 10 0 ds) 0 (decimalBits (valueFrom 10 0 ds)) | false ↦ malformed ])
+    by true = refl
+    by false = tt
+
+none-free : (base : ℕ) (ds : List ℕ) → any isQuery ds ≡ false → freeFrom base 0 ds ≡ 0
+unfolding any freeFrom freeDigit
+none-free base [] e = refl
+none-free base (d ∷ ds) e =
+    let n = or-neither (isQuery d) (any isQuery ds) e in
+    let none-here : freeDigit base d ≡ 0 = ap (λ (q : Bool). elim q [ true ↦ base - 1 | false ↦ 0 ]) (n .0) in
+    let still : 0 * base + freeDigit base d ≡ 0 = omega arith in
+    ap (λ v. freeFrom base v ds) still ∙ none-free base ds (n .1)
+
+based-fixed : (n : ℕ) (ds : List ℕ) → maskedKind (any isQuery ds) ≡ Const → Fixed (based n ds)
+unfolding based
+based-fixed n ds k = by (all (isBasedDigit (2 ^ n)) ds && (ltb 0 (length ds) && leb (n * length ds) 64))
+  where
+    none : (b : Bool) → any isQuery ds ≡ b → maskedKind b ≡ Const → any isQuery ds ≡ false
+    none true e q = absurd (omega (arith, ap kindNo q))
+    none false e q = e
+
+    by : (b : Bool) → Fixed (elim b [ true ↦ constant (valueFrom (2 ^ n) 0 ds) (freeFrom (2 ^ n) 0 ds) (n * length ds) | false ↦ malformed ])
+    by true = none-free (2 ^ n) ds (none (any isQuery ds) refl k)
+    by false = tt
+
 some-digit-bits : (b : ℕ) → 1 ≤ digitBits b
 unfolding digitBits
 some-digit-bits b = by (eqb b 39) (eqb b 35)
@@ -110,8 +145,12 @@ anyConst (s ∷ ss) = same (s .kind) Const || anyConst ss
 not-const : (s : Spelling) → same (s .kind) Const ≡ false → s .kind ≡ Const → ⊥
 not-const s e q = false≢true (sym e ∙ ap (λ k. same k Const) q)
 
-abbrev TokenOk : Token → Type 0
-TokenOk t = t .kind ≡ Const → ConstantOk (t .info)
+abbrev pub TokenOk : Token → Type 0
+TokenOk t = t .kind ≡ Const → ConstantOk (t .info) × (t .info .free ≡ 0)
+
+abbrev TokensOk : Tokens → Type 0
+TokensOk [] = Unit {0}
+TokensOk (t ∷ ts) = TokenOk t × TokensOk ts
 
 abbrev LexemeOk : Lexeme → Type 0
 LexemeOk (nothing n) = Unit {0}
@@ -149,10 +188,10 @@ mark-ok (s ∷ ss) p bs e =
     by true f g = λ z. absurd (f z)
     by false f g = g
 
-constant-ok : (p n : ℕ) (k : Kind) (c : Constant) → Sound c → LexemeOk (constantLexeme p n k c)
+constant-ok : (p n : ℕ) (k : Kind) (c : Constant) → Sound c → (k ≡ Const → Fixed c) → LexemeOk (constantLexeme p n k c)
 unfolding constantLexeme
-constant-ok p n k malformed s = tt
-constant-ok p n k (constant v f b) s = λ e. s
+constant-ok p n k malformed s f = tt
+constant-ok p n k (constant v f b) s g = λ e. (s, g e)
 
 lexeme-ok : (c : Class) (p b : ℕ) (bs : List ℕ) → LexemeOk (lexemeBy c p b bs)
 unfolding lexemeBy
@@ -160,30 +199,32 @@ lexeme-ok forbidden p b bs = tt
 lexeme-ok blank p b bs = tt
 lexeme-ok exclamation p b bs = tt
 lexeme-ok letter p b bs = word-ok p (run inName (b ∷ bs))
-lexeme-ok digit p b bs = constant-ok p (length (run inConstant bs)) Const (decimal (run inConstant (b ∷ bs))) (decimal-sound (run inConstant (b ∷ bs)))
+lexeme-ok digit p b bs =
+    let ds = run inConstant (b ∷ bs) in constant-ok p (length (run inConstant bs)) Const (decimal ds) (decimal-sound ds) (λ e. decimal-fixed ds)
 lexeme-ok dot p b bs = tt
 lexeme-ok prefix p b bs =
     let ds = run inConstant bs in
     constant-ok p (length ds) (maskedKind (any isQuery ds)) (based (digitBits b) ds) (based-sound (digitBits b) ds (some-digit-bits b))
+    (based-fixed (digitBits b) ds)
 lexeme-ok query p b bs = tt
 lexeme-ok mark p b bs = mark-ok marks p (b ∷ bs) refl
 lexeme-ok other p b bs = tt
 
-scan-from-ok : (bs : List ℕ) (p k n : ℕ) → ConstantsOk (scanFrom p k n bs .tokens)
+scan-from-ok : (bs : List ℕ) (p k n : ℕ) → TokensOk (scanFrom p k n bs .tokens)
 unfolding scanFrom lexeme
 scan-from-ok [] p k n = tt
 scan-from-ok (b ∷ bs) p k (suc n) = scan-from-ok bs (p + 1) k n
 scan-from-ok (b ∷ bs) p k zero = by (lexeme p b bs) (lexeme-ok (classOf b) p b bs) (scan-from-ok bs (p + 1))
   where
     taken :
-        (c : Bool) (n : ℕ) (t : Token) → TokenOk t → ConstantsOk (scanFrom (p + 1) (k - 1) n bs .tokens)
-        → ConstantsOk ((elim c as (λ x. Scan) [ true ↦ after t (scanFrom (p + 1) (k - 1) n bs) | false ↦ ended (refuse 13 p) ]) .tokens)
+        (c : Bool) (n : ℕ) (t : Token) → TokenOk t → TokensOk (scanFrom (p + 1) (k - 1) n bs .tokens)
+        → TokensOk ((elim c as (λ x. Scan) [ true ↦ after t (scanFrom (p + 1) (k - 1) n bs) | false ↦ ended (refuse 13 p) ]) .tokens)
     taken true n t q r = (q, r)
     taken false n t q r = tt
 
     by :
-        (l : Lexeme) → LexemeOk l → ((k n : ℕ) → ConstantsOk (scanFrom (p + 1) k n bs .tokens))
-        → ConstantsOk (
+        (l : Lexeme) → LexemeOk l → ((k n : ℕ) → TokensOk (scanFrom (p + 1) k n bs .tokens))
+        → TokensOk (
         (elim l as (λ x. Scan) [
           | nothing n ↦ scanFrom (p + 1) k n bs
           | token n t ↦ elim (ltb 0 k) [ true ↦ after t (scanFrom (p + 1) (k - 1) n bs) | false ↦ ended (refuse 13 p) ]
@@ -193,7 +234,21 @@ scan-from-ok (b ∷ bs) p k zero = by (lexeme p b bs) (lexeme-ok (classOf b) p b
     by (token n t) q r = taken (ltb 0 k) n t q (r (k - 1) n)
     by (refused m) q r = tt
 
+constants-ok : (ts : Tokens) → TokensOk ts → ConstantsOk ts
+constants-ok [] h = tt
+constants-ok (t ∷ ts) h = (λ e. h .0 e .0, constants-ok ts (h .1))
+
 -- "lengths 1, 3 and 4 bits a digit. A decimal takes the fewest bits that hold it": of the tokens of any text
 pub scanned-ok : (text : List ℕ) → ConstantsOk (scan text .tokens)
 unfolding scan
-scanned-ok text = scan-from-ok text 0 mostTokens 0
+scanned-ok text = constants-ok (scanFrom 0 mostTokens 0 text .tokens) (scan-from-ok text 0 mostTokens 0)
+
+-- by their numbers
+each-ok : (ts : Tokens) → TokensOk ts → (past : Token) (i : ℕ) → i < length ts → TokenOk (getD ts i past)
+each-ok [] h past i l = absurd (omega arith)
+each-ok (t ∷ ts) h past zero l = h .0
+each-ok (t ∷ ts) h past (suc i) l = each-ok ts (h .1) past i (omega arith)
+
+pub scanned-each : (text : List ℕ) (past : Token) (i : ℕ) → i < length (scan text .tokens) → TokenOk (getD (scan text .tokens) i past)
+unfolding scan
+scanned-each text = each-ok (scanFrom 0 mostTokens 0 text .tokens) (scan-from-ok text 0 mostTokens 0)

@@ -9,7 +9,7 @@ use native.Mathlib.Omega.{arith}
 use native.Mathlib.Decide.{decLt}
 use lib.ListN.{length}
 use Rattle.cells.specs.Cells.{cell}
-use Rattle.rules.specs.Text.Tokens.{kindNo}
+use Rattle.rules.specs.Text.Tokens.{kindNo, OTHERWISE, LBra}
 use Rattle.rules.specs.Grammar.Trees.{Tokens, Literal, exact, masked}
 use Rattle.rules.specs.Selectors.{Item}
 use Rattle.rules.specs.Faults.Bodies.{itemsMeet, meetsAny, someMeet, past}
@@ -24,9 +24,9 @@ use Rattle.selectors.specs.Laws.Lists.{front}
 
 -- WHERE ITEMS BEGIN, by the kind of the alternative's first token
 pub data SeenItems (records : List ℕ) (ts : Tokens) (p : ℕ) (is : List Item) : Type 0 where
-  otherwise-seen : kindByte records p ≡ 24 → is ≡ [] → SeenItems records ts p is
-  brackets-seen : kindByte records p ≡ 5 → ItemsFrom ts (p + 1) is → SeenItems records ts p is
-  item-seen : (kindByte records p ≡ 24 → ⊥) → (kindByte records p ≡ 5 → ⊥) → ItemsFrom ts p is → SeenItems records ts p is
+  otherwise-seen : kindByte records p ≡ kindNo OTHERWISE → is ≡ [] → SeenItems records ts p is
+  brackets-seen : kindByte records p ≡ kindNo LBra → ItemsFrom ts (p + 1) is → SeenItems records ts p is
+  item-seen : (kindByte records p ≡ kindNo OTHERWISE → ⊥) → (kindByte records p ≡ kindNo LBra → ⊥) → ItemsFrom ts p is → SeenItems records ts p is
 
 literal-kind : (l : Literal) → kindNo (literalToken l .kind) ≤ 2
 literal-kind (exact i) = omega arith
@@ -53,17 +53,17 @@ module _ {records values : List ℕ} {ts : Tokens} (h : Held records values ts) 
   see-items (one-item f) = item-seen (λ e. omega (arith, item-kind f)) (λ e. omega (arith, item-kind f)) f
 
 module _ {records : List ℕ} {ts : Tokens} {p k : ℕ} {is : List Item} (is-kind : k ≡ kindByte records p) where
-  pub begins-nowhere : SeenItems records ts p is → k ≡ 24 → Begin ts is Nothing
+  pub begins-nowhere : SeenItems records ts p is → k ≡ kindNo OTHERWISE → Begin ts is Nothing
   begins-nowhere (otherwise-seen _ e) _ = e
   begins-nowhere (brackets-seen b _) e = absurd (omega arith)
   begins-nowhere (item-seen n _ _) e = absurd (n (sym is-kind ∙ e))
 
-  pub begins-inside : SeenItems records ts p is → k ≡ 5 → Begin ts is (From (p + 1))
+  pub begins-inside : SeenItems records ts p is → k ≡ kindNo LBra → Begin ts is (From (p + 1))
   begins-inside (otherwise-seen o _) e = absurd (omega arith)
   begins-inside (brackets-seen _ f) _ = f
   begins-inside (item-seen _ n _) e = absurd (n (sym is-kind ∙ e))
 
-  pub begins-there : SeenItems records ts p is → (k ≡ 24 → ⊥) → (k ≡ 5 → ⊥) → Begin ts is (From p)
+  pub begins-there : SeenItems records ts p is → (k ≡ kindNo OTHERWISE → ⊥) → (k ≡ kindNo LBra → ⊥) → Begin ts is (From p)
   begins-there (otherwise-seen o _) n m = absurd (n (is-kind ∙ o))
   begins-there (brackets-seen b _) n m = absurd (m (is-kind ∙ b))
   begins-there (item-seen _ _ f) n m = f

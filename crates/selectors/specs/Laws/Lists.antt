@@ -108,7 +108,7 @@ module _ {test : Item → Bool} {records values : List ℕ} {q at : ℕ} {v : It
         passed : some test (v .items) ≡ some test (ahead .tail)
         passed = by-front ∙ ap (λ b. b || some test (ahead .tail)) (sym answer ∙ f)
 
-        pub walk-ends : (k ≡ 9 → ⊥) → false ≡ some test (v .items)
+        pub walk-ends : (k ≡ kindNo Comma → ⊥) → false ≡ some test (v .items)
         unfolding some
         walk-ends n = sym (passed ∙ go (ahead .others))
           where
@@ -116,7 +116,7 @@ module _ {test : Item → Bool} {records values : List ℕ} {q at : ℕ} {v : It
             go (none-follow _) = refl
             go (some-follow e _) = absurd (n (is-kind ∙ next-kind ∙ ap kindNo e))
 
-        pub walk-goes-on : k ≡ 9 → Left test v (next + 1)
+        pub walk-goes-on : k ≡ kindNo Comma → Left test v (next + 1)
         walk-goes-on e = go (ahead .others) passed
           where
             go : {is : List Item} → Others (v .tokens) (at + itemSize (ahead .range) + 1) (ahead .stands .next .kind) is

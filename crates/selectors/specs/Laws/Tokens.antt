@@ -54,7 +54,7 @@ module _ {records values : List ℕ} {q : ℕ} (v : LiteralView records values q
 
 module _ {records values : List ℕ} {ts : Tokens} (h : Held records values ts) {q k value : ℕ} (is-kind : k ≡ kindByte records q) (is-value : value ≡ valueCell values q) where
   -- with a `?`: the free bits are in the next cell
-  pub read-masked : (l : Literal) (s : LiteralAt ts q l) → k ≡ 2 → (free : ℕ) → free ≡ valueCell values (q + 1) → LiteralRead l value free
+  pub read-masked : (l : Literal) (s : LiteralAt ts q l) → k ≡ kindNo Masked → (free : ℕ) → free ≡ valueCell values (q + 1) → LiteralRead l value free
   read-masked (exact i) s e free is-free = absurd (omega (arith, kind-here (h .holds) q (tk Const i) (first-here h s .within) (first-here h s .token)))
   read-masked (masked i) s e free is-free =
       let x = entry h s in
@@ -69,7 +69,7 @@ module _ {records values : List ℕ} {ts : Tokens} (h : Held records values ts) 
         fits = omega (arith, x .free-fits m, ap (λ (j : Info). j .value + j .free) (first-info h s));
       }
 
-  pub read-exact : (l : Literal) (s : LiteralAt ts q l) → (k ≡ 2 → ⊥) → LiteralRead l value 0
+  pub read-exact : (l : Literal) (s : LiteralAt ts q l) → (k ≡ kindNo Masked → ⊥) → LiteralRead l value 0
   read-exact (masked i) s n = absurd (n (is-kind ∙ kind-here (h .holds) q (tk Masked i) (first-here h s .within) (first-here h s .token)))
   read-exact (exact i) s n =
       let c = first-kind h s in
@@ -91,7 +91,7 @@ ends-masked by-comma e = omega (arith, ap kindNo e)
 ends-masked by-close e = omega (arith, ap kindNo e)
 ends-masked by-becomes e = omega (arith, ap kindNo e)
 
-ends-colon : {k : Kind} → EndsItem k → kindNo k ≡ 11 → ⊥
+ends-colon : {k : Kind} → EndsItem k → kindNo k ≡ kindNo Colon → ⊥
 ends-colon by-comma e = omega arith
 ends-colon by-close e = omega arith
 ends-colon by-becomes e = omega arith
@@ -137,8 +137,8 @@ module _ {records values : List ℕ} {q : ℕ} (v : ItemView records values q) w
 
 -- a range, or none, by the kind of the second token
 pub data SeenRange (records : List ℕ) (ts : Tokens) (q : ℕ) : Range → Type 0 where
-  no-range-seen : (kindByte records (q + 1) ≡ 11 → ⊥) → SeenRange records ts q single
-  range-seen : {c : Info} {m : Literal} → kindByte records (q + 1) ≡ 11 → LiteralAt ts (q + 2) m → SeenRange records ts q (to c m)
+  no-range-seen : (kindByte records (q + 1) ≡ kindNo Colon → ⊥) → SeenRange records ts q single
+  range-seen : {c : Info} {m : Literal} → kindByte records (q + 1) ≡ kindNo Colon → LiteralAt ts (q + 2) m → SeenRange records ts q (to c m)
 
 module _ {records values : List ℕ} {ts : Tokens} (h : Held records values ts) {q : ℕ} {l : Literal} where
   second-kind : {r : Range} (s : ItemAt ts q l r) → kindByte records (q + 1) ≡ kindNo (item-first r s .next .kind)
@@ -161,14 +161,14 @@ range-fits a b c d p q = by (ltb c a)
     by false = q
 
 module _ {records values : List ℕ} {q k : ℕ} (v : ItemView records values q) (is-kind : k ≡ kindByte records (q + 1)) where
-  pub range-view : k ≡ 11 → LiteralView records values (q + 2)
+  pub range-view : k ≡ kindNo Colon → LiteralView records values (q + 2)
   range-view e = go (v .range) (seen-range v)
     where
       go : (r : Range) → SeenRange records (v .tokens) q r → LiteralView records values (q + 2)
       go _ (no-range-seen n) = absurd (n (sym is-kind ∙ e))
       go _ (range-seen {m = m} _ s) = record { tokens = v .tokens; held = v .held; literal = m; stands = s }
 
-  pub read-single : {value free : ℕ} → (k ≡ 11 → ⊥) → LiteralRead (v .literal) value free → ItemRead (v .literal) (v .range) q (Pattern value free) (q + 1)
+  pub read-single : {value free : ℕ} → (k ≡ kindNo Colon → ⊥) → LiteralRead (v .literal) value free → ItemRead (v .literal) (v .range) q (Pattern value free) (q + 1)
   unfolding itemOf highest
   read-single {value} {free} n read = go (v .range) (seen-range v)
     where
@@ -176,7 +176,7 @@ module _ {records values : List ℕ} {q k : ℕ} (v : ItemView records values q)
       go _ (range-seen e _) = absurd (n (is-kind ∙ e))
       go _ (no-range-seen _) = record { is-item = rw (read .is-value, read .is-free) refl; is-next = refl; fits = omega (arith, read .fits, read .is-value, read .is-free) }
 
-  pub read-range : {a b c d : ℕ} {i : Item} → k ≡ 11 → LiteralRead (v .literal) a b → ((u : LiteralView records values (q + 2)) → LiteralRead (u .literal) c d)
+  pub read-range : {a b c d : ℕ} {i : Item} → k ≡ kindNo Colon → LiteralRead (v .literal) a b → ((u : LiteralView records values (q + 2)) → LiteralRead (u .literal) c d)
       → meant i ≡ rangeOf a b c d → ItemRead (v .literal) (v .range) q i (q + 3)
   unfolding itemOf highest
   read-range {a} {b} {c} {d} {i} e one other is = go (v .range) (seen-range v)

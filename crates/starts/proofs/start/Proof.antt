@@ -3,7 +3,8 @@
 use borrow.Author.Needs.{needs}
 use native.Mathlib.Omega.{arith}
 use Prim.Native.Nat.{_-_}
-use Rattle.starts.proofs.Kth.{cell-room, view-there, small-there}
+use Rattle.table.specs.Laws.Kth.{kth-room, kth-view}
+use Rattle.declare.specs.Small.{small-there}
 use Rattle.starts.proofs.Walking.{Walked, refused-60, none-walked, to-seek, refused-61, walked-more, all-walked}
 use Rattle.starts.proofs.start.Statement.{statement}
 use Rattle.starts.proofs.start.Tie as tie
@@ -24,11 +25,11 @@ start-spec =
     (λ c. omega (arith, c .words .ensures .1))
     (λ c. refused-60 _ (c .before .words .ensures) (c .if1 .taken))
     (λ c. none-walked _ (c .before .words .ensures) (c .if1 .left))
-    (λ c κs. search (needs, cell-room))
+    (λ c κs. search (needs, kth-room))
     (λ c. search needs)
     (λ c κs. search (needs, small-there))
     (λ c. omega (arith, c .before .before .before .loop .inv .room, c .words-in .ensures .1))
-    (λ c κs. search (needs, view-there))
+    (λ c κs. search (needs, kth-view))
     (λ c κs. search needs)
     (λ c κs.
     let t = c .before .before .before .before in

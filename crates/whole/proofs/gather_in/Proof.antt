@@ -4,6 +4,7 @@ use mathlib.Core.Path.{sym}
 use native.Mathlib.Omega.{arith}
 use lib.ListN.{length-take}
 use lib.Seq.{length-take-le}
+use Rattle.table.specs.Room.{labelsFrom}
 use Rattle.whole.specs.Whole.{gathered-in}
 use Rattle.whole.proofs.gather_in.Statement.{statement}
 use Rattle.whole.proofs.gather_in.Tie as tie
@@ -13,12 +14,12 @@ gather-in-spec =
     tie.close
     (tie.spec
     (λ c. search needs)
-    (λ c. sym (length-take-le 18432 (c .before .before .before .before .args .room .now) (omega (arith, c .before .before .before .before .pre .1 .0))))
+    (λ c. sym (length-take-le labelsFrom (c .before .before .before .before .args .room .now) (omega (arith, c .before .before .before .before .pre .1 .0))))
     (λ c κs. (
       c .before .before .before .before .pre .0,
       (
         omega
-            (arith, length-take 18432 (c .before .before .before .before .args .room .now), c .before .before .before .before .pre .1 .0, c .before .before .before .before .pre .0 .ready .few),
+            (arith, length-take labelsFrom (c .before .before .before .before .args .room .now), c .before .before .before .before .pre .1 .0, c .before .before .before .before .pre .0 .ready .few),
         c .before .before .before .before .pre .1 .1,
       ),
     ))

@@ -3,7 +3,9 @@
 use borrow.Author.Needs.{needs}
 use native.Mathlib.Omega.{arith}
 use Prim.Native.Nat.{_-_}
-use Rattle.bench.proofs.Tables.{ListedTo, none-listed, cell-room, small-there, words-fit, room-there, more-listed, all-listed}
+use Rattle.table.specs.Laws.Kth.{kth-room}
+use Rattle.declare.specs.Small.{small-there}
+use Rattle.bench.proofs.Tables.{ListedTo, none-listed, words-fit, room-there, more-listed, all-listed}
 use Rattle.bench.proofs.listing.put_listing.Statement.{statement}
 use Rattle.bench.proofs.listing.put_listing.Tie as tie
 
@@ -20,7 +22,7 @@ put-listing-spec =
     Inv-loop
     μ-loop
     (λ c. search (needs, none-listed))
-    (λ c κs. search (needs, cell-room))
+    (λ c κs. search (needs, kth-room))
     (λ c. search needs)
     (λ c κs. search (needs, small-there))
     (λ c κs. room-there (c .before .before .before .before .loop .inv) (c .before .before .before .loop-test .taken) (c .before .before .get16 .ensures) (c .before .words-in .ensures .0) (c .before .before .before .before .before .before .before .before .before .before .before .pre .0) (c .before .before .before .before .before .before .before .before .before .before .before .pre .1))

@@ -3,7 +3,9 @@
 use borrow.Author.Needs.{needs}
 use native.Mathlib.Omega.{arith}
 use Prim.Native.Nat.{_-_}
-use Rattle.declare.proofs.Totals.{Summed, nothing-summed, cell-room, small-there, summed-more, all-summed}
+use Rattle.table.specs.Laws.Kth.{kth-room}
+use Rattle.declare.specs.Small.{small-there}
+use Rattle.declare.proofs.Totals.{Summed, nothing-summed, summed-more, all-summed}
 use Rattle.declare.proofs.counting.words.Statement.{statement}
 use Rattle.declare.proofs.counting.words.Tie as tie
 
@@ -20,7 +22,7 @@ words-spec =
     Inv-loop
     μ-loop
     (λ c. search (needs, nothing-summed))
-    (λ c κs. search (needs, cell-room))
+    (λ c κs. search (needs, kth-room))
     (λ c. search needs)
     (λ c κs. search (needs, small-there))
     (λ c. omega (arith, c .before .before .before .loop .inv .room, c .words-in .ensures .1))

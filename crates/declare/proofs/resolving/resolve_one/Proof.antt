@@ -1,7 +1,6 @@
 -- `declare::resolving::resolve_one` meets its contract: a name takes its meaning, and any other token stays as it is.
 -- Assumes nothing.
 use borrow.Author.Needs.{needs}
-use native.Mathlib.Omega.{arith}
 use Rattle.declare.proofs.Meanings.{no-name, name-in, name-resolved}
 use Rattle.declare.proofs.resolving.resolve_one.Statement.{statement}
 use Rattle.declare.proofs.resolving.resolve_one.Tie as tie
@@ -17,10 +16,8 @@ resolve-one-spec =
     let t = c .before .before .before .before .before .before .before in
     name-in (c .before .before .kind-at .ensures) (t .pre .1) (t .pre .2) (c .before .if1 .left))
     (λ c. search needs)
-    (λ c. search needs)
     (λ c κs. search needs)
     (λ c. search needs)
     (λ c values v l.
     let t = c .before .before .before .before in
-    name-resolved (t .before .before .before .kind-at .ensures) v l (t .before .before .if1 .left) (omega (arith, t .meaning .ok))
-    (t .meaning .ensures) (c .before .before .put16 .ensures)))
+    name-resolved (t .before .before .before .kind-at .ensures) v l (t .before .before .if1 .left) (t .meaning .ensures) (c .before .before .put-inside .ensures)))

@@ -43,7 +43,7 @@ use Rattle.evaluation.proofs.expressions.behind_nots.Reads as behind-no
 use Rattle.evaluation.proofs.expressions.closed_by.Reads as closed-by-reads
 use Rattle.evaluation.proofs.expressions.negated.Reads as negated-reads
 use Rattle.evaluation.proofs.operators.settle.Reads as settle-reads
-use Rattle.evaluation.proofs.operators.tightness_of.Reads as tightness-of-reads
+use Rattle.table.proofs.operators.tightness_of.Reads as tightness-of-reads
 use Rattle.table.proofs.records.kind_at.Reads as kind-at-reads
 use Rattle.table.proofs.records.size_at.Reads as size-at-reads
 use Rattle.table.proofs.records.value_at.Reads as value-at-reads

@@ -14,9 +14,9 @@ use Rattle.rules.specs.Grammar.Precedence.{Index}
 use Rattle.rules.specs.Declarations.{Names as Span-of, BitNames, declaredOf, mainNames}
 use Rattle.rules.specs.Faults.Fault.{fault}
 use Rattle.rules.specs.Faults.Bodies.{accessJudged}
-use Rattle.table.specs.Holds.{placeCell}
+use Rattle.table.specs.Holds.{placeCell, insideCell}
 use Rattle.table.specs.Keys.{key}
-use Rattle.table.specs.Meaning.{meaningCell, unknownName, outerOnly}
+use Rattle.table.specs.Meaning.{unknownName, outerOnly}
 use Rattle.table.specs.Bits.{BitsView, bitsSize, bits-within}
 use Rattle.table.specs.Views.{View}
 use Rattle.table.specs.Shown.{shownWords, shownBits}
@@ -48,7 +48,7 @@ module _ {records values decls : List ℕ} {i p : ℕ} where
     place-small v = omega (arith, place-known v, place-fits v)
 
   -- the declaration
-  module _ {meaning : ℕ} (em : meaning ≡ meaningCell records i) (nu : meaning ≡ unknownName → ⊥) (no : meaning ≡ outerOnly → ⊥) where
+  module _ {meaning : ℕ} (em : meaning ≡ insideCell records i) (nu : meaning ≡ unknownName → ⊥) (no : meaning ≡ outerOnly → ⊥) where
     abbrev found : (v : NamedAt records values decls i p) → Found (v .scene) meaning
     found v = name-found v meaning em nu no
 
@@ -65,7 +65,7 @@ module _ {records values decls : List ℕ} {i p : ℕ} where
 
   -- the answers
   module _ (t : Bool) (s : ℕ) (es : (values : List ℕ) (u : BitsView records values p) → s ≡ bitsSize (u .bits))
-      (place : ℕ) (ep : place ≡ placeCell records i) (meaning : ℕ) (em : meaning ≡ meaningCell records i) where
+      (place : ℕ) (ep : place ≡ placeCell records i) (meaning : ℕ) (em : meaning ≡ insideCell records i) where
     unknown : meaning ≡ unknownName → (k : ℕ) → k ≡ key (fault 40 place) → All records values decls i p t k 0 (p + s)
     unknown h k e v = named-answer v (λ x _. rw (e, place-known ep v) (named-unknown v x (sym em ∙ h))) (es values (bits-view v))
 
@@ -106,8 +106,8 @@ named-spec =
     (λ c. search needs)
     (λ c κs. search (needs, cell-room))
     (λ c. search needs)
-    (λ c κs. view (c .before .before .before .meaning-at .ensures) (c .before .before .if1 .left) (c .before .if2 .left) (c .get16 .ensures) (c .before .before .before .before .before .before .before .before .before .pre))
-    (λ c κs. view (c .before .before .before .before .meaning-at .ensures) (c .before .before .before .if1 .left) (c .before .before .if2 .left) (c .before .get16 .ensures) (c .before .before .before .before .before .before .before .before .before .before .pre))
+    (λ c κs. view (c .before .before .before .inside16-at .ensures) (c .before .before .if1 .left) (c .before .if2 .left) (c .get16 .ensures) (c .before .before .before .before .before .before .before .before .before .pre))
+    (λ c κs. view (c .before .before .before .before .inside16-at .ensures) (c .before .before .before .if1 .left) (c .before .before .if2 .left) (c .before .get16 .ensures) (c .before .before .before .before .before .before .before .before .before .before .pre))
     (λ c κs. search (needs, bits-view))
     (λ c κs. search (needs, short, place-small))
-    (λ c. declared _ _ (c .before .before .before .before .before .before .before .before .before .bits-size .ensures) _ (c .before .before .before .before .before .before .before .before .place-at .ensures) _ (c .before .before .before .before .before .before .before .meaning-at .ensures) (c .before .before .before .before .before .before .if1 .left) (c .before .before .before .before .before .if2 .left) _ (c .before .before .before .before .get16 .ensures) _ _ _ (c .before .before .before .words-of .ensures) (c .before .before .bits-of .ensures) (c .before .names-at .ensures) _ _ (c .declared-weight .ensures)))
+    (λ c. declared _ _ (c .before .before .before .before .before .before .before .before .before .bits-size .ensures) _ (c .before .before .before .before .before .before .before .before .place-at .ensures) _ (c .before .before .before .before .before .before .before .inside16-at .ensures) (c .before .before .before .before .before .before .if1 .left) (c .before .before .before .before .before .if2 .left) _ (c .before .before .before .before .get16 .ensures) _ _ _ (c .before .before .before .words-of .ensures) (c .before .before .bits-of .ensures) (c .before .names-at .ensures) _ _ (c .declared-weight .ensures)))

@@ -10,7 +10,8 @@ use Rattle.rules.specs.Text.Tokens.{Info, Op, opKind, kindNo}
 use Rattle.rules.specs.Grammar.Precedence.{Factor, tightness}
 use Rattle.rules.specs.Faults.Bodies.{Judged, judged}
 use Rattle.table.specs.Holds.{kindByte, placeCell}
-use Rattle.expressions.specs.Kinds.{tightnessAt, tightness-at}
+use Rattle.table.specs.Operators.{tightnessAt}
+use Rattle.table.specs.Laws.Operators.{tightness-at}
 use Rattle.expressions.specs.Weights.{Weighs, operated}
 use Rattle.expressions.specs.Settling.{SettleAt, Settles, Settling, top, top-room, top-kind, top-place, top-small, length-fits, left-fits, turned, stopped, emptied}
 use Rattle.expressions.proofs.operators.settle.Statement.{statement}

@@ -11,7 +11,7 @@ use lib.ListN.{length}
 use Rattle.cells.specs.Cells.{cell}
 use Rattle.rules.specs.Grammar.Trees.{Tokens}
 use Rattle.rules.specs.Declarations.{Target, declaredOf}
-use Rattle.table.specs.Meaning.{meaningCell, outerOnly}
+use Rattle.table.specs.Meaning.{outerOnly}
 use Rattle.table.specs.Positions.{record-within}
 use Rattle.table.specs.Views.{View, TargetStands, TargetAt}
 use Rattle.table.specs.Shown.{shownBits}
@@ -22,6 +22,7 @@ use Rattle.expressions.specs.Names.{isMissing, missing-bits, present-bit
 use Rattle.expressions.specs.Owners.{NameHere, Owns, owner-none, owner-found, owner-bitless, owner-own, owner-storage, owner-under}
 use Rattle.expressions.proofs.owners.owner.Statement.{statement}
 use Rattle.expressions.proofs.owners.owner.Tie as tie
+use Rattle.table.specs.Holds.{insideCell}
 
 no-target : (ts : Tokens) (r : ℕ) (g : Option Target) → TargetAt ts r g → r ≡ 0 → g ≡ none
 no-target ts r none a z = refl
@@ -32,10 +33,10 @@ a-target ts r none a n = absurd (n a)
 a-target ts r (some t) a n = (t, refl, a)
 
 module _ {records values decls : List ℕ} {i : ℕ} where
-  undeclared : (k : ℕ) → k ≡ meaningCell records i → outerOnly ≤ k → (v : NameHere records values decls i) → Owns v Nothing
+  undeclared : (k : ℕ) → k ≡ insideCell records i → outerOnly ≤ k → (v : NameHere records values decls i) → Owns v Nothing
   undeclared k e h v = record { are = owner-none v (rw e at h); small = tt }
 
-  module _ {k : ℕ} (e : k ≡ meaningCell records i) (h : k < outerOnly) where
+  module _ {k : ℕ} (e : k ≡ insideCell records i) (h : k < outerOnly) where
     cell-room : NameHere records values decls i → 2 * k + 2 ≤ length decls
     cell-room v = owner-found v e h .room
 
@@ -58,7 +59,7 @@ module _ {records values decls : List ℕ} {i : ℕ} where
           target-room : NameHere records values decls i → 8 * r + 8 ≤ length records
           target-room v = record-within (v .scene .ready .holds) r (target v .2 .within)
 
-          module _ {n : ℕ} (en : n ≡ meaningCell records r) where
+          module _ {n : ℕ} (en : n ≡ insideCell records r) where
             under : (v : NameHere records values decls i) → (n ≡ owner-storage v e h (target v .1) .number) × (n < 256)
             under v =
                 let t = target v in
@@ -94,12 +95,12 @@ owner-spec =
     (λ c. search needs)
     (λ c κs. search (needs, cell-room))
     (λ c. search needs)
-    (λ c κs. some-view (c .before .before .meaning-at .ensures) (c .before .if1 .left) (c .get16 .ensures) (c .before .before .before .before .before .before .pre))
-    (λ c κs. target-room (c .before .before .before .before .meaning-at .ensures) (c .before .before .before .if1 .left) (c .before .before .get16 .ensures) (c .before .target-of .ensures) (c .if2 .taken) (c .before .before .before .before .before .before .before .before .pre))
-    (λ c. record { fits = omega (arith, under-small (c .before .before .before .before .before .meaning-at .ensures) (c .before .before .before .before .if1 .left) (c .before .before .before .get16 .ensures) (c .before .before .target-of .ensures) (c .before .if2 .taken) (c .meaning-at2 .ensures) (c .before .before .before .before .before .before .before .before .before .pre)) })
-    (λ c. mapping (c .before .before .before .before .before .meaning-at .ensures) (c .before .before .before .before .if1 .left) (c .before .before .before .get16 .ensures) (c .before .before .target-of .ensures) (c .before .if2 .taken) (c .meaning-at2 .ensures))
-    (λ c κs. view (c .before .before .before .before .meaning-at .ensures) (c .before .before .before .if1 .left) (c .before .before .get16 .ensures) (c .before .before .before .before .before .before .before .before .pre))
+    (λ c κs. some-view (c .before .before .inside16-at .ensures) (c .before .if1 .left) (c .get16 .ensures) (c .before .before .before .before .before .before .pre))
+    (λ c κs. target-room (c .before .before .before .before .inside16-at .ensures) (c .before .before .before .if1 .left) (c .before .before .get16 .ensures) (c .before .target-of .ensures) (c .if2 .taken) (c .before .before .before .before .before .before .before .before .pre))
+    (λ c. record { fits = omega (arith, under-small (c .before .before .before .before .before .inside16-at .ensures) (c .before .before .before .before .if1 .left) (c .before .before .before .get16 .ensures) (c .before .before .target-of .ensures) (c .before .if2 .taken) (c .inside16-at2 .ensures) (c .before .before .before .before .before .before .before .before .before .pre)) })
+    (λ c. mapping (c .before .before .before .before .before .inside16-at .ensures) (c .before .before .before .before .if1 .left) (c .before .before .before .get16 .ensures) (c .before .before .target-of .ensures) (c .before .if2 .taken) (c .inside16-at2 .ensures))
+    (λ c κs. view (c .before .before .before .before .inside16-at .ensures) (c .before .before .before .if1 .left) (c .before .before .get16 .ensures) (c .before .before .before .before .before .before .before .before .pre))
     (λ c κs. search needs)
-    (λ c. bitless (c .before .before .before .before .before .before .before .meaning-at .ensures) (c .before .before .before .before .before .before .if1 .left) (c .before .before .before .before .before .get16 .ensures) (c .before .before .before .before .target-of .ensures) (c .before .before .before .if2 .left) (c .before .before .bits-of .ensures) (c .before .is-missing .ensures) (c .if3 .taken))
-    (λ c. record { fits = omega (arith, small (c .before .before .before .before .before .before .before .meaning-at .ensures) (c .before .before .before .before .before .before .if1 .left) (c .before .before .before .before .before .before .before .before .before .before .before .pre)) })
-    (λ c. storage (c .before .before .before .before .before .before .before .meaning-at .ensures) (c .before .before .before .before .before .before .if1 .left) (c .before .before .before .before .before .get16 .ensures) (c .before .before .before .before .target-of .ensures) (c .before .before .before .if2 .left) (c .before .before .bits-of .ensures) (c .before .is-missing .ensures) (c .if3 .left)))
+    (λ c. bitless (c .before .before .before .before .before .before .before .inside16-at .ensures) (c .before .before .before .before .before .before .if1 .left) (c .before .before .before .before .before .get16 .ensures) (c .before .before .before .before .target-of .ensures) (c .before .before .before .if2 .left) (c .before .before .bits-of .ensures) (c .before .is-missing .ensures) (c .if3 .taken))
+    (λ c. record { fits = omega (arith, small (c .before .before .before .before .before .before .before .inside16-at .ensures) (c .before .before .before .before .before .before .if1 .left) (c .before .before .before .before .before .before .before .before .before .before .before .pre)) })
+    (λ c. storage (c .before .before .before .before .before .before .before .inside16-at .ensures) (c .before .before .before .before .before .before .if1 .left) (c .before .before .before .before .before .get16 .ensures) (c .before .before .before .before .target-of .ensures) (c .before .before .before .if2 .left) (c .before .before .bits-of .ensures) (c .before .is-missing .ensures) (c .if3 .left)))

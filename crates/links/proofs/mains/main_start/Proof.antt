@@ -23,13 +23,10 @@ main-start-spec =
     (λ c κs. cell-room (c .before .loop .inv) (c .loop-test .taken) (c .before .before .before .before .pre))
     (λ c. search needs)
     (λ c κs. (c .before .before .before .before .before .pre .values, view-at (c .before .before .loop .inv) (c .before .loop-test .taken) (c .get16 .ensures) (c .before .before .before .before .before .pre)))
-    (λ c. omega (arith, name-fits (c .before .before .before .before .loop .inv) (c .before .before .before .loop-test .taken) (c .before .before .get16 .ensures) (c .before .before .before .before .before .before .before .pre) .1))
-    (λ c. omega (arith, name-fits (c .before .before .before .before .loop .inv) (c .before .before .before .loop-test .taken) (c .before .before .get16 .ensures) (c .before .before .before .before .before .before .before .pre) .1))
     (λ c κs. omega (arith, name-fits (c .before .before .before .before .loop .inv) (c .before .before .before .loop-test .taken) (c .before .before .get16 .ensures) (c .before .before .before .before .before .before .before .pre) .0))
-    (λ c. search needs)
     (λ c.
     main-here (c .before .before .before .before .before .loop .inv) (c .before .before .before .before .loop-test .taken) (c .before .before .before .get16 .ensures)
-    (λ v. c .before .before .main-of .ensures (v .values) (view-at (c .before .before .before .before .before .loop .inv) (c .before .before .before .before .loop-test .taken) (c .before .before .before .get16 .ensures) v)) (c .before .if1 .taken) (c .get162 .ensures))
+    (λ v. c .before .before .main-of .ensures (v .values) (view-at (c .before .before .before .before .before .loop .inv) (c .before .before .before .before .loop-test .taken) (c .before .before .before .get16 .ensures) v)) (c .before .if1 .taken) (c .link-at .ensures))
     (λ c. search needs)
     (λ c. omega arith)
     (λ c.

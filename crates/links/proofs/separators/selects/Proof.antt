@@ -3,7 +3,7 @@
 use mathlib.Core.Path.{sym, ap}
 use mathlib.Core.List.{_∷_, []}
 use Rattle.rules.specs.Whole.Sets.{member}
-use Rattle.links.specs.Scans.{missing}
+use Rattle.table.specs.Laws.Scans.{missing}
 use Rattle.links.specs.Turns.{selects}
 use Rattle.links.proofs.separators.selects.Statement.{statement}
 use Rattle.links.proofs.separators.selects.Tie as tie

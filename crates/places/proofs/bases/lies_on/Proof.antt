@@ -10,12 +10,12 @@ lies-on-spec =
     tie.close
     (tie.spec
     (λ c κs. search needs)
-    (λ c v. no-number (c .before .meaning-at .ensures) (c .if1 .taken) v)
+    (λ c v. no-number (c .before .inside-at .ensures) (c .if1 .taken) v)
     (λ c κs. search needs)
     (λ c. search needs)
-    (λ c κs. under-view (c .before .before .meaning-at .ensures) (c .before .if1 .left) (c .get16 .ensures) (c .before .before .before .before .before .before .before .pre))
+    (λ c κs. under-view (c .before .before .inside-at .ensures) (c .before .if1 .left) (c .get16 .ensures) (c .before .before .before .before .before .before .before .pre))
     (λ c κs. search needs)
     (λ c κs. search needs)
     (λ c κs. search needs)
     (λ c. search needs)
-    (λ c v. lies-shown (c .before .before .before .before .before .before .meaning-at .ensures) (c .before .before .before .before .before .if1 .left) (c .before .before .before .before .get16 .ensures) (c .before .before .before .bits-of .ensures) (c .before .before .target-bits .ensures) (c .before .low-under .ensures) (c .get162 .ensures) v))
+    (λ c v. lies-shown (c .before .before .before .before .before .before .inside-at .ensures) (c .before .before .before .before .before .if1 .left) (c .before .before .before .before .get16 .ensures) (c .before .before .before .bits-of .ensures) (c .before .before .target-bits .ensures) (c .before .low-under .ensures) (c .get162 .ensures) v))

@@ -6,12 +6,13 @@ use mathlib.Core.Path.{_≡_}
 use mathlib.Core.List.{List}
 use Prim.Native.Nat.{ℕ, _+_, _<_}
 use lib.ListN.{length}
+use Rattle.rules.specs.Text.Tokens.{Less, kindNo}
 use Rattle.table.specs.Holds.{kindByte}
 use Rattle.table.specs.Bits.{BitsView, seen, bits-within, size-open, size-none, size-unnamed, size-pair, size-single}
 use Rattle.table.proofs.views.bits_size.Statement.{statement}
 use Rattle.table.proofs.views.bits_size.Tie as tie
 
-opened : {records values : List ℕ} {p k : ℕ} (v : BitsView records values p) → k ≡ kindByte records p → k ≡ 7 → p + 2 < length (v .tokens)
+opened : {records values : List ℕ} {p k : ℕ} (v : BitsView records values p) → k ≡ kindByte records p → k ≡ kindNo Less → p + 2 < length (v .tokens)
 opened v e k = omega (arith, bits-within v, size-open (seen v) e k)
 
 first : tie.Need-kind-at-requires

@@ -15,7 +15,7 @@ use Rattle.whole.proofs.bodies.body_at.Reads as body-at-reads
 use Rattle.whole.proofs.calls.next_call.Reads as next-call-reads
 use Rattle.whole.proofs.memory.nothing.Reads as nothing-reads
 use Rattle.whole.proofs.memory.remember.Reads as remember-reads
-use Rattle.whole.proofs.names.meaning.Reads as meaning-reads
+use Rattle.table.proofs.records.inside_at.Reads as inside-at-reads
 use Rattle.whole.proofs.touches.touched.Reads as touched-reads
 use Rattle.whole.specs.Reading.{kinded}
 use Rattle.whole.specs.Filling.{fill-unknown, fill-done, fill-bodiless, fill-body, chain-down, some-left, Descending, go-down, descended, call-short, call-name, call-fewer, call-done, token-room, entry-room, few-declared}
@@ -73,8 +73,8 @@ pub +descend+gather-spec : {M : Type 1} → statement M
     (λ c. call-done (c .before .before .before .before .before .before .loop .inv) (c .before .before .before .before .before .next-call .ensures)
     (c .before .before .before .before .if1 .left) (search needs) (c .before .before .gather .ensures)))
     λ t. gather-lts.spec (
-      meaning-reads.Asked,
-      meaning-reads.Learnt,
+      inside-at-reads.Asked,
+      inside-at-reads.Learnt,
       get64-reads.Asked,
       get64-reads.Learnt,
       body-at-reads.Asked,
@@ -92,13 +92,13 @@ pub +descend+gather-spec : {M : Type 1} → statement M
     gather.Post
     (λ c κs. token-room (c .before .before .before .pre .1 .0) (c .before .before .before .pre .1 .1 .0))
     (λ c. fill-unknown (c .before .before .before .before .before .pre .1 .0) (c .before .before .before .before .before .pre .1 .1 .0)
-    (c .before .before .before .before .before .pre .1 .1 .1 .0) (c .before .meaning .ensures) (c .if1 .taken))
+    (c .before .before .before .before .before .pre .1 .1 .1 .0) (c .before .inside-at .ensures) (c .if1 .taken))
     (λ c. omega (arith, few-declared (c .before .before .before .before .before .before .pre .1 .0)))
     (λ c κs. omega (arith, entry-room (c .before .before .before .before .before .before .pre .1 .0) (c .before .if1 .left)))
     (λ c. search needs)
     (λ c. fill-done (c .before .before .before .before .before .before .before .before .pre .1 .0)
     (c .before .before .before .before .before .before .before .before .pre .1 .1 .0)
-    (c .before .before .before .before .before .before .before .before .pre .1 .1 .1 .0) (c .before .before .before .before .meaning .ensures)
+    (c .before .before .before .before .before .before .before .before .pre .1 .1 .1 .0) (c .before .before .before .before .inside-at .ensures)
     (c .before .before .before .if1 .left) (c .before .get64 .ensures) (c .if2 .taken))
     (λ c κs. ((c .before .before .before .before .before .before .before .before .pre .1 .0 .reading), c .before .before .before .if1 .left))
     (λ c κs. search needs)
@@ -109,7 +109,7 @@ pub +descend+gather-spec : {M : Type 1} → statement M
     fill-bodiless (c .before .before .before .before .before .before .before .before .before .before .before .before .before .before .before .pre .1 .0)
     (c .before .before .before .before .before .before .before .before .before .before .before .before .before .before .before .pre .1 .1 .0)
     (c .before .before .before .before .before .before .before .before .before .before .before .before .before .before .before .pre .1 .1 .1 .0)
-    (c .before .before .before .before .before .before .before .before .before .before .before .meaning .ensures)
+    (c .before .before .before .before .before .before .before .before .before .before .before .inside-at .ensures)
     (c .before .before .before .before .before .before .before .before .before .before .if1 .left)
     (c .before .before .before .before .before .before .body-at .ensures) _ (c .before .before .before .before .before .if3 .taken)
     (c .before .before .before .nothing .ensures .0) (c .before .before .before .nothing .ensures .1 .0) (c .before .before .before .nothing .ensures .1 .1)
@@ -134,7 +134,7 @@ pub +descend+gather-spec : {M : Type 1} → statement M
           chain-down (c .before .before .before .before .before .before .before .before .before .before .before .pre .1 .0)
               (c .before .before .before .before .before .before .before .before .before .before .before .pre .1 .1 .0)
               (c .before .before .before .before .before .before .before .before .before .before .before .pre .1 .1 .1 .0)
-              (c .before .before .before .before .before .before .before .meaning .ensures) (c .before .before .before .before .before .before .if1 .left)
+              (c .before .before .before .before .before .before .before .inside-at .ensures) (c .before .before .before .before .before .before .if1 .left)
               (c .before .before .body-at .ensures) _ (c .before .if3 .left)
               (c .before .before .before .before .before .before .before .before .before .before .before .pre .1 .1 .1 .1 .1),
         ),
@@ -150,7 +150,7 @@ pub +descend+gather-spec : {M : Type 1} → statement M
     ))
     (λ c. search needs)
     (λ c.
-    fill-body (c .before .before .before .before .before .before .before .before .before .before .before .before .before .before .before .before .before .before .before .before .pre .1 .0) (c .before .before .before .before .before .before .before .before .before .before .before .before .before .before .before .before .before .before .before .before .pre .1 .1 .0) (c .before .before .before .before .before .before .before .before .before .before .before .before .before .before .before .before .before .before .before .before .pre .1 .1 .1 .0) (c .before .before .before .before .before .before .before .before .before .before .before .before .before .before .before .before .meaning .ensures) (c .before .before .before .before .before .before .before .before .before .before .before .before .before .before .before .if1 .left) (c .before .before .before .before .before .before .before .before .before .before .before .body-at .ensures) _ (c .before .before .before .before .before .before .before .before .before .before .if3 .left)
+    fill-body (c .before .before .before .before .before .before .before .before .before .before .before .before .before .before .before .before .before .before .before .before .pre .1 .0) (c .before .before .before .before .before .before .before .before .before .before .before .before .before .before .before .before .before .before .before .before .pre .1 .1 .0) (c .before .before .before .before .before .before .before .before .before .before .before .before .before .before .before .before .before .before .before .before .pre .1 .1 .1 .0) (c .before .before .before .before .before .before .before .before .before .before .before .before .before .before .before .before .inside-at .ensures) (c .before .before .before .before .before .before .before .before .before .before .before .before .before .before .before .if1 .left) (c .before .before .before .before .before .before .before .before .before .before .before .body-at .ensures) _ (c .before .before .before .before .before .before .before .before .before .before .if3 .left)
     (c .before .before .before .before .before .before .before .before .descend .ensures .0)
     (c .before .before .before .before .before .before .before .before .descend .ensures .1) (c .before .before .before .before .touched .ensures)
     (c .before .before .remember2 .ensures))

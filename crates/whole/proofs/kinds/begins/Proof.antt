@@ -2,9 +2,10 @@
 use mathlib.Core.Path.{sym, ap}
 use mathlib.Core.List.{_∷_, []}
 use Rattle.rules.specs.Whole.Sets.{member}
-use Rattle.whole.specs.Kinds.{begins, missing}
+use Rattle.whole.specs.Kinds.{begins}
 use Rattle.whole.proofs.kinds.begins.Statement.{statement}
 use Rattle.whole.proofs.kinds.begins.Tie as tie
+use Rattle.table.specs.Laws.Scans.{missing}
 
 pub begins-spec : {M : Type 1} → statement M
 unfolding begins member

@@ -7,11 +7,13 @@ use mathlib.Core.List.{List}
 use Prim.Native.Nat.{ℕ, _+_, _-_, _<_, _≤_}
 use lib.ListN.{drop}
 use Rattle.table.specs.Holds.{kindByte}
-use Rattle.whole.specs.Kinds.{deeper, ends}
+use Rattle.whole.specs.Kinds.{ends}
 use Rattle.whole.specs.Reading.{Kinded, next-token, no-more}
-use Rattle.whole.specs.Behind.{behind, ends-here, goes-on, all-passed}
+use Rattle.table.specs.Laws.Scans.{scan-found, scan-on, scan-end}
+use Rattle.whole.specs.Behind.{behind}
 use Rattle.whole.proofs.kinds.end_of.Statement.{statement}
 use Rattle.whole.proofs.kinds.end_of.Tie as tie
+use Rattle.table.specs.Scans.{deeper}
 
 record Inv (records : List ℕ) (n from d i : ℕ) : Type 0 where
   pub low : d + from ≤ i
@@ -24,7 +26,7 @@ module _ {records : List ℕ} {n from d i : ℕ} (inv : Inv records n from d i) 
   found h e q t v =
       let x = next-token v i h in
       let y : ends d _ ≡ true = sym (ap (ends d) (e ∙ v .kind i h)) ∙ (sym q ∙ t) in
-      x ∙ (sym (ends-here d _ _ y) ∙ (sym (ap (behind d) x) ∙ inv .left v))
+      x ∙ (sym (scan-found 0 d _ _ y) ∙ (sym (ap (behind d) x) ∙ inv .left v))
 
   passed : {k e : ℕ} {r : Bool} → i < n → k ≡ kindByte records i → r ≡ ends d k → r ≡ false → e ≡ deeper d k → e ≤ d + 1 → Inv records n from e (i + 1)
   passed h q s f e l = record {
@@ -34,11 +36,11 @@ module _ {records : List ℕ} {n from d i : ℕ} (inv : Inv records n from d i) 
         let x = next-token v i h in
         let y : ends d _ ≡ false = sym (ap (ends d) (q ∙ v .kind i h)) ∙ (sym s ∙ f) in
         ap (λ (z : ℕ). behind z (drop (i + 1) (v .tokens))) (e ∙ ap (deeper d) (q ∙ v .kind i h))
-        ∙ (sym (goes-on d _ _ y) ∙ (sym (ap (behind d) x) ∙ inv .left v));
+        ∙ (sym (scan-on 0 d _ _ y) ∙ (sym (ap (behind d) x) ∙ inv .left v));
   }
 
   ended : n ≤ i → (v : Kinded records n) → drop i (v .tokens) ≡ behind 0 (drop from (v .tokens))
-  ended h v = let x = no-more v i h in x ∙ (sym (all-passed d) ∙ (sym (ap (behind d) x) ∙ inv .left v))
+  ended h v = let x = no-more v i h in x ∙ (sym (scan-end 0 d) ∙ (sym (ap (behind d) x) ∙ inv .left v))
 
 abbrev Inv-loop : tie.InvT-loop
 Inv-loop records n from d₀ i₀ d i = Inv records n from d i

@@ -2,9 +2,10 @@
 use mathlib.Core.Path.{sym, ap}
 use mathlib.Core.List.{_∷_, []}
 use Rattle.rules.specs.Whole.Sets.{member}
-use Rattle.whole.specs.Kinds.{stores, missing}
+use Rattle.whole.specs.Kinds.{stores}
 use Rattle.whole.proofs.kinds.stores.Statement.{statement}
 use Rattle.whole.proofs.kinds.stores.Tie as tie
+use Rattle.table.specs.Laws.Scans.{missing}
 
 pub stores-spec : {M : Type 1} → statement M
 unfolding stores member

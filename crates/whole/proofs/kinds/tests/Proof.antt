@@ -2,9 +2,10 @@
 use mathlib.Core.Path.{sym, ap}
 use mathlib.Core.List.{_∷_, []}
 use Rattle.rules.specs.Whole.Sets.{member}
-use Rattle.whole.specs.Kinds.{tests, missing}
+use Rattle.whole.specs.Kinds.{tests}
 use Rattle.whole.proofs.kinds.tests.Statement.{statement}
 use Rattle.whole.proofs.kinds.tests.Tie as tie
+use Rattle.table.specs.Laws.Scans.{missing}
 
 pub tests-spec : {M : Type 1} → statement M
 unfolding tests member

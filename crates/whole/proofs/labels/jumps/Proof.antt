@@ -2,7 +2,7 @@
 use mathlib.Core.Path.{sym, ap}
 use mathlib.Core.List.{_∷_, []}
 use Rattle.rules.specs.Whole.Sets.{member}
-use Rattle.whole.specs.Kinds.{missing}
+use Rattle.table.specs.Laws.Scans.{missing}
 use Rattle.whole.specs.Walks.{jumps}
 use Rattle.whole.proofs.labels.jumps.Statement.{statement}
 use Rattle.whole.proofs.labels.jumps.Tie as tie

@@ -3,6 +3,7 @@ use borrow.Author.Needs.{needs}
 use mathlib.Core.Path.{sym}
 use native.Mathlib.Omega.{arith}
 use lib.Seq.{length-take-le}
+use Rattle.table.specs.Room.{labelsFrom}
 use Rattle.whole.specs.Written.{reading, worded}
 use Rattle.whole.specs.WalkKeys.{memo-room, all-labels, fault-group, fault-jump}
 use Rattle.whole.proofs.walks.fault_at.Statement.{statement}
@@ -13,7 +14,7 @@ fault-at-spec =
     tie.close
     (tie.spec
     (λ c κs. search needs)
-    (λ c. sym (length-take-le 18432 (c .before .before .before .before .before .before .before .args .room .now)
+    (λ c. sym (length-take-le labelsFrom (c .before .before .before .before .before .before .before .args .room .now)
     (omega (arith, c .before .before .before .before .before .before .before .pre .roomy .size))))
     (λ c. search needs)
     (λ c κs. (

@@ -1,9 +1,0 @@
--- `links::scans::halts` meets its contract: inside a block the search goes on.
--- Assumes nothing.
-use borrow.Author.Needs.{needs}
-use Rattle.links.specs.Scans.{halts-top, halts-inside}
-use Rattle.links.proofs.scans.halts.Statement.{statement}
-use Rattle.links.proofs.scans.halts.Tie as tie
-
-pub halts-spec : {M : Type 1} → statement M
-halts-spec = tie.close (tie.spec (λ c κs. search needs) (λ c. search (needs, halts-top)) (λ c. search (needs, halts-inside)))

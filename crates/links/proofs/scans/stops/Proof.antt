@@ -1,9 +1,0 @@
--- `links::scans::stops` meets its contract.
--- Assumes nothing.
-use borrow.Author.Needs.{needs}
-use Rattle.links.specs.Scans.{stops-any, stops-one}
-use Rattle.links.proofs.scans.stops.Statement.{statement}
-use Rattle.links.proofs.scans.stops.Tie as tie
-
-pub stops-spec : {M : Type 1} → statement M
-stops-spec = tie.close (tie.spec (λ c κs. search needs) (λ c. search (needs, stops-any)) (λ c. search (needs, stops-one)))

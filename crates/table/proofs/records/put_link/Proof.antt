@@ -1,0 +1,10 @@
+-- `table::records::put_link` meets its contract: the fourth cell of two bytes of a record.
+-- Assumes nothing.
+use borrow.Author.Needs.{needs}
+use Rattle.table.specs.Laws.Kept.{link-put}
+use Rattle.table.proofs.records.put_link.Statement.{statement}
+use Rattle.table.proofs.records.put_link.Tie as tie
+
+pub put-link-spec : {M : Type 1} → statement M
+put-link-spec =
+    tie.close (tie.spec (λ c. search needs) (λ c. search needs) (λ c. search needs) (λ c κs. search needs) (λ c. search needs) (λ c. search (needs, link-put)))

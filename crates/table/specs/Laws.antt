@@ -1,0 +1,4 @@
+pub mod Kept
+pub mod Operators
+pub mod Kth
+pub mod Scans
