@@ -1,5 +1,1 @@
-pub mod Spelling
-pub mod Arrays
-pub mod Storage
-pub mod Tables
 pub mod Reading

@@ -1,16 +1,13 @@
 // Runs the description on standard input from zero carriers, and writes how the run ended and the words that it left.
-mod listing;
-mod names;
-mod words;
 
-use crate::listing::put_listing;
+use asking::carrier_bytes;
+use asking::check;
+use asking::run;
 use lines::answers::Answer;
 use lines::answers::REFUSED;
 use lines::bytes::put_byte;
-use lines::calls::carrier_bytes;
-use lines::calls::check;
-use lines::calls::run;
 use lines::endings::put_ending;
+use listing::listing::put_listing;
 use reader::declaring::Standing;
 use reader::declaring::read;
 ghost use Prim.Native.Nat.{_≤_};

@@ -19,7 +19,8 @@ use Rattle.expressions.specs.Scene.{ExpressionAt, ExpressionAnswer}
 use Rattle.expressions.specs.declared.Judged.{Judged as Value}
 use Rattle.bodies.specs.declared.Walked.{Walked}
 use Rattle.bodies.specs.declared.prefixes.Prefixed.{Prefixed}
-use Rattle.bodies.specs.Stacks.{Kept, kept-all, kept-then, kept-less}
+use Rattle.bodies.specs.Stacks.{Kept}
+use Rattle.bodies.specs.Laws.Stacks.{kept-all, kept-then, kept-less}
 use Rattle.bodies.specs.Actions.{labelCells, levelBase, ActionView, ActionAnswer, Simple, IsBlock, IsDecode}
 use Rattle.bodies.specs.Choices.{withStart, StartsView, OverlapAnswer, BehindView, BehindAnswer}
 use Rattle.bodies.specs.Alternatives.{isSelector, IsCounted, IsSelected, ChoicesView, ChoicesAnswer}

@@ -9,7 +9,7 @@ use Rattle.rules.specs.Grammar.Trees.{Members, Alternatives, Action, block, lab
 use Rattle.rules.specs.Limits.{deepest}
 use Rattle.rules.specs.Faults.Fault.{Fault}
 use Rattle.rules.specs.Faults.Bodies.{actionFaults}
-use Rattle.laws.specs.Grammar.Nesting.{actionNest}
+use Rattle.laws_grammar.specs.Cited.Nesting.{actionNest}
 use Rattle.table.specs.Keys.{leastKey}
 use Rattle.bodies.specs.declared.Walked.{Walked}
 use Rattle.bodies.specs.Stage.{Stage, outerOf, tableOf}

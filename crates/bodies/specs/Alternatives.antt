@@ -10,7 +10,7 @@ use Rattle.rules.specs.Grammar.Trees.{Tokens, Action, Counted, Selected, Altern
 use Rattle.rules.specs.Limits.{mostBits, deepest}
 use Rattle.rules.specs.Faults.Fault.{Fault}
 use Rattle.rules.specs.Faults.Bodies.{alternativesFaults, insideFaults}
-use Rattle.laws.specs.Grammar.Nesting.{alternativesNest}
+use Rattle.laws_grammar.specs.Cited.Nesting.{alternativesNest}
 use Rattle.table.specs.Keys.{leastKey}
 use Rattle.bodies.specs.declared.Walked.{Walked}
 use Rattle.bodies.specs.Stage.{Stage, outerOf, tableOf}

@@ -8,7 +8,7 @@ use Rattle.rules.specs.Limits.{deepest}
 use Rattle.rules.specs.Declarations.{declaredOf}
 use Rattle.rules.specs.Faults.Fault.{Fault}
 use Rattle.rules.specs.Faults.Bodies.{bodyFaults, faults40}
-use Rattle.laws.specs.Grammar.Nesting.{declarationNest}
+use Rattle.laws_grammar.specs.Cited.Nesting.{declarationNest}
 use Rattle.table.specs.Declarations.{DeclaredAt}
 use Rattle.bodies.specs.Stage.{Stage, outerOf, tableOf}
 use Rattle.bodies.specs.Actions.{levelBase}

@@ -11,7 +11,7 @@ use Rattle.rules.specs.Declarations.{numberOf}
 use Rattle.rules.specs.Faults.Fault.{Fault, when}
 use Rattle.rules.specs.Faults.Declared.{isKnown, declaredAt}
 use Rattle.rules.specs.Faults.Bodies.{activated, actionFaults}
-use Rattle.laws.specs.Grammar.Nesting.{actionNest}
+use Rattle.laws_grammar.specs.Cited.Nesting.{actionNest}
 use Rattle.table.specs.Holds.{tokenAt}
 use Rattle.table.specs.Keys.{leastKey}
 use Rattle.table.specs.Words.{NameAt, wordAt}

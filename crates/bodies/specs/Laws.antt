@@ -1,3 +1,4 @@
+-- The laws of bodies.
 pub mod Labels
 pub mod Known
 pub mod Passes
@@ -20,3 +21,5 @@ pub mod All
 pub mod Places
 pub mod Small
 pub mod Fixed
+pub mod Stage
+pub mod Stacks

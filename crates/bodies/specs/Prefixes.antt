@@ -4,7 +4,7 @@ use mathlib.Core.Path.{_≡_}
 use mathlib.Core.List.{List, _∷_}
 use lib.ListN.{drop}
 use Rattle.rules.specs.Grammar.Trees.{Action, block, labelled, if-then, decode, repeat, leave, restart, activate, stop, no-op, transfer, actionTokens}
-use Rattle.laws.specs.Grammar.Nesting.{actionNest}
+use Rattle.laws_grammar.specs.Cited.Nesting.{actionNest}
 use Rattle.table.specs.Keys.{leastKey}
 use Rattle.bodies.specs.declared.prefixes.Prefixed.{Prefixed}
 use Rattle.bodies.specs.Stacks.{Stacked}

@@ -8,8 +8,6 @@ use Rattle.rules.specs.Grammar.Trees.{Tokens, Description}
 use Rattle.rules.specs.Declarations.{Name as Word, Table, declarations, outerName}
 use Rattle.table.specs.Holds.{tokenAt}
 use Rattle.table.specs.Ready.{Ready}
-use Rattle.selectors.specs.Stands.{Held}
-use Rattle.expressions.specs.Scene.{Scene}
 
 pub record Stage (text records values decls : List ℕ) : Type 0 where
   pub tokens : Tokens
@@ -24,10 +22,3 @@ module _ {text records values decls : List ℕ} (s : Stage text records values d
 
   abbrev pub tableOf : Table
   tableOf = declarations (s .description)
-
-  -- as the expressions see it, and as the selectors do
-  abbrev pub sceneOf : Scene records values decls
-  sceneOf = record { text = text; tokens = s .tokens; description = s .description; count = s .declared; ready = s .ready }
-
-  abbrev pub heldOf : Held records values (s .tokens)
-  heldOf = record { text = text; holds = s .ready .holds; fixed = s .fixed }

@@ -1,1 +1,2 @@
+-- The laws of checking.
 pub mod Checked

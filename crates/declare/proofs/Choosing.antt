@@ -19,7 +19,7 @@ use Rattle.table.specs.Holds.{tokenAt}
 use Rattle.table.specs.Declarations.{DeclaredAt, declarationList}
 use Rattle.table.specs.Words.{NameAt, wordAt, TwoNames, sameWords}
 use Rattle.table.specs.Views.{View}
-use Rattle.table.specs.ViewLaws.{name-token}
+use Rattle.table.specs.Laws.Views.{name-token}
 use Rattle.table.specs.Lookups.{DeclsHold, Known, orElse, firstOf}
 use Rattle.declare.specs.Faults.{knownBehind}
 use Rattle.declare.specs.Listed.{Listed, outerOf, tableOf, knownOf, Chosen, chosenOf}

@@ -11,7 +11,7 @@ use lib.ListN.{length}
 use Rattle.rules.specs.Text.Tokens.{Name, kindNo, kindAt}
 use Rattle.rules.specs.Text.Scan.{sameBytes}
 use Rattle.rules.specs.Declarations.{Name as Word}
-use Rattle.laws.specs.Grammar.Kinds.{kindAt-kindNo}
+use Rattle.laws_grammar.specs.Grammar.Kinds.{kindAt-kindNo}
 use Rattle.table.specs.Holds.{kindByte, tokenAt, insideCell}
 use Rattle.table.specs.Kept.{InsidePut}
 use Rattle.table.specs.Laws.Kept.{holds-kept}

@@ -22,12 +22,13 @@ use Rattle.table.specs.Laws.Kth.{table-from}
 use Rattle.table.specs.Holds.{placeCell, tokenAt}
 use Rattle.table.specs.Declarations.{declarationList}
 use Rattle.table.specs.Views.{View}
-use Rattle.table.specs.ViewLaws.{name-token}
+use Rattle.table.specs.Laws.Views.{name-token}
 use Rattle.table.specs.Lookups.{nth}
 use Rattle.table.specs.Keys.{key, noKey, leastKey, leastBy}
-use Rattle.declare.specs.Faults.{knownBehind, isLarge, isTooMany, numberOr, ownNumber, faultsFrom}
-use Rattle.declare.specs.Earliest.{Within, none-within, also-within, passed-on, first-fault}
-use Rattle.declare.specs.Lawful.{both-false}
+use Rattle.declare.specs.Faults.{knownBehind, isLarge, isTooMany, numberOr, ownNumber}
+use Rattle.declare.specs.Laws.Faults.{faultsFrom}
+use Rattle.declare.specs.Laws.Earliest.{Within, none-within, also-within, passed-on, first-fault}
+use Rattle.declare.specs.Laws.Lawful.{both-false}
 use Rattle.declare.specs.Listed.{Listed, outerOf, tableOf, knownOf, Chosen, chosenOf, SmallView}
 use Rattle.declare.proofs.Gathering.{element-within}
 use Rattle.declare.proofs.Choosing.{chosen-view}

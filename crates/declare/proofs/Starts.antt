@@ -15,9 +15,10 @@ use Rattle.rules.specs.Grammar.Trees.{Tokens, Heading, no-heading, heading, Dec
 use Rattle.rules.specs.Grammar.Trees.{Declarations, declared-all, declared-also, declarationsTokens}
 use Rattle.rules.specs.Grammar.Verdict.{opens, closes, counted-by, count}
 use Rattle.table.specs.Holds.{kindByte, tokenAt, Holds}
-use Rattle.table.specs.Positions.{far, token-far, behind-far, kind-far, record-within}
+use Rattle.table.specs.Laws.Positions.{far, token-far, behind-far, kind-far, record-within}
 use Rattle.table.specs.Declarations.{nameTokens}
-use Rattle.declare.specs.Skipping.{ends, behindIt, others-behind}
+use Rattle.declare.specs.Skipping.{ends}
+use Rattle.declare.specs.Laws.Skipping.{behindIt, others-behind}
 use Rattle.declare.specs.Finding.{Begins, Named, Follow, Beginning, Naming}
 
 -- the first token of a list, and that it stands in a table

@@ -13,7 +13,7 @@ use Rattle.rules.specs.Text.Scan.{sameBytes}
 use Rattle.rules.specs.Grammar.Trees.{Tokens}
 use Rattle.rules.specs.Declarations.{declaredOf, Target, numberOf}
 use Rattle.rules.specs.Faults.Declared.{goodTarget, declaredAt, badMapping}
-use Rattle.table.specs.Laws.Kth.{map-found}
+use Rattle.table.specs.Kth.{map-found}
 use Rattle.table.specs.Declarations.{declarationList}
 use Rattle.table.specs.Words.{NameAt, wordAt, TwoNames, sameWords}
 use Rattle.table.specs.Views.{View, TargetAt}

@@ -8,13 +8,14 @@ use lib.ListN.{length, length-map}
 use Rattle.rules.specs.Limits.{deepest}
 use Rattle.rules.specs.Declarations.{declaredOf, outerName, declarations}
 use Rattle.rules.specs.Faults.Declared.{faults30}
-use Rattle.laws.specs.Grammar.Nesting.{nest}
+use Rattle.laws_grammar.specs.Cited.Nesting.{nest}
 use Rattle.table.specs.Declarations.{declarationList, all-declared}
-use Rattle.table.specs.Keys.{noKey, leastKey, Smalls, by-place, no-fault, place-first, place-near}
+use Rattle.table.specs.Keys.{noKey, leastKey, Smalls}
+use Rattle.table.specs.Laws.Keys.{by-place, no-fault, place-first, place-near}
 use Rattle.table.specs.Ready.{Ready}
 use Rattle.declare.specs.Finding.{Described, Found}
-use Rattle.declare.specs.Earliest.{faults-small}
-use Rattle.declare.specs.Lawful.{lawful-count}
+use Rattle.declare.specs.Laws.Earliest.{faults-small}
+use Rattle.declare.specs.Laws.Lawful.{lawful-count}
 use Rattle.declare.specs.Listed.{Listed, outerOf, tableOf}
 use Rattle.declare.specs.Resolving.{ResolvedTo}
 use Rattle.declare.specs.Told.{Least}

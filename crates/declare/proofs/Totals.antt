@@ -13,7 +13,7 @@ use Rattle.rules.specs.Limits.{mostWords}
 use Rattle.table.specs.Views.{View}
 use Rattle.table.specs.Ready.{Ready}
 use Rattle.table.specs.Laws.Kth.{table-length, kth-next, kth-view}
-use Rattle.declare.specs.Lawful.{lawful-words}
+use Rattle.declare.specs.Laws.Lawful.{lawful-words}
 
 pub record Summed (records values decls : List ℕ) (m total k : ℕ) : Type 0 where
   pub within : k ≤ m

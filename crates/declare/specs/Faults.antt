@@ -1,11 +1,10 @@
--- The faults of the 30s declaration by declaration: the tests of one, and the faults from one on.
+-- The tests of the 30s for one declaration.
 use Prim.Native.Nat.{ℕ, _+_}
 use mathlib.Core.Bool.{Bool, true, false, _||_}
-use mathlib.Core.List.{List, [], _∷_, _++_}
+use mathlib.Core.List.{List, [], _∷_}
 use lib.Dec.{ltb}
 use Rattle.rules.specs.Declarations.{Name, Declared, Table, wordsOf}
-use Rattle.rules.specs.Faults.Fault.{Fault}
-use Rattle.rules.specs.Faults.Declared.{isKnown, twice, largeBits, largeWords, large, tooMany, badMapping, mappings}
+use Rattle.rules.specs.Faults.Declared.{isKnown, largeBits, largeWords, badMapping}
 use Rattle.rules.specs.Limits.{mostDeclarations, mostWords}
 
 -- the names that are known behind declarations, the latest first
@@ -30,7 +29,3 @@ unfoldable pub ownNumber : Name → Table → List Name → ℕ → ℕ → Decl
 ownNumber outer all known n w d =
     numberOr (isKnown (d .name .word) known) 30
     (numberOr (isLarge d) 31 (numberOr (isTooMany n w d) 32 (numberOr (badMapping outer all d (d .target)) 33 0)))
-
--- the faults from there on
-unfoldable pub faultsFrom : Name → Table → List Name → ℕ → ℕ → Table → List Fault
-faultsFrom outer all known n w ds = twice known ds ++ (large ds ++ (tooMany n w ds ++ mappings outer all ds))

@@ -1,10 +1,8 @@
 pub mod Skipping
 pub mod Finding
 pub mod Faults
-pub mod Earliest
 pub mod Spans
 pub mod Listed
 pub mod Resolving
-pub mod Lawful
-pub mod Small
 pub mod Told
+pub mod Laws

@@ -1,14 +1,10 @@
 -- Names of words and bits, as the code hands them about, against the tests of the 30s.
--- Assumes nothing.
 use Prim.Native.Nat.{ℕ}
-use mathlib.Core.Path.{_≡_, refl}
-use mathlib.Core.Bool.{Bool, true, false, _&&_, _||_, and-false}
-use mathlib.Core.Option.{Option, none, some}
+use mathlib.Core.Bool.{Bool, true, false, _&&_, _||_}
 use lib.Dec.{ltb, eqb}
 use Rattle.rules.specs.Limits.{mostBits}
-use Rattle.rules.specs.Declarations.{names, howMany, Names as Span-of, BitNames, one-unnamed, these, bitCount, Target, storageWords}
-use Rattle.rules.specs.Faults.Declared.{farNames, largeBits, largeWords, inside, fits}
-use Rattle.table.specs.Shown.{shownWords, shownBits, shownTarget}
+use Rattle.rules.specs.Declarations.{names, howMany, Names as Span-of, these}
+use Rattle.rules.specs.Faults.Declared.{farNames, inside}
 use Rattle.table.specs.declared.views.Names.{Names}
 use Rattle.table.specs.declared.views.Names.the-variants.{Missing, Unnamed, Span}
 
@@ -22,15 +18,6 @@ abbrev pub largeShown : Names → Bool
 largeShown Missing = false
 largeShown Unnamed = false
 largeShown (Span l r) = ltb mostBits (howMany (names l r)) || farNames (names l r)
-
-pub far-shown : (o : Option Span-of) → farShown (shownWords o) ≡ largeWords o
-far-shown none = refl
-far-shown (some s) = refl
-
-pub large-shown : (o : Option BitNames) → largeShown (shownBits o) ≡ largeBits o
-large-shown none = refl
-large-shown (some one-unnamed) = refl
-large-shown (some (these s)) = refl
 
 abbrev pub missingShown : Names → Bool
 missingShown Missing = true
@@ -60,26 +47,6 @@ fitsShown Missing b s = false
 fitsShown Unnamed b s = false
 fitsShown (Span l r) b s = fitsIn (names l r) b s
 
-pub fits-shown : (c b : Option BitNames) (t : Target) → fitsShown (shownBits c) (shownBits b) (shownTarget (some t)) ≡ fits c b (t .bits)
-unfolding bitCount inside
-fits-shown none none t = refl
-fits-shown none (some one-unnamed) t = refl
-fits-shown none (some (these x)) t = refl
-fits-shown (some one-unnamed) none t = refl
-fits-shown (some one-unnamed) (some one-unnamed) t = refl
-fits-shown (some one-unnamed) (some (these x)) t = refl
-fits-shown (some (these s)) none t = and-false (inside (these s) (t .bits))
-fits-shown (some (these s)) (some one-unnamed) t = refl
-fits-shown (some (these s)) (some (these x)) t = refl
-
 -- the words of a declaration that is no mapping
 abbrev pub storageShown : Names → Names → ℕ
 storageShown b w = elim (missingShown b) [ true ↦ 0 | false ↦ countShown w ]
-
-pub storage-shown : (b : Option BitNames) (w : Option Span-of) → storageShown (shownBits b) (shownWords w) ≡ storageWords none b w
-unfolding storageWords
-storage-shown none w = refl
-storage-shown (some one-unnamed) none = refl
-storage-shown (some one-unnamed) (some s) = refl
-storage-shown (some (these b)) none = refl
-storage-shown (some (these b)) (some s) = refl

@@ -12,7 +12,7 @@ use table::keys::NO_KEY;
 ghost use Prim.Native.Nat.{_*_, _≤_};
 ghost use lib.ListN.{length};
 ghost use Rattle.rules.specs.Limits.{deepest, mostTokens};
-ghost use Rattle.laws.specs.Grammar.Nesting.{nest};
+ghost use Rattle.laws_grammar.specs.Cited.Nesting.{nest};
 ghost use Rattle.declare.specs.Finding.{Described};
 ghost use Rattle.declare.specs.Told.{Told};
 

@@ -1,11 +1,8 @@
 // Expressions, tests and transfers of an accepted text, worked out over the carriers: a lent buffer with 8 bytes for each word.
-pub mod accesses;
-pub mod expressions;
-pub mod operators;
 pub mod transfers;
 
-use expressions::Evaluated;
-use expressions::expression;
+use operands::expressions::Evaluated;
+use operands::expressions::expression;
 ghost use Rattle.evaluation.specs.Tests.{TestAt, TestAnswer};
 
 // The test of the IF or the DECODE at n.

@@ -1,17 +1,17 @@
 // Transfers: the right side is worked out first, then the subscripts of the destination, then the stores; all from left to right.
-use crate::accesses::Located;
-use crate::expressions::Evaluated;
-use crate::expressions::access;
-use crate::expressions::expression;
 use cells::get64;
 use cells::put64;
+use operands::accesses::Located;
+use operands::expressions::Evaluated;
+use operands::expressions::access;
+use operands::expressions::expression;
 use table::records::inside_at;
 use values::fields::part;
 use values::fields::with_field;
 ghost use mathlib.Core.Path.{_≡_};
 ghost use Prim.Native.Nat.{_+_, _*_, _<_, _≤_};
 ghost use lib.ListN.{length};
-ghost use Rattle.evaluation.specs.Cells.{cellFirst, cellLow, cellBits};
+ghost use Rattle.operands.specs.Cells.{cellFirst, cellLow, cellBits};
 ghost use Rattle.evaluation.specs.Stores.{Put, StoresAt, StoresAnswer};
 ghost use Rattle.evaluation.specs.Gathering.{GatherAt, GatherAnswer};
 ghost use Rattle.evaluation.specs.Transfers.{AssignAt, AssignAnswer, JoinedAnswer, TransferAt, TransferAnswer};

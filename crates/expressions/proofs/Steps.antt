@@ -13,17 +13,17 @@ use Rattle.rules.specs.Grammar.Precedence.{Factor}
 use Rattle.rules.specs.Faults.Bodies.{Judged}
 use Rattle.table.specs.Holds.{kindByte, sizeByte}
 use Rattle.table.specs.Keys.{noKey}
-use Rattle.table.specs.Positions.{here}
+use Rattle.table.specs.Laws.Positions.{here}
 use Rattle.expressions.specs.declared.Judged.{Judged as Answer}
 use Rattle.table.specs.Operators.{tightnessAt}
 use Rattle.expressions.specs.Scene.{Scene, Answers, ExpressionAt, ExpressionAnswer, OperandAt, OperandAnswer, AccessAt, AccessAnswer}
 use Rattle.expressions.specs.Names.{NamedAt, NamedAnswer}
-use Rattle.expressions.specs.Accesses as accesses
-use Rattle.expressions.specs.Operands as operands
+use Rattle.expressions.specs.Laws.Accesses as accesses
+use Rattle.expressions.specs.Laws.Operands as operands
 use Rattle.expressions.specs.Operands.{OperandIn, Bared}
 use Rattle.expressions.specs.Settling.{SettleAt, Settles}
-use Rattle.expressions.specs.Expressions as chains
-use Rattle.expressions.specs.Expressions.{Going}
+use Rattle.expressions.specs.Laws.Expressions as chains
+use Rattle.expressions.specs.Laws.Expressions.{Going}
 
 -- the token behind an answer
 next-few : {records values decls : List ℕ} (s : Scene records values decls) {n : Token} {rest : Tokens} {i : ℕ} {j : Judged} {r : Answer}

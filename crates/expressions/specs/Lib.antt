@@ -1,15 +1,11 @@
-pub mod Tests
 pub mod Weights
 pub mod Scene
 pub mod Operands
-pub mod Lookups
 pub mod Lengths
 pub mod Names
 pub mod Chains
 pub mod Settling
-pub mod Expressions
-pub mod Accesses
 pub mod Carriers
 pub mod Owners
 pub mod Destinations
-pub mod Sound
+pub mod Laws

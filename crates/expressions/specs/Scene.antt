@@ -9,7 +9,7 @@ use Rattle.rules.specs.Grammar.Trees.{Tokens, Bits, bitsTokens, Operand, operan
 use Rattle.rules.specs.Grammar.Precedence.{factorOf, exprOf}
 use Rattle.rules.specs.Declarations.{Name as Word, Table, declarations, outerName}
 use Rattle.rules.specs.Faults.Bodies.{Judged, judge, judgeFactor, judgeDestination}
-use Rattle.laws.specs.Grammar.Nesting.{operandNest, tailNest, subscriptNest}
+use Rattle.laws_grammar.specs.Cited.Nesting.{operandNest, tailNest, subscriptNest}
 use Rattle.table.specs.Ready.{Ready}
 use Rattle.table.specs.Operators.{endsAccess, endsExpression}
 use Rattle.expressions.specs.Weights.{Weighs}

@@ -13,7 +13,7 @@ use lib.ListN.{length, getD, drop}
 use lib.Seq.{getD-drop}
 use Rattle.rules.specs.Text.Tokens.{Kind, Name, kinds, kindAt}
 use Rattle.rules.specs.Grammar.Verdict.{both}
-use Rattle.laws.specs.Grammar.Rows.{State, Move, go, open-to, shut, Row, row, lookup}
+use Rattle.laws_grammar.specs.Cited.Rows.{State, Move, go, open-to, shut, Row, row, lookup}
 use Rattle.grammar.specs.Places.{place}
 use Rattle.grammar.specs.Entries.{moveNo, Says, Ruled, nextOf}
 use Rattle.grammar.specs.declared.Next.{Next}

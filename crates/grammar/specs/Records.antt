@@ -6,8 +6,8 @@ use lib.ListN.{length, getD}
 use Rattle.rules.specs.Text.Tokens.{tk, Name, kindNo}
 use Rattle.rules.specs.Grammar.Trees.{Tokens}
 use Rattle.rules.specs.Grammar.Verdict.{blank}
-use Rattle.laws.specs.Grammar.Answer.{Answer, accepted, refused20, refused21}
-use Rattle.laws.specs.Grammar.Rows.{recognise}
+use Rattle.laws_grammar.specs.Cited.Answer.{Answer, accepted, refused20, refused21}
+use Rattle.laws_grammar.specs.Cited.Rows.{recognise}
 use Rattle.grammar.specs.declared.Recognised.{Recognised}
 use Rattle.grammar.specs.declared.Recognised.the-variants.{Accepted, Refused20, Refused21}
 

@@ -7,7 +7,7 @@ use table::TITLE;
 ghost use mathlib.Core.Path.{_≡_};
 ghost use Prim.Native.Nat.{_<_};
 ghost use Rattle.rules.specs.Text.Tokens.{kindAt};
-ghost use Rattle.laws.specs.Grammar.Rows.{State, row, lookup};
+ghost use Rattle.laws_grammar.specs.Cited.Rows.{State, row, lookup};
 ghost use Rattle.grammar.specs.Places.{place};
 ghost use Rattle.grammar.specs.Entries.{Ruled, nextOf};
 ghost use Rattle.grammar.specs.Records.{Records, Answers, kindByte};

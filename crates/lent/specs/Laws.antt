@@ -1,3 +1,4 @@
+-- The laws of lent.
 pub mod Bytes
 pub mod Measured
 pub mod Settled

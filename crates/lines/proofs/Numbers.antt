@@ -8,7 +8,8 @@ use native.Mathlib.Omega.{arith}
 use borrow.Author.Tests.{lt-ltb, le-ltb}
 use lib.Dec.{ltb}
 use lib.ListN.{length, length-append}
-use Rattle.lines.specs.Appended.{Appended, nothing-more, and-then}
+use Rattle.lines.specs.Appended.{Appended}
+use Rattle.lines.specs.Laws.Appended.{nothing-more, and-then}
 use Rattle.lines.specs.Digits.{decimalIn, hexDigit, hexIn}
 
 pub decimal-short : (k n : ℕ) → length (decimalIn k n) ≤ k

@@ -6,7 +6,8 @@ use native.Mathlib.Omega.{arith}
 use native.Mathlib.Numerals.{add-one}
 use lib.ListN.{length, getD, drop, length-drop, drop-of-length-le}
 use lib.Seq.{drop-cons}
-use Rattle.lines.specs.Appended.{Appended, Left, less-left, none-left}
+use Rattle.lines.specs.Appended.{Appended}
+use Rattle.lines.specs.Laws.Appended.{Left, less-left, none-left}
 
 module _ {before now : List ℕ} {start at : ℕ} (more : List ℕ) (k : ℕ) (l : Left before now start at more (drop k more)) where
   pub room-left : k < length more → start + length more ≤ length before → at < length now

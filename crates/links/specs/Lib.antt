@@ -1,13 +1,4 @@
-pub mod Seeking
-pub mod Ends
-pub mod Forms
-pub mod Firsts
-pub mod Linked
-pub mod Stack
-pub mod Standing
-pub mod Prefixes
 pub mod Leaves
-pub mod Turns
 pub mod Setting
 pub mod Members
 pub mod Choices
@@ -15,9 +6,5 @@ pub mod Actions
 pub mod Layout
 pub mod Links
 pub mod Bodies
-pub mod Sound
 pub mod Mains
-pub mod Codes
-pub mod Numbers
-pub mod Instructed
-pub mod Promised
+pub mod Laws

@@ -7,13 +7,13 @@ use lib.ListN.{length, getElem?}
 use Rattle.cells.specs.Cells.{cell}
 use Rattle.rules.specs.Grammar.Trees.{Tokens, Action, Declaration, Description}
 use Rattle.rules.specs.Declarations.{Name as Word, Table, declaredOf, declarations, outerName}
-use Rattle.laws.specs.Orders.Flat.{exit, outer, bind}
-use Rattle.laws.specs.Links.Code.{firstOf}
-use Rattle.laws.specs.Links.Placed.{bodyStarts}
+use Rattle.laws_orders.specs.Cited.Flat.{exit, outer, bind}
+use Rattle.laws_code.specs.Cited.Code.{firstOf}
+use Rattle.laws_code.specs.Cited.Placed.{bodyStarts}
 use Rattle.table.specs.Declarations.{declarationList}
 use Rattle.table.specs.Holds.{linkCell}
 use Rattle.table.specs.Kept.{Kept}
-use Rattle.links.specs.Linked.{Linked}
+use Rattle.ways.specs.Linked.{Linked}
 
 -- the body of the declaration whose name is the token `name` begins at `start`
 abbrev pub BodyLinked : List ℕ → Word → Table → Word → ℕ → ℕ → Option Action → Type 0

@@ -1,20 +1,20 @@
 // The links of an action and of all inside it. Only BEGIN nests, and `depth` falls with each; members, alternatives and prefixes in a row are loops.
 use crate::leaves::leaf;
-use crate::prefixes::Spot;
-use crate::prefixes::Start;
-use crate::prefixes::behind_prefixes;
-use crate::scans::first_of;
-use crate::scans::seek;
-use crate::separators::separator;
 use table::kinds::ARROW;
 use table::kinds::BEGIN;
 use table::kinds::DECODE;
 use table::kinds::END;
 use table::records::kind_at;
 use table::scans::SEPARATOR;
+use ways::prefixes::Spot;
+use ways::prefixes::Start;
+use ways::prefixes::behind_prefixes;
+use ways::scans::first_of;
+use ways::scans::seek;
+use ways::separators::separator;
 ghost use mathlib.Core.Path.{_≡_};
-ghost use Rattle.links.specs.Seeking.{Ground};
-ghost use Rattle.links.specs.Standing.{ActionAt, Done};
+ghost use Rattle.ways.specs.Seeking.{Ground};
+ghost use Rattle.ways.specs.Standing.{ActionAt, Done};
 ghost use Rattle.links.specs.Members.{MembersAt, MemberAnswer};
 ghost use Rattle.links.specs.Choices.{TurnsAt, TurnAnswer};
 ghost use Rattle.links.specs.Actions.{BlockAt, ChoiceAt};

@@ -1,18 +1,18 @@
 // The bodies of a description: each is linked with its own name as the outermost label, and its name leads to its first instruction.
 use crate::actions::action;
-use crate::labels::push;
-use crate::prefixes::Spot;
-use crate::scans::first_of;
 use cells::get16;
 use table::records::put_link;
 use table::views::body_of;
+use ways::labels::push;
+use ways::prefixes::Spot;
+use ways::scans::first_of;
 ghost use mathlib.Core.List.{List};
 ghost use Prim.Native.Nat.{ℕ, _+_, _*_, _≤_};
 ghost use lib.ListN.{length};
 ghost use Rattle.rules.specs.Limits.{mostTokens};
 ghost use Rattle.rules.specs.Grammar.Trees.{Tokens, Description};
 ghost use Rattle.table.specs.Ready.{Ready};
-ghost use Rattle.links.specs.Seeking.{Ground};
+ghost use Rattle.ways.specs.Seeking.{Ground};
 ghost use Rattle.links.specs.Links.{Links};
 ghost use Rattle.links.specs.Bodies.{BodyIn, BodyDone, PartlyAt, Partly};
 

@@ -1,9 +1,4 @@
 // The links of an action that has no action inside.
-use crate::labels::BEHIND;
-use crate::labels::START;
-use crate::labels::aim;
-use crate::prefixes::Spot;
-use crate::scans::seek;
 use table::kinds::EQUALS;
 use table::kinds::LEAVE;
 use table::kinds::LPAR;
@@ -13,10 +8,15 @@ use table::kinds::STOP;
 use table::records::kind_at;
 use table::records::put_inside;
 use table::records::put_link;
+use ways::labels::BEHIND;
+use ways::labels::START;
+use ways::labels::aim;
+use ways::prefixes::Spot;
+use ways::scans::seek;
 ghost use mathlib.Core.List.{List};
 ghost use Prim.Native.Nat.{ℕ};
-ghost use Rattle.links.specs.Seeking.{Ground};
-ghost use Rattle.links.specs.Standing.{ActionAt, Done};
+ghost use Rattle.ways.specs.Seeking.{Ground};
+ghost use Rattle.ways.specs.Standing.{ActionAt, Done};
 ghost use Rattle.links.specs.Leaves.{Named, LeafAt};
 
 // An activation, whose record has the number of its declaration already, or a transfer, which leads inside to its `=`.

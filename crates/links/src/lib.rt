@@ -1,9 +1,5 @@
 // Where control goes: each instruction of a body takes into its record where control goes behind it and inside.
 pub mod actions;
 pub mod bodies;
-pub mod labels;
 pub mod leaves;
 pub mod mains;
-pub mod prefixes;
-pub mod scans;
-pub mod separators;

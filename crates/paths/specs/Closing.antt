@@ -7,8 +7,8 @@ use Rattle.rules.specs.Steps.Actions.{Act, seq, par, label, ins, Ins, iff, deco
 use Rattle.rules.specs.Steps.Runs.{bodyAct}
 use Rattle.rules.specs.Whole.Sets.{callsIn, callsI, callsAlts, anyName, chainOver}
 use Rattle.rules.specs.Limits.{longestChain}
-use Rattle.laws.specs.Orders.Orderly.{Orderly}
-use Rattle.laws.specs.Orders.Chains.{none-of, not-this}
+use Rattle.laws_orders.specs.Orders.Orderly.{Orderly}
+use Rattle.laws_orders.specs.Orders.Chains.{none-of, not-this}
 use Rattle.paths.specs.Early.{Report, passed, inTurn, beside, either, inside, turning, activation, early, earlyI, earlyAlts, bodyEarly}
 use Rattle.paths.specs.Reports.{Sub, sub-refl}
 use Rattle.paths.specs.Covered.{Closed}

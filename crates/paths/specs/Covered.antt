@@ -15,8 +15,8 @@ use Rattle.rules.specs.Steps.Control.{Sig, ends, goes, leaves, restarts, stops,
 use Rattle.rules.specs.Steps.Control.{seqS, bothL, bothR, leftS, rightS, labS, loopS, lost, callS, nextI}
 use Rattle.rules.specs.Steps.Runs.{bodyAct}
 use Rattle.rules.specs.Whole.Sets.{member, stores}
-use Rattle.laws.specs.Orders.Tests.{or-neither, or-left, or-right, member-left, member-right, member-either}
-use Rattle.laws.specs.Accepted.Named.{same-equal, same-itself}
+use Rattle.laws_orders.specs.Orders.Tests.{or-neither, or-left, or-right, member-left, member-right, member-either}
+use Rattle.laws_accepted.specs.Accepted.Named.{same-equal, same-itself}
 use Rattle.paths.specs.Paths.{at, OneOf, May, around, isEnd, endsTest, Writes, placeOf}
 use Rattle.paths.specs.Early.{Report, report, nowhere, passed, inTurn, beside, either, inside, turning, activation, written, early, earlyI, earlyAlts}
 use Rattle.paths.specs.Reports.{and-true, Sub, sub-refl, sub-trans, either-left, either-right, turn-second, beside-first, beside-second, turning-sub}

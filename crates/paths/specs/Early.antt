@@ -15,7 +15,7 @@ use Rattle.rules.specs.Whole.Sets.{member, stores}
 use Rattle.rules.specs.Limits.{longestChain}
 use Rattle.rules.specs.Faults.Whole.{mainName}
 use Rattle.rules.specs.Answers.{Verdict, accepted as passes, refused as fails}
-use Rattle.laws.specs.Answers.{descriptionOf, check}
+use Rattle.laws_grammar.specs.Answers.{descriptionOf, check}
 use Rattle.paths.specs.Paths.{placeOf, storageOf, Answer, accepted, refused, folded}
 
 pub record Report : Type 0 where

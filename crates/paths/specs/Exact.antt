@@ -16,8 +16,8 @@ use Rattle.rules.specs.Steps.Runs.{bodyAct}
 use Rattle.rules.specs.Whole.Sets.{member, stores}
 use Rattle.rules.specs.Limits.{longestChain}
 use Rattle.rules.specs.Faults.Whole.{mainName}
-use Rattle.laws.specs.Orders.Tests.{or-either, member-either}
-use Rattle.laws.specs.Accepted.Named.{and-both, same-equal, same-itself}
+use Rattle.laws_orders.specs.Orders.Tests.{or-either, member-either}
+use Rattle.laws_accepted.specs.Accepted.Named.{and-both, same-equal, same-itself}
 use Rattle.paths.specs.Paths.{May, OneOf, spot, Path, outset, placeOf, TooEarly}
 use Rattle.paths.specs.Early.{Report, report, nowhere, passed, inTurn, beside, either, inside, turning, activation, written, early, earlyI, earlyAlts, bodyEarly, earlyPlaces}
 use Rattle.paths.specs.Going.{before, firstOf, secondOf, lastLeft, lastRight, labelled, turn, activated, Goes, Says, Comes, says-in, comes-in, says-on, comes-on, says-once}

@@ -20,7 +20,7 @@ use Rattle.rules.specs.Faults.Declared.{isKnown, twice, large, tooMany, among, 
 use Rattle.rules.specs.Faults.Fault.{leastFrom, least}
 use Rattle.rules.specs.Faults.Whole.{mains, mainName, chains, racesAny, groupFaults, membersOf, alternativesGroups, countedGroups, selectedGroups}
 use Rattle.rules.specs.Faults.Whole.{moreGroups, groupsFaults, faults50}
-use Rattle.laws.specs.Grammar.Blocks.{also-before, groupsOf}
+use Rattle.laws_grammar.specs.Grammar.Blocks.{also-before, groupsOf}
 use Rattle.rules.specs.Grammar.Precedence.{insert-by, insert, inserts, arrange, factorOf, linksOf, indexOf, exprOf}
 use Rattle.rules.specs.Grammar.Verdict.{opens, closes, counted-by, count, opened}
 use Rattle.rules.specs.Selectors.{itemOf, agree, matches, highest, itemsOf, selectorItems, anyMatches, takes}
@@ -37,10 +37,10 @@ use Rattle.rules.specs.Values.{opBits, bitwise, opNumber, operate, notNumber, i
 use Rattle.rules.specs.Whole.Sets.{owner, readsOf, factorReads, indexReads, subscriptReads, stores, setsOf, setsI, setsAlts, bodySets, touched}
 use Rattle.rules.specs.Whole.Sets.{member, meet, race, stopsIn, stopsI, stopsAlts, bodyStops, mayStop, callsIn, callsI, callsAlts, anyName}
 use Rattle.rules.specs.Whole.Sets.{chainOver}
-use Rattle.laws.specs.Orders.Orderly.{without, jumpsOut, jumpsI, jumpsAlts}
-use Rattle.laws.specs.Answers.{descriptionOf, check, runs}
-use Rattle.laws.specs.Grammar.Rows.{lookup, too-deep, judge as judge-Rows, run as run-Rows, recognise}
-use Rattle.laws.specs.Grammar.Reading.{find, split, put, act, read}
+use Rattle.laws_orders.specs.Orders.Orderly.{without, jumpsOut, jumpsI, jumpsAlts}
+use Rattle.laws_grammar.specs.Answers.{descriptionOf, check, runs}
+use Rattle.laws_grammar.specs.Cited.Rows.{lookup, too-deep, judge as judge-Rows, run as run-Rows, recognise}
+use Rattle.laws_grammar.specs.Grammar.Reading.{find, split, put, act, read}
 use native.Mathlib.Decide.{decLt}
 use Rattle.paths.specs.Paths.{storageOf, Answer, refused}
 use Rattle.paths.specs.Paths.{accepted as fine}

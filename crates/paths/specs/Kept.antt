@@ -12,10 +12,10 @@ use Rattle.rules.specs.Steps.Control.{Live, callL, start, Work, moves, tests, n
 use Rattle.rules.specs.Steps.Runs.{Conf, running, finished, stopped, fault, Worked, worked, moved, tested, perform, told, after, bodyAct, step, Steps, begin}
 use Rattle.rules.specs.Whole.Sets.{member, stores}
 use Rattle.rules.specs.Faults.Whole.{mainName}
-use Rattle.laws.specs.Orders.Tests.{or-neither}
-use Rattle.laws.specs.Orders.Owners.{ownerAt}
-use Rattle.laws.specs.Orders.Fields.{word, stores-keep}
-use Rattle.laws.specs.Orders.Reading.{wordsIn, then-gave, accesses-land}
+use Rattle.laws_orders.specs.Orders.Tests.{or-neither}
+use Rattle.laws_orders.specs.Orders.Owners.{ownerAt}
+use Rattle.laws_orders.specs.Orders.Fields.{word, stores-keep}
+use Rattle.laws_orders.specs.Orders.Reading.{wordsIn, then-gave, accesses-land}
 use Rattle.paths.specs.Paths.{at, May, around, endsTest, Spot, spot, Path, outset, Writes, placeOf, TooEarly, endsBy, testEnded}
 use Rattle.paths.specs.Runs.{no-early-store}
 

@@ -12,11 +12,11 @@ use Rattle.rules.specs.Steps.Evaluation.{Carriers}
 use Rattle.rules.specs.Steps.Control.{Live, Mv, work}
 use Rattle.rules.specs.Steps.Runs.{running, Steps, step, begin}
 use Rattle.rules.specs.Whole.Sets.{member}
-use Rattle.laws.specs.Orders.Orderly.{Orderly}
+use Rattle.laws_orders.specs.Orders.Orderly.{Orderly}
 use Rattle.rules.specs.Faults.Whole.{mainName}
 use Rattle.rules.specs.Answers.{Checks, accepted as passes}
-use Rattle.laws.specs.Orders.Owners.{ownerAt}
-use Rattle.laws.specs.Orders.Fields.{word}
+use Rattle.laws_orders.specs.Orders.Owners.{ownerAt}
+use Rattle.laws_orders.specs.Orders.Fields.{word}
 use Rattle.paths.specs.Paths.{spot, Path, outset, Writes, TooEarly, storageOf, Answer, accepted, Profiles, testEnded, Answers}
 use Rattle.paths.specs.Early.{earlyPlaces, profile, answer}
 use Rattle.paths.specs.Sound as sound

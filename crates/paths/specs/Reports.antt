@@ -7,8 +7,8 @@ use mathlib.Core.Logic.{_⊎_, inl, inr}
 use Rattle.rules.specs.Text.Scan.{sameBytes}
 use Rattle.rules.specs.Declarations.{Name}
 use Rattle.rules.specs.Whole.Sets.{member}
-use Rattle.laws.specs.Orders.Tests.{or-either, or-left, or-right, member-left, member-right, member-either}
-use Rattle.laws.specs.Accepted.Named.{and-both}
+use Rattle.laws_orders.specs.Orders.Tests.{or-either, or-left, or-right, member-left, member-right, member-either}
+use Rattle.laws_accepted.specs.Accepted.Named.{and-both}
 use Rattle.paths.specs.Early.{Report, inTurn, beside, either, inside, turning, activation}
 
 pub and-true : (a b : Bool) → a ≡ true → b ≡ true → (a && b) ≡ true

@@ -8,7 +8,7 @@ use Rattle.rules.specs.Steps.Control.{Live, callL, start, Sig, goes, Mv, work}
 use Rattle.rules.specs.Steps.Runs.{bodyAct}
 use Rattle.rules.specs.Whole.Sets.{member}
 use Rattle.rules.specs.Limits.{longestChain}
-use Rattle.laws.specs.Orders.Orderly.{Orderly}
+use Rattle.laws_orders.specs.Orders.Orderly.{Orderly}
 use Rattle.rules.specs.Faults.Whole.{mainName}
 use Rattle.paths.specs.Paths.{at, May, around, endsTest, Spot, spot, Path, outset, Writes, TooEarly}
 use Rattle.paths.specs.Early.{Report, report, inside, activation, early, bodyEarly, earlyPlaces}

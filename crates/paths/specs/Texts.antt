@@ -7,11 +7,11 @@ use native.Mathlib.Omega.{arith}
 use Rattle.rules.specs.Text.Scan.{scan}
 use Rattle.rules.specs.Grammar.Trees.{Description, flatten}
 use Rattle.rules.specs.Declarations.{declarations}
-use Rattle.laws.specs.Orders.Orderly.{Orderly}
+use Rattle.laws_orders.specs.Orders.Orderly.{Orderly}
 use Rattle.rules.specs.Answers.{Verdict, Checks, accepted as passes, refused as fails}
-use Rattle.laws.specs.Grammar.Exact.{unique}
-use Rattle.laws.specs.Answers.{descriptionOf, description-of, check, checked, one-verdict, accepted-iff-lawful}
-use Rattle.laws.specs.Accepted.Orderly.{accepted-orderly}
+use Rattle.laws_grammar.specs.Grammar.Exact.{unique}
+use Rattle.laws_grammar.specs.Answers.{descriptionOf, description-of, check, checked, one-verdict, accepted-iff-lawful}
+use Rattle.laws_accepted.specs.Accepted.Orderly.{accepted-orderly}
 use Rattle.paths.specs.Paths.{Answer, refused, Profiles, folded, Answers, not-accepted, profiled}
 use Rattle.paths.specs.Early.{profile, byDescription, byVerdict, answer}
 use Rattle.paths.specs.Verdict.{right, one-answer}

@@ -12,8 +12,8 @@ use borrow.Author.Tests.{eqb-true, eq-eqb}
 use Rattle.rules.specs.Declarations.{Name, Table, bodyOf}
 use Rattle.rules.specs.Grammar.Trees.{Action}
 use Rattle.rules.specs.Whole.Sets.{member}
-use Rattle.laws.specs.Orders.Orderly.{Orderly}
-use Rattle.laws.specs.Orders.Tests.{or-either, or-left, or-right}
+use Rattle.laws_orders.specs.Orders.Orderly.{Orderly}
+use Rattle.laws_orders.specs.Orders.Tests.{or-either, or-left, or-right}
 use Rattle.paths.specs.Paths.{TooEarly, storageOf, Answer, accepted, refused, Profiles, no-body, no-storage, early, in-time}
 use Rattle.paths.specs.Early.{earlyPlaces, lowest, verdict, onStorage, onBody, profile}
 use Rattle.paths.specs.Sound.{sound}

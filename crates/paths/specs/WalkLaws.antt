@@ -14,7 +14,7 @@ use Rattle.rules.specs.Declarations.{Name, Table, bodyOf}
 use Rattle.rules.specs.Steps.Actions.{Act, par, actOf, Groups, groups, whole, altsOf, countedAlts, selectedAlts, moreAlts}
 use Rattle.rules.specs.Steps.Actions.{inTurn as joinedTo}
 use Rattle.rules.specs.Steps.Runs.{bodyAct, actOr}
-use Rattle.laws.specs.Accepted.Named.{same-equal, same-itself}
+use Rattle.laws_accepted.specs.Accepted.Named.{same-equal, same-itself}
 use Rattle.paths.specs.Bools.{mix, spread, iff-flags, alts-flags, label-flags, call-flags, pass-flags, stay-flags, leave-flags, turn-flags}
 use Rattle.paths.specs.Bools.{end-flags, next-flags, also-flags, also-next-flags}
 use Rattle.paths.specs.Early.{Report, report, nowhere, passed, inside, either, inTurn, beside, turning, activation, written, early, earlyI, earlyAlts, bodyEarly}

@@ -5,7 +5,6 @@ pub mod Given
 pub mod Scene
 pub mod Packed
 pub mod Bases
-pub mod Reaching
-pub mod Apart
 pub mod Counting
 pub mod Placing
+pub mod Laws

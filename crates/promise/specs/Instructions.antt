@@ -14,8 +14,8 @@ use Rattle.rules.specs.Declarations.{Name as Word, Table}
 use Rattle.rules.specs.Limits.{mostDeclarations, deepest}
 use Rattle.rules.specs.Steps.Actions.{Access, access, joinedAccesses}
 use Rattle.rules.specs.Faults.Bodies.{judge, judgeDestination, judgeJoined}
-use Rattle.laws.specs.Grammar.Nesting.{operandNest, tailNest, subscriptNest, joinedNest}
-use Rattle.laws.specs.Orders.Flat.{Link, at, exit, Entries, no-entry, entry, Instr, ifI, decodeI, goI, callI, stopI, moveI, Code}
+use Rattle.laws_grammar.specs.Cited.Nesting.{operandNest, tailNest, subscriptNest, joinedNest}
+use Rattle.laws_orders.specs.Cited.Flat.{Link, at, exit, Entries, no-entry, entry, Instr, ifI, decodeI, goI, callI, stopI, moveI, Code}
 use Rattle.table.specs.Holds.{placeCell, insideCell, linkCell, tokenAt}
 
 -- an instruction never stands at token 0, which is the outer name

@@ -11,8 +11,8 @@ use Rattle.rules.specs.Declarations.{Name as Word, Table, totalWords}
 use Rattle.rules.specs.Steps.Runs.{bodyAct}
 use Rattle.rules.specs.Whole.Sets.{chainOver}
 use Rattle.rules.specs.Limits.{mostDeclarations, mostWords, longestChain}
-use Rattle.laws.specs.Accepted.Declared.{Declares}
-use Rattle.laws.specs.Orders.Flat.{Code, HoldsBodies}
+use Rattle.laws_accepted.specs.Cited.Declared.{Declares}
+use Rattle.laws_orders.specs.Cited.Flat.{Code, HoldsBodies}
 use Rattle.table.specs.Holds.{Holds, tokenAt}
 use Rattle.promise.specs.Accesses.{AccessesHold}
 use Rattle.promise.specs.Instructions.{InstructionHolds}

@@ -1,5 +1,3 @@
-pub mod Scanned
-pub mod Tabled
 pub mod Parsed
 pub mod Read
 pub mod Copied

@@ -1,3 +1,4 @@
 pub mod Choice
 pub mod Steps
 pub mod Runs
+pub mod Laws

@@ -12,7 +12,7 @@ use table::records::kind_at;
 use table::records::link_at;
 ghost use mathlib.Core.Path.{_≡_};
 ghost use Rattle.rules.specs.Selectors.{anyMatches, takes};
-ghost use Rattle.laws.specs.Orders.Flat.{find};
+ghost use Rattle.laws_orders.specs.Cited.Flat.{find};
 ghost use Rattle.selectors.specs.Stands.{ItemsView};
 ghost use Rattle.runner.specs.Choice.{CaseView, ChoiceView, placeNo};
 

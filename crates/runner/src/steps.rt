@@ -1,10 +1,10 @@
 // One step: the instruction at n, without the stack of return addresses.
 use crate::choice::choose;
 use cells::get16;
-use evaluation::expressions::Evaluated;
 use evaluation::test;
 use evaluation::transfers::Transferred;
 use evaluation::transfers::transfer;
+use operands::expressions::Evaluated;
 use table::kinds::DECODE;
 use table::kinds::IF;
 use table::kinds::LPAR;

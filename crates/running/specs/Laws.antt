@@ -1,2 +1,3 @@
+-- The laws of running.
 pub mod Prepared
 pub mod Outcome

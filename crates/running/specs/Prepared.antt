@@ -7,7 +7,7 @@ use Rattle.rules.specs.Text.Scan.{scan}
 use Rattle.rules.specs.Grammar.Trees.{Action}
 use Rattle.rules.specs.Declarations.{outerName, bodyOf}
 use Rattle.rules.specs.Faults.Whole.{mainName}
-use Rattle.laws.specs.Links.Placed.{descriptionCode}
+use Rattle.laws_code.specs.Cited.Placed.{descriptionCode}
 use Rattle.promise.specs.Promise.{Promise}
 use Rattle.reader.specs.Judged.{Accepts, described-by, table-by}
 

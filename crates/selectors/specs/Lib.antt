@@ -1,4 +1,5 @@
 pub mod Items
 pub mod Stands
 pub mod Overlaps
+pub mod Reaches
 pub mod Laws

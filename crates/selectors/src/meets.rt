@@ -4,7 +4,7 @@ ghost use mathlib.Core.Path.{_≡_};
 ghost use Prim.Native.Nat.{_+_, _-_, _%_, _^_, _<_, min, max};
 ghost use Rattle.rules.specs.Faults.Bodies as rules;
 ghost use Rattle.selectors.specs.Items.{meant};
-ghost use Rattle.selectors.specs.Laws.Reaches.{may, either-way};
+ghost use Rattle.selectors.specs.Reaches.{may, either-way};
 
 // Two patterns: no bit that both fix differs.
 pub fn patterns_meet(v: u64, f: u64, w: u64, g: u64) -> bool

@@ -1,1 +1,3 @@
+-- The laws of the beginning of a run.
 pub mod Cases
+pub mod Buffers

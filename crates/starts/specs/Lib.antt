@@ -1,4 +1,3 @@
 pub mod Starts
 pub mod Sought
-pub mod Buffers
 pub mod Laws

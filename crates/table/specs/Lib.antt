@@ -1,11 +1,9 @@
 pub mod Holds
-pub mod Positions
 pub mod Words
 pub mod Bits
 pub mod Shown
 pub mod Declarations
 pub mod Views
-pub mod ViewLaws
 pub mod Lookups
 pub mod Keys
 pub mod Meaning
@@ -14,4 +12,5 @@ pub mod Kept
 pub mod Operators
 pub mod Scans
 pub mod Room
+pub mod Kth
 pub mod Laws

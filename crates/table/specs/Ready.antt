@@ -7,7 +7,7 @@ use Rattle.rules.specs.Grammar.Trees.{Tokens, Description, flatten}
 use Rattle.rules.specs.Declarations.{declarations, outerName}
 use Rattle.rules.specs.Faults.Declared.{faults30}
 use Rattle.rules.specs.Limits.{mostDeclarations, deepest}
-use Rattle.laws.specs.Grammar.Nesting.{nest}
+use Rattle.laws_grammar.specs.Cited.Nesting.{nest}
 use Rattle.table.specs.Holds.{Holds}
 use Rattle.table.specs.Declarations.{declarationList}
 use Rattle.table.specs.Lookups.{DeclsHold}

@@ -5,11 +5,9 @@ use mathlib.Core.List.{List, [], _∷_}
 use mathlib.Core.Option.{Option, none, some}
 use lib.ListN.{length, drop}
 use Rattle.rules.specs.Text.Tokens.{Name, Const, LBra, RBra, Less, Colon, MAIN, Info, Token, tk}
-use Rattle.rules.specs.Grammar.Trees.{Tokens, Action, body, meaningTokens, Given, carrier, given}
-use Rattle.rules.specs.Grammar.Trees.{words, with-bits, bare-body, MainBits, bitless, main-bits, mainBitsTokens, Declaration, plain, main}
-use Rattle.rules.specs.Grammar.Trees.{declarationsTokens}
+use Rattle.rules.specs.Grammar.Trees.{Tokens, Action, body, meaningTokens, Given, carrier, given, words, with-bits, bare-body, MainBits, mainBitsTokens, Declaration, plain, main, declarationsTokens}
 use Rattle.rules.specs.Declarations.{these, Target, mainNames}
-use Rattle.laws.specs.Grammar.Positions.{ActionAt}
+use Rattle.laws_grammar.specs.Cited.Positions.{ActionAt}
 use Rattle.table.specs.Holds.{tokenAt, Holds}
 use Rattle.table.specs.Declarations.{DeclaredAt}
 
@@ -25,21 +23,11 @@ pub record View (records values : List ℕ) (i : ℕ) : Type 0 where
 abbrev pub behind : {records values : List ℕ} {i : ℕ} → View records values i → Tokens
 behind v = declarationsTokens (v .stands .following) []
 
-abbrev pub nameOf : Declaration → Info
-nameOf (plain n f) = n
-nameOf (main k n o e b a m) = n
-
 abbrev pub wordsTokens : Declaration → Tokens → Tokens
 wordsTokens (plain n (words l f c t r b o)) ts = tk LBra l ∷ tk Const f ∷ tk Colon c ∷ tk Const t ∷ tk RBra r ∷ ts
 wordsTokens (plain n (with-bits l o g)) ts = ts
 wordsTokens (plain n (bare-body e b a m)) ts = ts
 wordsTokens (main k n o e b a m) ts = ts
-
-abbrev pub bitsPart : Declaration → MainBits
-bitsPart (plain n (words l f c t r b o)) = main-bits b o
-bitsPart (plain n (with-bits l o g)) = main-bits l o
-bitsPart (plain n (bare-body e b a m)) = bitless
-bitsPart (main k n o e b a m) = o
 
 abbrev pub givenPart : Declaration → Given
 givenPart (plain n (words l f c t r b o)) = carrier

@@ -1,17 +1,2 @@
-pub mod Classes
-pub mod Codes
-pub mod Numbers
-pub mod Lexemes
 pub mod Table
-pub mod Tests
-pub mod Runs
-pub mod Spellings
-pub mod Words
-pub mod Marks
-pub mod Digits
-pub mod Bounds
-pub mod Constants
-pub mod Sound
-pub mod Scans
-pub mod Writes
 pub mod Laws

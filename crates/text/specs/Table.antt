@@ -10,7 +10,7 @@ use lib.ListN.{length}
 use Rattle.cells.specs.Cells.{putCell}
 use Rattle.rules.specs.Text.Tokens.{Token, kindNo}
 use Rattle.rules.specs.Text.Scan.{Scan, End, fine, refuse}
-use Rattle.text.specs.Lexemes.{sizeOf}
+use Rattle.lexemes.specs.Lexemes.{sizeOf}
 use Rattle.text.specs.declared.Scanned.{Scanned}
 use Rattle.text.specs.declared.Scanned.the-variants.{Fine, Refused}
 
@@ -46,9 +46,6 @@ writeCells w b i (v ∷ vs) = writeCells w (putCell w b i v) (i + 1) vs
 abbrev pub endedAt : ℕ → End → Scanned
 endedAt n fine = Fine n
 endedAt n (refuse m p) = Refused m p
-
-abbrev pub scannedFrom : ℕ → Scan → Scanned
-scannedFrom n s = endedAt (n + length (s .tokens)) (s .end)
 
 abbrev pub scannedOf : Scan → Scanned
 scannedOf s = endedAt (length (s .tokens)) (s .end)

@@ -1,14 +1,9 @@
 // From bytes to tokens: the refusals 10 to 13, and the token table.
-mod classes;
-mod constants;
-mod lexemes;
-mod marks;
-mod words;
 
 use cells::put64;
-use classes::CLASSES;
-use lexemes::Lexeme;
-use lexemes::lexeme_at;
+use classes::classes::CLASSES;
+use lexemes::lexemes::Lexeme;
+use lexemes::lexemes::lexeme_at;
 ghost use mathlib.Core.Path.{_≡_};
 ghost use Prim.Native.Nat.{_+_, _*_, _≤_};
 ghost use lib.ListN.{length};

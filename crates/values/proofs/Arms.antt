@@ -5,7 +5,8 @@ use mathlib.Core.Path.{_≡_, refl, ap, _∙_}
 use mathlib.Core.List.{List, [], _∷_, _++_}
 use Prim.Native.Nat.{ℕ}
 use Rattle.rules.specs.Text.Tokens.{Op, kindNo, opKind}
-use Rattle.values.specs.Operators.{opAt, opAt-kind, among}
+use Rattle.values.specs.Operators.{opAt, among}
+use Rattle.values.specs.Laws.Operators.{opAt-kind}
 
 pub arm : (o : Op) {k : ℕ} → k ≡ kindNo (opKind o) → opAt k ≡ o
 arm o e = ap opAt e ∙ opAt-kind o

@@ -3,3 +3,4 @@ pub mod Fields
 pub mod Cuts
 pub mod Bits
 pub mod Results
+pub mod Operators

@@ -1,6 +1,4 @@
 -- The operators by the numbers of their kinds.
--- Assumes nothing.
-use mathlib.Core.Path.{_≡_, refl}
 use mathlib.Core.Bool.{Bool, true, false}
 use mathlib.Core.List.{List, [], _∷_, _++_}
 use Prim.Native.Nat.{ℕ}
@@ -26,19 +24,3 @@ relations = eql ∷ neq ∷ lss ∷ leq ∷ gtr ∷ []
 
 unfoldable pub opAt : ℕ → Op
 opAt k = among (plain ++ relations) k
-
-pub opAt-kind : (o : Op) → opAt (kindNo (opKind o)) ≡ o
-unfolding opAt
-opAt-kind join = refl
-opAt-kind plus = refl
-opAt-kind minus = refl
-opAt-kind eql = refl
-opAt-kind neq = refl
-opAt-kind lss = refl
-opAt-kind leq = refl
-opAt-kind gtr = refl
-opAt-kind geq = refl
-opAt-kind and = refl
-opAt-kind eqv = refl
-opAt-kind or = refl
-opAt-kind xor = refl

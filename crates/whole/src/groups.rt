@@ -1,12 +1,12 @@
 // The members of a group: each against the union of those before it.
-use crate::bits::meets;
-use crate::bits::union;
-use crate::kinds::end_of;
-use crate::kinds::kind_of;
-use crate::memory::Touched;
-use crate::memory::nothing;
-use crate::touches::joined;
-use crate::touches::touched;
+use gathering::memory::Touched;
+use gathering::memory::nothing;
+use gathering::touches::joined;
+use gathering::touches::touched;
+use reading::bits::meets;
+use reading::bits::union;
+use reading::kinds::end_of;
+use reading::kinds::kind_of;
 use table::keys::NO_KEY;
 use table::keys::earlier;
 use table::keys::number_key;
@@ -19,9 +19,9 @@ ghost use lib.ListN.{length, drop};
 ghost use Rattle.rules.specs.Whole.Sets.{Sets, sets, race};
 ghost use Rattle.rules.specs.Faults.Fault.{when};
 ghost use Rattle.table.specs.Keys.{leastNumberKey};
-ghost use Rattle.whole.specs.Reading.{Reading, tableOf};
-ghost use Rattle.whole.specs.Filling.{Complete};
-ghost use Rattle.whole.specs.Groups.{placeOf, membersAt};
+ghost use Rattle.reading.specs.Reading.{Reading, tableOf};
+ghost use Rattle.gathering.specs.Filling.{Complete};
+ghost use Rattle.reading.specs.Groups.{placeOf, membersAt};
 ghost use Rattle.whole.specs.GroupKeys.{Holding};
 
 // Whether two actions race: one writes what the other reads or writes.

@@ -1,23 +1,11 @@
 // What is refused of a whole description: MAIN, chains of activations, jumps and STOP in groups, races.
-mod bits;
-mod bodies;
-mod calls;
-mod chains;
-mod gathering;
 mod groups;
-mod kinds;
-mod labels;
-mod mains;
-mod memory;
-mod names;
-mod scopes;
-mod touches;
 mod walks;
 
-use crate::chains::chain_key;
-use crate::gathering::gather_all;
-use crate::mains::main_key;
 use crate::walks::groups_key;
+use chains::chains::chain_key;
+use chains::mains::main_key;
+use gathering::gathering::gather_all;
 use table::keys::NO_KEY;
 use table::keys::earlier;
 use table::room::LABELS;
@@ -30,7 +18,7 @@ ghost use Rattle.rules.specs.Whole.Sets.{chainOver};
 ghost use Rattle.rules.specs.Limits.{longestChain};
 ghost use Rattle.rules.specs.Faults.Whole.{faults50};
 ghost use Rattle.table.specs.Keys.{leastNumberKey};
-ghost use Rattle.whole.specs.Reading.{Reading, tableOf};
+ghost use Rattle.reading.specs.Reading.{Reading, tableOf};
 ghost use Rattle.whole.specs.Written.{Written, whole};
 ghost use Rattle.whole.specs.WalkKeys.{Roomy};
 

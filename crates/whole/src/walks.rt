@@ -1,11 +1,11 @@
 // The bodies, each from its first token to its last: the least key of its groups and of its jumps.
-use crate::bodies::body_at;
 use crate::groups::group_key;
-use crate::kinds::closes;
-use crate::kinds::more;
-use crate::labels::jump_key;
-use crate::scopes::Nest;
-use crate::scopes::turn;
+use reading::bodies::body_at;
+use reading::kinds::closes;
+use reading::kinds::more;
+use scopes::labels::jump_key;
+use scopes::scopes::Nest;
+use scopes::scopes::turn;
 use table::keys::NO_KEY;
 use table::keys::earlier;
 use table::kinds::BEGIN;
@@ -17,11 +17,11 @@ ghost use Prim.Native.Nat.{_+_, _*_, _<_, _≤_};
 ghost use lib.ListN.{length, drop};
 ghost use Rattle.rules.specs.Faults.Whole.{groupsFaults};
 ghost use Rattle.table.specs.Keys.{leastNumberKey};
-ghost use Rattle.whole.specs.Reading.{Reading, tableOf};
-ghost use Rattle.whole.specs.Filling.{Complete};
-ghost use Rattle.whole.specs.Groups.{groupAt};
-ghost use Rattle.whole.specs.Walks.{opens};
-ghost use Rattle.whole.specs.Frames.{Turning};
+ghost use Rattle.reading.specs.Reading.{Reading, tableOf};
+ghost use Rattle.gathering.specs.Filling.{Complete};
+ghost use Rattle.reading.specs.Groups.{groupAt};
+ghost use Rattle.scopes.specs.Walks.{opens};
+ghost use Rattle.scopes.specs.Frames.{Turning};
 ghost use Rattle.whole.specs.Written.{Written, whole};
 ghost use Rattle.whole.specs.WalkKeys.{labelsOf, Roomy, Faulty, FaultKey, TurnedIn, Walked, BodyKey};
 

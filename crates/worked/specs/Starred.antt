@@ -44,10 +44,10 @@ use Rattle.rules.specs.Values.{opBits, bitwise, opNumber, operate, notNumber, i
 use Rattle.rules.specs.Whole.Sets.{owner, readsOf, factorReads, indexReads, subscriptReads, stores, setsOf, setsI, setsAlts, bodySets, touched}
 use Rattle.rules.specs.Whole.Sets.{member, meet, race, stopsIn, stopsI, stopsAlts, bodyStops, mayStop, callsIn, callsI, callsAlts, anyName}
 use Rattle.rules.specs.Whole.Sets.{chainOver}
-use Rattle.laws.specs.Answers.{descriptionOf, check, runs}
-use Rattle.laws.specs.Grammar.Meanings.{stackL}
-use Rattle.laws.specs.Grammar.Rows.{operand, in-parens, lookup, too-deep, judge as judge-Rows, run as run-Rows, recognise}
-use Rattle.laws.specs.Grammar.Reading.{find, split, put, act, read}
+use Rattle.laws_grammar.specs.Answers.{descriptionOf, check, runs}
+use Rattle.laws_grammar.specs.Grammar.Meanings.{stackL}
+use Rattle.laws_grammar.specs.Cited.Rows.{operand, in-parens, lookup, too-deep, judge as judge-Rows, run as run-Rows, recognise}
+use Rattle.laws_grammar.specs.Grammar.Reading.{find, split, put, act, read}
 use native.Mathlib.Decide.{decLt}
 
 -- the numbers of a run, with the carrier bytes

@@ -39,9 +39,9 @@ use Rattle.rules.specs.Values.{opBits, bitwise, opNumber, operate, notNumber, i
 use Rattle.rules.specs.Whole.Sets.{owner, readsOf, factorReads, indexReads, subscriptReads, stores, setsOf, setsI, setsAlts, bodySets, touched}
 use Rattle.rules.specs.Whole.Sets.{member, meet, race, stopsIn, stopsI, stopsAlts, bodyStops, mayStop, callsIn, callsI, callsAlts, anyName}
 use Rattle.rules.specs.Whole.Sets.{chainOver}
-use Rattle.laws.specs.Answers.{descriptionOf, check, runs}
-use Rattle.laws.specs.Grammar.Rows.{lookup, too-deep, judge as judge-Rows, run as run-Rows, recognise}
-use Rattle.laws.specs.Grammar.Reading.{find, split, put, act, read}
+use Rattle.laws_grammar.specs.Answers.{descriptionOf, check, runs}
+use Rattle.laws_grammar.specs.Cited.Rows.{lookup, too-deep, judge as judge-Rows, run as run-Rows, recognise}
+use Rattle.laws_grammar.specs.Grammar.Reading.{find, split, put, act, read}
 use native.Mathlib.Decide.{decLt}
 
 -- a verdict, and a result  its carriers, as numbers to compare

@@ -13,9 +13,10 @@ use Rattle.rules.specs.Limits.{deepest}
 use Rattle.rules.specs.Declarations.{declaredOf}
 use Rattle.rules.specs.Faults.Fault.{Fault}
 use Rattle.rules.specs.Faults.Bodies.{faults40}
-use Rattle.laws.specs.Grammar.Nesting.{declarationNest, declarationsNest, nest}
+use Rattle.laws_grammar.specs.Cited.Nesting.{declarationNest, declarationsNest, nest}
 use Rattle.table.specs.Declarations.{followingList, declarationList, all-declared}
-use Rattle.table.specs.Keys.{key, noKey, leastBy, leastKey, least-append, least-bounded}
+use Rattle.table.specs.Keys.{key, noKey, leastBy, leastKey}
+use Rattle.table.specs.Laws.Keys.{least-append, least-bounded}
 use Rattle.table.specs.Lookups.{Nth, nth}
 use Rattle.bodies.specs.Stage.{outerOf, tableOf}
 use Rattle.bodies.specs.Bodies.{BodyView, faultsOfBody, BodiesView, faultsOfBodies}

@@ -7,12 +7,14 @@ use native.Mathlib.Omega.{arith}
 use lib.ListN.{length}
 use Rattle.rules.specs.Grammar.Trees.{Action, block, labelled, if-then, decode, repeat, leave, restart, activate, stop, no-op, transfer}
 use Rattle.rules.specs.Text.Tokens.{kindNo, BEGIN, DECODE}
-use Rattle.laws.specs.Grammar.Heads.{headKind, action-head}
+use Rattle.laws_grammar.specs.Cited.Heads.{headKind}
+use Rattle.laws_grammar.specs.Grammar.Heads.{action-head}
 use Rattle.table.specs.Holds.{kindByte}
-use Rattle.table.specs.Positions.{here, kind-here}
+use Rattle.table.specs.Laws.Positions.{here, kind-here}
 use Rattle.bodies.specs.declared.Walked.{Walked}
 use Rattle.bodies.specs.declared.prefixes.Prefixed.{Prefixed}
-use Rattle.bodies.specs.Stacks.{Kept, kept-then, kept-less}
+use Rattle.bodies.specs.Stacks.{Kept}
+use Rattle.bodies.specs.Laws.Stacks.{kept-then, kept-less}
 use Rattle.bodies.specs.Actions.{labelCells, levelBase, ActionView, ActionAnswer, Simple, IsBlock, IsDecode}
 use Rattle.bodies.specs.Prefixes.{Bare, PrefixAnswer}
 use Rattle.bodies.specs.Laws.Forms.{first-room}

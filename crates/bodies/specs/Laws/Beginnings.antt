@@ -13,7 +13,8 @@ use Rattle.rules.specs.Limits.{longestText}
 use Rattle.rules.specs.Grammar.Trees.{Tokens}
 use Rattle.table.specs.Holds.{tokenAt}
 use Rattle.selectors.specs.Stands.{ItemsAt}
-use Rattle.bodies.specs.Stacks.{Kept, kept-put, kept-all}
+use Rattle.bodies.specs.Stacks.{Kept}
+use Rattle.bodies.specs.Laws.Stacks.{kept-put, kept-all}
 use Rattle.bodies.specs.Actions.{levelBase}
 use Rattle.bodies.specs.Choices.{startCell, withStart, compared}
 use Rattle.bodies.specs.Laws.Compared.{alone}

@@ -18,18 +18,21 @@ use Rattle.rules.specs.Grammar.Trees.{Declarations, declared-all, declared-also
 use Rattle.rules.specs.Limits.{deepest}
 use Rattle.rules.specs.Declarations.{declaredOf}
 use Rattle.rules.specs.Faults.Bodies.{labels, labelFaults, actionFaults, bodyFaults}
-use Rattle.laws.specs.Grammar.Heads.{action-head}
-use Rattle.laws.specs.Grammar.Nesting.{actionNest, declarationNest}
-use Rattle.laws.specs.Grammar.Positions.{main-bits-writes}
+use Rattle.laws_grammar.specs.Grammar.Heads.{action-head}
+use Rattle.laws_grammar.specs.Cited.Nesting.{actionNest, declarationNest}
+use Rattle.laws_grammar.specs.Grammar.Positions.{main-bits-writes}
 use Rattle.table.specs.Holds.{tokenAt}
-use Rattle.table.specs.Keys.{key, noKey, leastBy, leastKey, least-append}
-use Rattle.table.specs.Positions.{here, behind-far}
+use Rattle.table.specs.Keys.{key, noKey, leastBy, leastKey}
+use Rattle.table.specs.Laws.Keys.{least-append}
+use Rattle.table.specs.Laws.Positions.{here, behind-far}
 use Rattle.table.specs.Words.{NameAt}
-use Rattle.table.specs.Views.{View, behind, bitsPart, givenPart, wordsSize, BodyAt}
-use Rattle.table.specs.ViewLaws.{name-token, bits-reads}
+use Rattle.table.specs.Views.{View, behind, givenPart, wordsSize, BodyAt}
+use Rattle.table.specs.Laws.Views.{bitsPart}
+use Rattle.table.specs.Laws.Views.{name-token, bits-reads}
 use Rattle.bodies.specs.declared.Walked.{Walked}
 use Rattle.bodies.specs.Stage.{outerOf, tableOf}
-use Rattle.bodies.specs.Stacks.{Stacked, stackedWords, push-words, push-stacked}
+use Rattle.bodies.specs.Stacks.{Stacked, stackedWords}
+use Rattle.bodies.specs.Laws.Stacks.{push-words, push-stacked}
 use Rattle.bodies.specs.Labels.{knownNames, LabelsView, allLabelFaults}
 use Rattle.bodies.specs.Actions.{EndsAction, by-semi, by-next, by-end, by-comma, ActionView, ActionAnswer}
 use Rattle.bodies.specs.Bodies.{BodyView, faultsOfBody}

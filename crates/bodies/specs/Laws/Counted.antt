@@ -14,14 +14,16 @@ use Rattle.rules.specs.Grammar.Trees.{counted, Counted, counted-end, counted-mo
 use Rattle.rules.specs.Selectors.{between}
 use Rattle.rules.specs.Faults.Fault.{Fault, when}
 use Rattle.rules.specs.Faults.Bodies.{firstPlace, past, someMeet, meetsAny, alternativesFaults, actionFaults, insideFaults}
-use Rattle.laws.specs.Grammar.Heads.{headInfo, action-head}
-use Rattle.laws.specs.Grammar.Nesting.{actionNest, countedNest}
+use Rattle.laws_grammar.specs.Grammar.Heads.{headInfo, action-head}
+use Rattle.laws_grammar.specs.Cited.Nesting.{actionNest, countedNest}
 use Rattle.table.specs.Holds.{kindByte, placeCell}
-use Rattle.table.specs.Keys.{key, noKey, leastKey, least-append, least-bounded}
-use Rattle.table.specs.Positions.{here, kind-here, record-within}
+use Rattle.table.specs.Keys.{key, noKey, leastKey}
+use Rattle.table.specs.Laws.Keys.{least-append, least-bounded}
+use Rattle.table.specs.Laws.Positions.{here, kind-here, record-within}
 use Rattle.bodies.specs.declared.Walked.{Walked}
 use Rattle.bodies.specs.Stage.{outerOf, tableOf}
-use Rattle.bodies.specs.Stacks.{stackedWords, Kept, kept-words, kept-stacked}
+use Rattle.bodies.specs.Stacks.{stackedWords, Kept}
+use Rattle.bodies.specs.Laws.Stacks.{kept-words, kept-stacked}
 use Rattle.bodies.specs.Actions.{EndsAction, by-end, by-comma, levelBase, ActionView, ActionAnswer}
 use Rattle.bodies.specs.Alternatives.{IsCounted, ChoicesView, choicesFaults, ChoicesAnswer}
 use Rattle.bodies.specs.Laws.Known.{token-room, token-place, place-small}

@@ -11,14 +11,17 @@ use Rattle.rules.specs.Grammar.Trees.{Tokens, Action, decode, block, labelled, 
 use Rattle.rules.specs.Grammar.Trees.{exact, masked, one-of, any-of, Alternatives, counted, selected, alternativesTokens, Selected, select, otherwise, selectedTokens}
 use Rattle.rules.specs.Grammar.Precedence.{exprOf}
 use Rattle.rules.specs.Faults.Bodies.{faultsIn, judge, alternativesFaults, actionFaults, insideFaults}
-use Rattle.laws.specs.Grammar.Heads.{headKind, action-head}
+use Rattle.laws_grammar.specs.Cited.Heads.{headKind}
+use Rattle.laws_grammar.specs.Grammar.Heads.{action-head}
 use Rattle.table.specs.Holds.{kindByte}
-use Rattle.table.specs.Keys.{key, leastKey, least-append}
-use Rattle.table.specs.Positions.{Here, here, behind-far, kind-here}
+use Rattle.table.specs.Keys.{key, leastKey}
+use Rattle.table.specs.Laws.Keys.{least-append}
+use Rattle.table.specs.Laws.Positions.{Here, here, behind-far, kind-here}
 use Rattle.expressions.specs.Scene.{ExpressionAt, ExpressionAnswer}
 use Rattle.expressions.specs.declared.Judged.{Judged as Value}
 use Rattle.bodies.specs.declared.Walked.{Walked}
-use Rattle.bodies.specs.Stage.{outerOf, tableOf, sceneOf}
+use Rattle.bodies.specs.Stage.{outerOf, tableOf}
+use Rattle.bodies.specs.Laws.Stage.{sceneOf}
 use Rattle.bodies.specs.Stacks.{stackedWords}
 use Rattle.bodies.specs.Actions.{ActionView, faultsUnder, ActionAnswer, IsDecode}
 use Rattle.bodies.specs.Alternatives.{isSelector, IsCounted, IsSelected, ChoicesView, ChoicesAnswer}

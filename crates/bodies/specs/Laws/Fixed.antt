@@ -7,7 +7,7 @@ use lib.ListN.{length}
 use Rattle.rules.specs.Text.Tokens.{Name, tk}
 use Rattle.rules.specs.Text.Scan.{plainInfo, scan}
 use Rattle.rules.specs.Grammar.Trees.{Description}
-use Rattle.laws.specs.Accepted.Scanned.{scanned-each}
+use Rattle.laws_accepted.specs.Accepted.Scanned.{scanned-each}
 use Rattle.table.specs.Ready.{Ready}
 use Rattle.bodies.specs.Bodies.{BodiesView}
 

@@ -6,9 +6,9 @@ use mathlib.Core.Bool.{true, false, not, true≢false}
 use mathlib.Core.List.{List, [], _∷_}
 use native.Mathlib.Omega.{arith}
 use lib.ListN.{length, drop, length-drop, length-append}
-use Rattle.laws.specs.Grammar.Heads.{action-head}
-use Rattle.laws.specs.Grammar.Nesting.{actionNest}
-use Rattle.laws.specs.Grammar.Positions.{action-writes}
+use Rattle.laws_grammar.specs.Grammar.Heads.{action-head}
+use Rattle.laws_grammar.specs.Cited.Nesting.{actionNest}
+use Rattle.laws_grammar.specs.Grammar.Positions.{action-writes}
 use Rattle.rules.specs.Text.Tokens.{Kind, Name, LPar, RPar, Equals, LEAVE, RESTART, STOP, NO-OP, Info, Token, tk, kindNo, Becomes}
 use Rattle.rules.specs.Grammar.Trees.{Tokens, Bits, all-bits, bits, bitsTokens, Operand, operandTokens, Tail, tailTokens, Subscript, no-subscript, subscript, subscriptTokens, Joined, alone, joined, joinedTokens}
 use Rattle.rules.specs.Grammar.Trees.{Action, block, labelled, if-then, decode, repeat, leave, restart, activate, stop, no-op, transfer, actionTokens}
@@ -18,7 +18,7 @@ use Rattle.rules.specs.Faults.Declared.{isKnown, declaredAt}
 use Rattle.rules.specs.Faults.Bodies.{activated, actionFaults}
 use Rattle.table.specs.Holds.{kindByte, tokenAt}
 use Rattle.table.specs.Keys.{noKey, leastBy, leastKey}
-use Rattle.table.specs.Positions.{here, far, token-far, behind-far, kind-far}
+use Rattle.table.specs.Laws.Positions.{here, far, token-far, behind-far, kind-far}
 use Rattle.table.specs.Words.{NameAt, wordAt}
 use Rattle.bodies.specs.declared.Walked.{Walked}
 use Rattle.bodies.specs.Stage.{Stage, outerOf, tableOf}

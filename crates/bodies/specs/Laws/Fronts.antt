@@ -10,8 +10,8 @@ use Rattle.rules.specs.Grammar.Trees.{Tokens, Literal, exact, masked, literalTo
 use Rattle.rules.specs.Grammar.Trees.{Action, actionTokens, Selected, select, otherwise, selectedTokens, SelectedMore, selected-end, selected-more, selectedMoreTokens}
 use Rattle.rules.specs.Selectors.{literalInfo, selectorItems}
 use Rattle.rules.specs.Faults.Bodies.{selectorPlace}
-use Rattle.laws.specs.Grammar.Nesting.{actionNest, selectedNest}
-use Rattle.laws.specs.Grammar.Positions.{selector-writes}
+use Rattle.laws_grammar.specs.Cited.Nesting.{actionNest, selectedNest}
+use Rattle.laws_grammar.specs.Grammar.Positions.{selector-writes}
 use Rattle.selectors.specs.Stands.{ItemsAt}
 use Rattle.selectors.specs.Laws.Trees.{selector-at, otherwise-at}
 use Rattle.bodies.specs.Actions.{EndsAction, by-end, by-comma}

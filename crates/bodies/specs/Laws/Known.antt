@@ -17,12 +17,14 @@ use Rattle.rules.specs.Faults.Fault.{fault, when}
 use Rattle.rules.specs.Faults.Declared.{isKnown}
 use Rattle.rules.specs.Faults.Bodies.{declaredNames}
 use Rattle.table.specs.Holds.{tokenAt, placeCell, insideCell}
-use Rattle.table.specs.Keys.{key, noKey, leastBy, leastKey, by-place, least-one}
+use Rattle.table.specs.Keys.{key, noKey, leastBy, leastKey}
+use Rattle.table.specs.Laws.Keys.{by-place, least-one}
 use Rattle.table.specs.Meaning.{outerOnly, unknownName}
-use Rattle.table.specs.Positions.{record-within}
+use Rattle.table.specs.Laws.Positions.{record-within}
 use Rattle.table.specs.Words.{NameAt, wordAt}
-use Rattle.expressions.specs.Lookups.{undeclared, declared}
-use Rattle.bodies.specs.Stage.{Stage, outerOf, tableOf, sceneOf}
+use Rattle.expressions.specs.Laws.Lookups.{undeclared, declared}
+use Rattle.bodies.specs.Stage.{Stage, outerOf, tableOf}
+use Rattle.bodies.specs.Laws.Stage.{sceneOf}
 use Rattle.bodies.specs.Stacks.{stackedWords, NameView}
 use Rattle.bodies.specs.Labels.{knownNames, LabelView, labelFault}
 

@@ -9,13 +9,15 @@ use Rattle.rules.specs.Text.Tokens.{Semi, NEXT, END, Token, tk, kindNo}
 use Rattle.rules.specs.Grammar.Trees.{Tokens, Action, block, actionTokens, Members, end, also, next, membersTokens}
 use Rattle.rules.specs.Faults.Fault.{Fault}
 use Rattle.rules.specs.Faults.Bodies.{actionFaults, membersFaults}
-use Rattle.laws.specs.Grammar.Nesting.{actionNest, membersNest}
+use Rattle.laws_grammar.specs.Cited.Nesting.{actionNest, membersNest}
 use Rattle.table.specs.Holds.{kindByte}
-use Rattle.table.specs.Keys.{key, noKey, leastBy, leastKey, least-append, least-bounded}
-use Rattle.table.specs.Positions.{here, kind-here, record-within}
+use Rattle.table.specs.Keys.{key, noKey, leastBy, leastKey}
+use Rattle.table.specs.Laws.Keys.{least-append, least-bounded}
+use Rattle.table.specs.Laws.Positions.{here, kind-here, record-within}
 use Rattle.bodies.specs.declared.Walked.{Walked}
 use Rattle.bodies.specs.Stage.{Stage, outerOf, tableOf}
-use Rattle.bodies.specs.Stacks.{stackedWords, Kept, kept-words, kept-stacked}
+use Rattle.bodies.specs.Stacks.{stackedWords, Kept}
+use Rattle.bodies.specs.Laws.Stacks.{kept-words, kept-stacked}
 use Rattle.bodies.specs.Actions.{EndsAction, by-semi, by-next, by-end, levelBase, ActionView, faultsUnder, ActionAnswer, IsBlock}
 
 module _ {text records values decls : List ℕ} (s : Stage text records values decls) (ws : List (List ℕ)) where

@@ -16,15 +16,17 @@ use Rattle.rules.specs.Text.Tokens.{Name, Becomes, same, kindAt, Info, tk}
 use Rattle.rules.specs.Text.Scan.{plainInfo}
 use Rattle.rules.specs.Grammar.Trees.{Tokens, actionTokens}
 use Rattle.rules.specs.Faults.Bodies.{labels, labelFaults}
-use Rattle.laws.specs.Grammar.Kinds.{kindAt-kindNo}
-use Rattle.laws.specs.Grammar.Positions.{action-writes}
+use Rattle.laws_grammar.specs.Grammar.Kinds.{kindAt-kindNo}
+use Rattle.laws_grammar.specs.Grammar.Positions.{action-writes}
 use Rattle.table.specs.Holds.{kindByte, tokenAt}
-use Rattle.table.specs.Keys.{key, noKey, leastBy, leastKey, least-bounded, least-append}
-use Rattle.table.specs.Positions.{here, record-within}
+use Rattle.table.specs.Keys.{key, noKey, leastBy, leastKey}
+use Rattle.table.specs.Laws.Keys.{least-bounded, least-append}
+use Rattle.table.specs.Laws.Positions.{here, record-within}
 use Rattle.table.specs.Words.{NameAt, wordAt}
-use Rattle.expressions.specs.Tests.{both-true}
+use Rattle.expressions.specs.Laws.Tests.{both-true}
 use Rattle.bodies.specs.Stage.{Stage}
-use Rattle.bodies.specs.Stacks.{Stacked, stackedWords, push-words, push-stacked}
+use Rattle.bodies.specs.Stacks.{Stacked, stackedWords}
+use Rattle.bodies.specs.Laws.Stacks.{push-words, push-stacked}
 use Rattle.bodies.specs.Labels.{labelAt, knownNames, LabelView, labelFault, LabelsView, allLabelFaults}
 use Rattle.bodies.specs.Laws.Labels.{startsBecomes, withLabel, labelsIn, action-labels}
 

@@ -20,8 +20,9 @@ use Rattle.rules.specs.Faults.Fault.{Fault, fault, when}
 use Rattle.rules.specs.Faults.Declared.{inside, declaredAt}
 use Rattle.rules.specs.Faults.Bodies.{Judged, judged, isSound, over, subscripted, accessJudged, judgeName, judgeAccess, judge, judgeFactor, judgeIndex, faultsIn}
 use Rattle.rules.specs.Faults.Bodies.{judgeDestination, judgeJoined, ownerOf, ownedTwice, storedTwice}
-use Rattle.laws.specs.Grammar.Positions.{Writes, bits-writes, operand-writes, subscript-writes}
-use Rattle.table.specs.Keys.{Smalls, none-small, also-small, smalls-append}
+use Rattle.laws_grammar.specs.Grammar.Positions.{Writes, bits-writes, operand-writes, subscript-writes}
+use Rattle.table.specs.Keys.{Smalls, none-small, also-small}
+use Rattle.table.specs.Laws.Keys.{smalls-append}
 
 abbrev pub Inside : Info → Type 0
 Inside i = i .place ≤ longestText

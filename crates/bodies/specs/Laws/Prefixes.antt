@@ -14,16 +14,19 @@ use Rattle.rules.specs.Grammar.Trees.{Tokens, Operand, operandTokens, Tail, tai
 use Rattle.rules.specs.Grammar.Trees.{Action, block, labelled, if-then, decode, repeat, leave, restart, activate, stop, no-op, transfer, actionTokens}
 use Rattle.rules.specs.Grammar.Precedence.{exprOf}
 use Rattle.rules.specs.Faults.Bodies.{faultsIn, judge, actionFaults}
-use Rattle.laws.specs.Grammar.Nesting.{actionNest}
+use Rattle.laws_grammar.specs.Cited.Nesting.{actionNest}
 use Rattle.table.specs.Holds.{kindByte, tokenAt}
-use Rattle.table.specs.Keys.{key, noKey, leastKey, least-append, least-bounded}
-use Rattle.table.specs.Positions.{here, behind-far}
+use Rattle.table.specs.Keys.{key, noKey, leastKey}
+use Rattle.table.specs.Laws.Keys.{least-append, least-bounded}
+use Rattle.table.specs.Laws.Positions.{here, behind-far}
 use Rattle.table.specs.Words.{NameAt, wordAt}
 use Rattle.expressions.specs.Scene.{ExpressionAt, ExpressionAnswer}
-use Rattle.expressions.specs.Tests.{both-true}
+use Rattle.expressions.specs.Laws.Tests.{both-true}
 use Rattle.expressions.specs.declared.Judged.{Judged as Value}
-use Rattle.bodies.specs.Stage.{Stage, outerOf, tableOf, sceneOf}
-use Rattle.bodies.specs.Stacks.{stackedWords, push-words, push-stacked}
+use Rattle.bodies.specs.Stage.{Stage, outerOf, tableOf}
+use Rattle.bodies.specs.Laws.Stage.{sceneOf}
+use Rattle.bodies.specs.Stacks.{stackedWords}
+use Rattle.bodies.specs.Laws.Stacks.{push-words, push-stacked}
 use Rattle.bodies.specs.Labels.{labelAt}
 use Rattle.bodies.specs.Actions.{ActionView, faultsUnder}
 use Rattle.bodies.specs.Prefixes.{Bare, Ahead}

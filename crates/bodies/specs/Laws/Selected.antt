@@ -13,16 +13,19 @@ use Rattle.rules.specs.Limits.{longestText}
 use Rattle.rules.specs.Grammar.Trees.{Tokens, actionTokens, selected, Selected, selectedTokens}
 use Rattle.rules.specs.Faults.Fault.{Fault, fault, when}
 use Rattle.rules.specs.Faults.Bodies.{past, alternativesFaults, actionFaults, insideFaults}
-use Rattle.laws.specs.Grammar.Nesting.{selectedNest}
+use Rattle.laws_grammar.specs.Cited.Nesting.{selectedNest}
 use Rattle.table.specs.Holds.{kindByte, placeCell, tokenAt}
-use Rattle.table.specs.Keys.{key, noKey, leastKey, least-append, least-bounded}
-use Rattle.table.specs.Positions.{here, kind-here, record-within}
+use Rattle.table.specs.Keys.{key, noKey, leastKey}
+use Rattle.table.specs.Laws.Keys.{least-append, least-bounded}
+use Rattle.table.specs.Laws.Positions.{here, kind-here, record-within}
 use Rattle.selectors.specs.Stands.{ItemsAt, AlternativeView}
 use Rattle.selectors.specs.Overlaps.{earlierItems}
 use Rattle.selectors.specs.Laws.Alternatives.{items-within}
 use Rattle.bodies.specs.declared.Walked.{Walked}
-use Rattle.bodies.specs.Stage.{outerOf, tableOf, heldOf}
-use Rattle.bodies.specs.Stacks.{stackedWords, Kept, kept-words, kept-stacked, kept-then, kept-less}
+use Rattle.bodies.specs.Stage.{outerOf, tableOf}
+use Rattle.bodies.specs.Laws.Stage.{heldOf}
+use Rattle.bodies.specs.Stacks.{stackedWords, Kept}
+use Rattle.bodies.specs.Laws.Stacks.{kept-words, kept-stacked, kept-then, kept-less}
 use Rattle.bodies.specs.Actions.{levelBase, ActionView, ActionAnswer}
 use Rattle.bodies.specs.Choices.{startCell, withStart, compared, StartsView, OverlapAnswer, BehindView, BehindAnswer}
 use Rattle.bodies.specs.Alternatives.{IsSelected, ChoicesView, choicesFaults, ChoicesAnswer}

@@ -17,18 +17,20 @@ use Rattle.rules.specs.Faults.Fault.{fault, when}
 use Rattle.rules.specs.Faults.Declared.{isKnown}
 use Rattle.rules.specs.Faults.Bodies.{faultsIn, judge, judgeJoined, judgeDestination, ownerOf, storedTwice, actionFaults}
 use Rattle.table.specs.Holds.{tokenAt, placeCell, insideCell}
-use Rattle.table.specs.Keys.{key, noKey, leastBy, leastKey, least-append}
+use Rattle.table.specs.Keys.{key, noKey, leastBy, leastKey}
+use Rattle.table.specs.Laws.Keys.{least-append}
 use Rattle.table.specs.Meaning.{outerOnly, unknownName}
-use Rattle.table.specs.Positions.{Here, here}
+use Rattle.table.specs.Laws.Positions.{Here, here}
 use Rattle.table.specs.Views.{View, BodyAt}
 use Rattle.table.specs.Words.{wordAt}
 use Rattle.table.specs.Operators.{endsExpression}
 use Rattle.expressions.specs.Scene.{ExpressionAt, ExpressionAnswer}
 use Rattle.expressions.specs.Destinations.{DestinationAt, DestinationAnswer}
-use Rattle.expressions.specs.Lookups.{Found, view-of, undeclared, declared}
+use Rattle.expressions.specs.Laws.Lookups.{Found, view-of, undeclared, declared}
 use Rattle.expressions.specs.declared.Judged.{Judged as Value}
 use Rattle.expressions.specs.declared.destinations.Checked.{Checked}
-use Rattle.bodies.specs.Stage.{outerOf, tableOf, sceneOf}
+use Rattle.bodies.specs.Stage.{outerOf, tableOf}
+use Rattle.bodies.specs.Laws.Stage.{sceneOf}
 use Rattle.bodies.specs.Stacks.{stackedWords, NameView}
 use Rattle.bodies.specs.Actions.{EndsAction, by-semi, by-next, by-end, by-comma}
 use Rattle.bodies.specs.Jumps.{JumpView, jumpFaults, CallView, callFaults, TransferView, TransferAnswer}

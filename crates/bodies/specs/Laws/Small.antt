@@ -25,12 +25,13 @@ use Rattle.rules.specs.Faults.Declared.{isKnown, declaredAt}
 use Rattle.rules.specs.Faults.Bodies.{judge, activated, someMeet, past, selectorPlace, firstPlace, alternative}
 use Rattle.rules.specs.Faults.Bodies.{countedFaults, selectedFaults, moreFaults, alternativesFaults, labels, labelFaults, actionFaults, membersFaults, insideFaults, insideCounted, insideSelected, insideMore}
 use Rattle.rules.specs.Faults.Bodies.{declaredNames, bodyFaults, faults40}
-use Rattle.laws.specs.Grammar.Heads.{action-head}
-use Rattle.laws.specs.Grammar.Positions.{bits-writes, operand-writes, tail-writes, subscript-writes, joined-writes, selector-writes, action-writes, own-bits-writes, main-bits-writes}
+use Rattle.laws_grammar.specs.Grammar.Heads.{action-head}
+use Rattle.laws_grammar.specs.Grammar.Positions.{bits-writes, operand-writes, tail-writes, subscript-writes, joined-writes, selector-writes, action-writes, own-bits-writes, main-bits-writes}
 use Rattle.table.specs.Declarations.{nameTokens, declarationList, all-declared}
 use Rattle.table.specs.Holds.{tokenAt, Holds}
-use Rattle.table.specs.Keys.{Smalls, none-small, smalls-append}
-use Rattle.table.specs.Positions.{far, token-far}
+use Rattle.table.specs.Keys.{Smalls, none-small}
+use Rattle.table.specs.Laws.Keys.{smalls-append}
+use Rattle.table.specs.Laws.Positions.{far, token-far}
 use Rattle.table.specs.Ready.{Ready}
 use Rattle.bodies.specs.Laws.Counted.{first-place}
 use Rattle.bodies.specs.Laws.Labels.{isLabel, withLabel, labelsIn, action-labels}

@@ -11,10 +11,10 @@ use Rattle.rules.specs.Text.Tokens.{Becomes, tk, kindAt, kindNo}
 use Rattle.rules.specs.Limits.{longestText}
 use Rattle.rules.specs.Grammar.Trees.{Tokens}
 use Rattle.rules.specs.Faults.Fault.{fault}
-use Rattle.laws.specs.Grammar.Kinds.{kindAt-kindNo}
+use Rattle.laws_grammar.specs.Grammar.Kinds.{kindAt-kindNo}
 use Rattle.table.specs.Holds.{kindByte, placeCell}
 use Rattle.table.specs.Keys.{key, noKey}
-use Rattle.table.specs.Positions.{here, kind-here, record-within}
+use Rattle.table.specs.Laws.Positions.{here, kind-here, record-within}
 use Rattle.selectors.specs.Overlaps.{AlternativesView, FirstOverlap}
 use Rattle.selectors.specs.Laws.Alternatives.{items-within}
 use Rattle.bodies.specs.Actions.{levelBase}

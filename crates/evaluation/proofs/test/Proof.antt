@@ -1,7 +1,7 @@
 -- `evaluation::test` meets its contract: the expression stands there.
 -- Assumes nothing.
 use native.Mathlib.Omega.{arith}
-use Rattle.evaluation.specs.Tests.{test-small, test-at, test-answer}
+use Rattle.evaluation.specs.Laws.Tests.{test-small, test-at, test-answer}
 use Rattle.evaluation.proofs.test.Statement.{statement}
 use Rattle.evaluation.proofs.test.Tie as tie
 

@@ -1,7 +1,7 @@
 -- `grammar::recognise` meets its contract: the table passes the test of the rows.
 -- Assumes nothing.
 use borrow.Author.Needs.{needs}
-use Rattle.laws.specs.Grammar.Rows.{lookup}
+use Rattle.laws_grammar.specs.Cited.Rows.{lookup}
 use Rattle.grammar.proofs.Entries.{ruled}
 use Rattle.grammar.proofs.recognise.Statement.{statement}
 use Rattle.grammar.proofs.recognise.Tie as tie

@@ -10,7 +10,7 @@ use Rattle.rules.specs.Limits.{longestText}
 use Rattle.rules.specs.Steps.Runs.{Ending, done, halted, paused, faulted}
 use Rattle.rules.specs.Answers.{Verdict, accepted, refused, Checks, Result, refusal, ended, Runs, littleEndian, bytesOf, verdictNumbers, ranNumbers, resultNumbers, Lawful}
 use Rattle.rules.specs.Agreement.{endingCode, resultCode, endingIn}
-use Rattle.laws.specs.Answers.{one-verdict, one-result, accepted-iff-lawful}
+use Rattle.laws_grammar.specs.Answers.{one-verdict, one-result, accepted-iff-lawful}
 use Rattle.laws.specs.Refusals.Numbered.{checks-numbered}
 use Rattle.rules.specs.Calls.Memory.{Memory, Enough, numberBytes, answered, settled}
 use Rattle.rules.specs.Calls.Check.{CheckCall, verdictNumber}

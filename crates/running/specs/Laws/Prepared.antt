@@ -9,12 +9,12 @@ use Rattle.rules.specs.Text.Scan.{scan}
 use Rattle.rules.specs.Grammar.Trees.{Tokens, Description}
 use Rattle.rules.specs.Declarations.{outerName}
 use Rattle.rules.specs.Faults.Whole.{mainName}
-use Rattle.laws.specs.Links.Placed.{descriptionCode}
+use Rattle.laws_code.specs.Cited.Placed.{descriptionCode}
 use Rattle.table.specs.Ready.{Ready}
 use Rattle.places.specs.Placing.{Described, AllPlaced}
 use Rattle.links.specs.Links.{Links}
 use Rattle.links.specs.Mains.{MainIn, MainFound}
-use Rattle.links.specs.Promised.{promised, main-in, main-starts}
+use Rattle.links.specs.Laws.Promised.{promised, main-in, main-starts}
 use Rattle.runner.specs.Runs.{RunAt}
 use Rattle.starts.specs.Starts.{Begins}
 use Rattle.reader.specs.Judged.{Accepts, described-by, table-by}

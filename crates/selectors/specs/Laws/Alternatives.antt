@@ -14,7 +14,7 @@ use Rattle.rules.specs.Grammar.Trees.{Tokens, Literal, exact, masked}
 use Rattle.rules.specs.Selectors.{Item}
 use Rattle.rules.specs.Faults.Bodies.{itemsMeet, meetsAny, someMeet, past}
 use Rattle.table.specs.Holds.{kindByte}
-use Rattle.table.specs.Positions.{record-within, kind-here}
+use Rattle.table.specs.Laws.Positions.{record-within, kind-here}
 use Rattle.selectors.specs.declared.alternatives.Items.{Items}
 use Rattle.selectors.specs.declared.alternatives.Items.the-variants.{From, Nothing}
 use Rattle.selectors.specs.Stands.{Held, ItemsFrom, ItemsView, TwoLists, ItemsAt, no-items, in-brackets, one-item, AlternativeView, TwoAlternatives}

@@ -11,7 +11,8 @@ use lib.Dec.{T, leb, eqb, leb→le, le→leb, eqb→eq, eqb-refl}
 use Rattle.rules.specs.Selectors.{Item, pattern, between, agree, matches}
 use Rattle.rules.specs.Faults.Bodies.{patternsMeet, reaches, itemsMeet}
 use Rattle.selectors.specs.Laws.Patterns.{Bit, b0, b1, lowest-bit}
-use Rattle.selectors.specs.Laws.Reaches.{may, both-have, neither-has, one-has}
+use Rattle.selectors.specs.Reaches.{may}
+use Rattle.selectors.specs.Laws.Reaches.{both-have, neither-has, one-has}
 use Rattle.selectors.specs.Laws.Truth.{both, first, second, left, right, which}
 use Rattle.selectors.specs.Laws.Values.{allows, PatternFits, low-fits, by-highest, least, greatest, least-agrees, greatest-agrees, sum-fits, Split, split-low, split-high}
 

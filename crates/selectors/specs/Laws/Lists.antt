@@ -11,9 +11,9 @@ use Rattle.rules.specs.Text.Tokens.{Kind, Comma, kindNo, kindAt}
 use Rattle.rules.specs.Grammar.Trees.{Tokens, Literal, Range, single, to}
 use Rattle.rules.specs.Selectors.{Item, itemOf, highest}
 use Rattle.rules.specs.Faults.Bodies.{itemsMeet, meetsAny, someMeet, past}
-use Rattle.laws.specs.Grammar.Kinds.{kindAt-kindNo}
+use Rattle.laws_grammar.specs.Grammar.Kinds.{kindAt-kindNo}
 use Rattle.table.specs.Holds.{kindByte}
-use Rattle.table.specs.Positions.{record-within, kind-here}
+use Rattle.table.specs.Laws.Positions.{record-within, kind-here}
 use Rattle.selectors.specs.declared.items.Item as code
 use Rattle.selectors.specs.Items.{meant}
 use Rattle.selectors.specs.Stands.{itemSize, ItemAt, ItemView, ItemRead, ItemsFrom, last-item, more-items, ItemsView, TwoLists}

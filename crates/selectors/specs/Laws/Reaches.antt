@@ -1,19 +1,11 @@
 -- A pattern and a range, by the highest bit: what each case of the bounds leaves to be seen.
 -- Assumes nothing.
-use Prim.Native.Nat.{ℕ, suc, _+_, _-_, _/_, _%_, _^_, _<_, _≤_}
+use Prim.Native.Nat.{ℕ, suc, _-_, _%_, _^_, _<_, _≤_}
 use mathlib.Core.Path.{_≡_}
-use mathlib.Core.Bool.{Bool, _&&_, _||_}
+use mathlib.Core.Bool.{_&&_}
 use borrow.Author.Tests.{lt-ltb, le-ltb, le-leb, lt-leb}
-use lib.Dec.{leb, eqb}
 use Rattle.rules.specs.Faults.Bodies.{reaches}
-
--- whether the bit n of a value of the pattern may be b
-abbrev pub may : ℕ → ℕ → ℕ → ℕ → Bool
-may b n v f = eqb (f / 2 ^ n % 2) 1 || eqb (v / 2 ^ n % 2) b
-
--- where only h has the bit n: a value without it must reach l, or one with it must not pass h
-abbrev pub either-way : Bool → Bool → ℕ → ℕ → ℕ → ℕ → Bool
-either-way without with v f l h = (without && leb l (v + f)) || (with && leb v h)
+use Rattle.selectors.specs.Reaches.{may, either-way}
 
 module _ (n v f l h : ℕ) where
   pub both-have : 2 ^ n ≤ l → reaches (suc n) v f l h ≡ may 1 n v f && reaches n (v % 2 ^ n) (f % 2 ^ n) (l - 2 ^ n) (h - 2 ^ n)

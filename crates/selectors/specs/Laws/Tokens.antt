@@ -11,7 +11,7 @@ use Rattle.rules.specs.Text.Tokens.{Kind, Const, Masked, Colon, Info, Token, tk
 use Rattle.rules.specs.Grammar.Trees.{Tokens, Literal, exact, masked, literalTokens, Range, single, to}
 use Rattle.rules.specs.Selectors.{between, literalInfo, lowest, itemOf, highest}
 use Rattle.table.specs.Holds.{kindByte, valueCell, tokenAt, Entry}
-use Rattle.table.specs.Positions.{Here, here, behind-far, value-within, record-within, kind-here}
+use Rattle.table.specs.Laws.Positions.{Here, here, behind-far, value-within, record-within, kind-here}
 use Rattle.selectors.specs.declared.items.Item.{Item}
 use Rattle.selectors.specs.declared.items.Item.the-variants.{Pattern}
 use Rattle.selectors.specs.Items.{meant, rangeOf}

@@ -11,7 +11,7 @@ use lib.ListN.{drop}
 use Rattle.rules.specs.Text.Tokens.{RBra, Comma, Becomes, OTHERWISE, Info, Token, tk, kindNo}
 use Rattle.rules.specs.Grammar.Trees.{Tokens, Literal, literalTokens, Range, single, to, rangeTokens, Items, close, item, itemsTokens, Selector, one-of, any-of, selectorTokens}
 use Rattle.rules.specs.Selectors.{between, literalInfo, lowest, highestDigits, itemOf, itemsOf, selectorItems}
-use Rattle.table.specs.Positions.{here}
+use Rattle.table.specs.Laws.Positions.{here}
 use Rattle.selectors.specs.Stands.{by-comma, by-close, by-becomes, itemSize, ItemAt, ItemsFrom, last-item, more-items, ItemsAt, no-items, in-brackets, one-item}
 use Rattle.selectors.specs.Laws.Tokens.{item-behind}
 use Rattle.selectors.specs.Laws.Values.{PatternFits, sum-fits}

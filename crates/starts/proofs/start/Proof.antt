@@ -4,7 +4,7 @@ use borrow.Author.Needs.{needs}
 use native.Mathlib.Omega.{arith}
 use Prim.Native.Nat.{_-_}
 use Rattle.table.specs.Laws.Kth.{kth-room, kth-view}
-use Rattle.declare.specs.Small.{small-there}
+use Rattle.declare.specs.Laws.Small.{small-there}
 use Rattle.starts.proofs.Walking.{Walked, refused-60, none-walked, to-seek, refused-61, walked-more, all-walked}
 use Rattle.starts.proofs.start.Statement.{statement}
 use Rattle.starts.proofs.start.Tie as tie

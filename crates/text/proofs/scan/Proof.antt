@@ -12,16 +12,18 @@ use Rattle.cells.specs.Laws.{length-put}
 use Rattle.rules.specs.Text.Bytes.{classOf, classIn}
 use Rattle.rules.specs.Text.Tokens.{Token, kindNo}
 use Rattle.rules.specs.Text.Scan.{Scan, End, fine, refuse, ended, after, lexeme, scan}
-use Rattle.text.specs.Classes.{Classed}
-use Rattle.text.specs.Runs.{right, classed}
-use Rattle.text.specs.Lexemes.{sizeOf, lexemeOf, nothing-back, refused-back, token-back, IsToken}
-use Rattle.text.specs.Scans.{from, from-end, from-nothing, from-token, from-full, from-refused}
-use Rattle.text.specs.Sound.{Sound, Placed, lexeme-sound}
-use Rattle.text.specs.Table.{pack, recordOf, recordCells, valueBy, valueOf, valueCells, writeCells, endedAt, scannedFrom, scannedOf}
+use Rattle.classes.specs.Classes.{Classed}
+use Rattle.classes.specs.Laws.Runs.{right, classed}
+use Rattle.lexemes.specs.Lexemes.{sizeOf, lexemeOf}
+use Rattle.text.specs.Laws.Lexemes.{nothing-back, refused-back, token-back, IsToken}
+use Rattle.text.specs.Laws.Scans.{from, from-end, from-nothing, from-token, from-full, from-refused}
+use Rattle.text.specs.Laws.Sound.{Sound, Placed, lexeme-sound}
+use Rattle.text.specs.Table.{pack, recordOf, recordCells, valueBy, valueOf, valueCells, writeCells, endedAt, scannedOf}
+use Rattle.text.specs.Laws.Table.{scannedFrom}
 use Rattle.text.specs.declared.Scanned.{Scanned}
 use Rattle.text.specs.declared.Scanned.the-variants.{Fine, Refused}
-use Rattle.text.specs.declared.lexemes.Lexeme.{Lexeme}
-use Rattle.text.specs.declared.lexemes.Lexeme.the-variants.{Nothing, Token as Found, Refused as Not}
+use Rattle.lexemes.specs.declared.lexemes.Lexeme.{Lexeme}
+use Rattle.lexemes.specs.declared.lexemes.Lexeme.the-variants.{Nothing, Token as Found, Refused as Not}
 use Rattle.text.proofs.scan.Statement.{statement}
 use Rattle.text.proofs.scan.Tie as tie
 

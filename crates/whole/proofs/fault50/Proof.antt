@@ -1,7 +1,7 @@
 -- `whole::fault50` meets its contract.
 use borrow.Author.Needs.{needs}
-use Rattle.whole.specs.Written.{reading}
-use Rattle.whole.specs.Whole.{short-chains, told-first, told-last}
+use Rattle.whole.specs.Laws.Written.{reading}
+use Rattle.whole.specs.Laws.Whole.{short-chains, told-first, told-last}
 use Rattle.whole.proofs.fault50.Statement.{statement}
 use Rattle.whole.proofs.fault50.Tie as tie
 

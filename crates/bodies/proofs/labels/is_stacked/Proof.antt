@@ -9,7 +9,8 @@ use Prim.Native.Nat.{ℕ, suc, _-_, _<_, _≤_}
 use Rattle.cells.specs.Cells.{cell}
 use Rattle.rules.specs.Faults.Declared.{isKnown}
 use Rattle.table.specs.Words.{wordAt, TwoNames, sameWords}
-use Rattle.bodies.specs.Stacks.{NameView, stackedWords, stack-room, stacked-pair, known-by-top, known-none}
+use Rattle.bodies.specs.Stacks.{NameView, stackedWords}
+use Rattle.bodies.specs.Laws.Stacks.{stack-room, stacked-pair, known-by-top, known-none}
 use Rattle.bodies.proofs.labels.is_stacked.Statement.{statement}
 use Rattle.bodies.proofs.labels.is_stacked.Tie as tie
 

@@ -7,7 +7,8 @@ use mathlib.Core.List.{List}
 use Prim.Native.Nat.{ℕ, _-_, _≤_}
 use Rattle.bodies.specs.Actions.{labelCells, ActionView}
 use Rattle.bodies.specs.Prefixes.{Ahead}
-use Rattle.bodies.specs.Stacks.{Kept, kept-all, kept-then, kept-put}
+use Rattle.bodies.specs.Stacks.{Kept}
+use Rattle.bodies.specs.Laws.Stacks.{kept-all, kept-then, kept-put}
 use Rattle.bodies.specs.Laws.Prefixes.{ahead-starts, ahead-inside, ahead-first, ahead-second, ahead-loop, ahead-test, ahead-label, ahead-bare}
 use Rattle.bodies.proofs.prefixes.prefixes.Statement.{statement}
 use Rattle.bodies.proofs.prefixes.prefixes.Tie as tie

@@ -4,7 +4,7 @@ use borrow.Author.Needs.{needs}
 use native.Mathlib.Omega.{arith}
 use Prim.Native.Nat.{_-_}
 use Rattle.table.specs.Laws.Kth.{kth-room}
-use Rattle.declare.specs.Small.{small-there}
+use Rattle.declare.specs.Laws.Small.{small-there}
 use Rattle.declare.proofs.Totals.{Summed, nothing-summed, summed-more, all-summed}
 use Rattle.declare.proofs.counting.words.Statement.{statement}
 use Rattle.declare.proofs.counting.words.Tie as tie

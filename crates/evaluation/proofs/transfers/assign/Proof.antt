@@ -1,7 +1,7 @@
 -- `evaluation::transfers::assign` meets its contract: a single access is stored to at once.
 -- Assumes nothing.
 use borrow.Author.Needs.{needs}
-use Rattle.evaluation.specs.Transfers.{first-at, assign-faults, assign-fits, assign-single, gather-at, assign-joined}
+use Rattle.evaluation.specs.Laws.Transfers.{first-at, assign-faults, assign-fits, assign-single, gather-at, assign-joined}
 use Rattle.evaluation.proofs.transfers.assign.Statement.{statement}
 use Rattle.evaluation.proofs.transfers.assign.Tie as tie
 

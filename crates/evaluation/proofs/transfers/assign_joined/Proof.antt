@@ -2,7 +2,7 @@
 -- Assumes nothing.
 use borrow.Author.Needs.{needs}
 use native.Mathlib.Omega.{arith}
-use Rattle.evaluation.specs.Transfers.{joined-faults, stores-room, stores-at, joined-stored}
+use Rattle.evaluation.specs.Laws.Transfers.{joined-faults, stores-room, stores-at, joined-stored}
 use Rattle.evaluation.proofs.transfers.assign_joined.Statement.{statement}
 use Rattle.evaluation.proofs.transfers.assign_joined.Tie as tie
 

@@ -5,7 +5,8 @@ use native.Mathlib.Omega.{arith}
 use mathlib.Core.Path.{_≡_, refl, _∙_}
 use Prim.Native.Nat.{_-_}
 use lib.ListN.{length}
-use Rattle.evaluation.specs.Gathering.{GatherAt, Gathering, first-packable, gathering, gathered, gather-small, next-at, gather-faults, next-packable, gather-slot, gather-sum, gather-falls, gather-turn}
+use Rattle.evaluation.specs.Gathering.{GatherAt}
+use Rattle.evaluation.specs.Laws.Gathering.{Gathering, first-packable, gathering, gathered, gather-small, next-at, gather-faults, next-packable, gather-slot, gather-sum, gather-falls, gather-turn}
 use Rattle.evaluation.proofs.transfers.gather.Statement.{statement}
 use Rattle.evaluation.proofs.transfers.gather.Tie as tie
 

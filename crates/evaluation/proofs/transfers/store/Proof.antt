@@ -1,7 +1,7 @@
 -- `evaluation::transfers::store` meets its contract.
 -- Assumes nothing.
 use borrow.Author.Needs.{needs}
-use Rattle.evaluation.specs.Stores.{put-by}
+use Rattle.evaluation.specs.Laws.Stores.{put-by}
 use Rattle.evaluation.proofs.transfers.store.Statement.{statement}
 use Rattle.evaluation.proofs.transfers.store.Tie as tie
 

@@ -3,7 +3,8 @@
 use borrow.Author.Needs.{needs}
 use native.Mathlib.Omega.{arith}
 use Prim.Native.Nat.{_-_}
-use Rattle.evaluation.specs.Stores.{StoresAt, Storing, storing, stored-all, part-fits, store-fits, stored-turn}
+use Rattle.evaluation.specs.Stores.{StoresAt}
+use Rattle.evaluation.specs.Laws.Stores.{Storing, storing, stored-all, part-fits, store-fits, stored-turn}
 use Rattle.evaluation.proofs.transfers.store_all.Statement.{statement}
 use Rattle.evaluation.proofs.transfers.store_all.Tie as tie
 

@@ -2,7 +2,7 @@
 -- Assumes nothing.
 use borrow.Author.Needs.{needs}
 use native.Mathlib.Omega.{arith}
-use Rattle.evaluation.specs.Transfers.{transfer-room, equals-small, right-at, transfer-faults, assign-at, transfer-assigned}
+use Rattle.evaluation.specs.Laws.Transfers.{transfer-room, equals-small, right-at, transfer-faults, assign-at, transfer-assigned}
 use Rattle.evaluation.proofs.transfers.transfer.Statement.{statement}
 use Rattle.evaluation.proofs.transfers.transfer.Tie as tie
 

@@ -19,7 +19,8 @@ use Rattle.expressions.specs.declared.owners.Storage.{Storage}
 use Rattle.expressions.specs.Weights.{Weighs, operated}
 use Rattle.expressions.specs.Scene.{AccessAt, AccessAnswer}
 use Rattle.expressions.specs.Owners.{NameHere, Owns}
-use Rattle.expressions.specs.Destinations.{DestinationAt, DestinationAnswer, repeats, stored, access-name, Joining, first-part, joining-begun, token-within, token-room, another, joining-ended, next-part, operator-place, place-fits, name-fits, part-weighs, joining-more}
+use Rattle.expressions.specs.Destinations.{DestinationAt, DestinationAnswer, repeats, stored}
+use Rattle.expressions.specs.Laws.Destinations.{access-name, Joining, first-part, joining-begun, token-within, token-room, another, joining-ended, next-part, operator-place, place-fits, name-fits, part-weighs, joining-more}
 use Rattle.expressions.proofs.destinations.destination.Statement.{statement}
 use Rattle.expressions.proofs.destinations.destination.Tie as tie
 

@@ -8,7 +8,8 @@ use Prim.Native.Nat.{ℕ, _+_, _-_, _*_, _≤_}
 use lib.ListN.{length}
 use Rattle.rules.specs.Text.Tokens.{NOT, kindNo}
 use Rattle.table.specs.Holds.{kindByte}
-use Rattle.expressions.specs.Operands.{OperandIn, Baring, Bared, baring-room, not-passed, all-passed}
+use Rattle.expressions.specs.Operands.{OperandIn, Bared}
+use Rattle.expressions.specs.Laws.Operands.{Baring, baring-room, not-passed, all-passed}
 use Rattle.expressions.proofs.judge.behind_nots.Statement.{statement}
 use Rattle.expressions.proofs.judge.behind_nots.Tie as tie
 

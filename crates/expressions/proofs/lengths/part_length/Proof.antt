@@ -10,7 +10,8 @@ use Rattle.rules.specs.Declarations.{names, these, howMany}
 use Rattle.rules.specs.Faults.Declared.{inside}
 use Rattle.table.specs.declared.views.Names.{Names}
 use Rattle.table.specs.declared.views.Names.the-variants.{Span}
-use Rattle.expressions.specs.Lengths.{Short, partLength, inside-fewer}
+use Rattle.expressions.specs.Lengths.{Short, partLength}
+use Rattle.expressions.specs.Laws.Lengths.{inside-fewer}
 use Rattle.expressions.proofs.lengths.part_length.Statement.{statement}
 use Rattle.expressions.proofs.lengths.part_length.Tie as tie
 

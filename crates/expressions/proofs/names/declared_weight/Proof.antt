@@ -16,7 +16,8 @@ use Rattle.table.specs.Keys.{key, noKey}
 use Rattle.table.specs.declared.views.Names.{Names}
 use Rattle.expressions.specs.Weights.{Weighs}
 use Rattle.expressions.specs.Lengths.{Short, accessLength}
-use Rattle.expressions.specs.Names.{Shows, isMissing, fitsWords, access-bitless, access-unfit, access-outside, access-sound}
+use Rattle.expressions.specs.Names.{Shows, isMissing, fitsWords}
+use Rattle.expressions.specs.Laws.Names.{access-bitless, access-unfit, access-outside, access-sound}
 use Rattle.expressions.proofs.names.declared_weight.Statement.{statement}
 use Rattle.expressions.proofs.names.declared_weight.Tie as tie
 

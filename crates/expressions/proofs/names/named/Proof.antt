@@ -17,14 +17,17 @@ use Rattle.rules.specs.Faults.Bodies.{accessJudged}
 use Rattle.table.specs.Holds.{placeCell, insideCell}
 use Rattle.table.specs.Keys.{key}
 use Rattle.table.specs.Meaning.{unknownName, outerOnly}
-use Rattle.table.specs.Bits.{BitsView, bitsSize, bits-within}
+use Rattle.table.specs.Bits.{BitsView, bitsSize}
+use Rattle.table.specs.Laws.Bits.{bits-within}
 use Rattle.table.specs.Views.{View}
 use Rattle.table.specs.Shown.{shownWords, shownBits}
 use Rattle.table.specs.declared.views.Names.{Names}
 use Rattle.expressions.specs.Weights.{Weighs}
-use Rattle.expressions.specs.Lengths.{Short, shown-short}
-use Rattle.expressions.specs.Lookups.{Found, view-of, short-bits}
-use Rattle.expressions.specs.Names.{NamedAt, NamedAnswer, Shows, hasIndex, bits-view, name-room, name-place, place-fits, named-answer, named-unknown, named-outer, name-found, found-judged}
+use Rattle.expressions.specs.Lengths.{Short}
+use Rattle.expressions.specs.Laws.Lengths.{shown-short}
+use Rattle.expressions.specs.Laws.Lookups.{Found, view-of, short-bits}
+use Rattle.expressions.specs.Names.{NamedAt, NamedAnswer, Shows, hasIndex}
+use Rattle.expressions.specs.Laws.Names.{bits-view, name-room, name-place, place-fits, named-answer, named-unknown, named-outer, name-found, found-judged}
 use Rattle.expressions.proofs.names.named.Statement.{statement}
 use Rattle.expressions.proofs.names.named.Tie as tie
 

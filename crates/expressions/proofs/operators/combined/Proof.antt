@@ -8,9 +8,11 @@ use Rattle.rules.specs.Values.{opBits}
 use Rattle.rules.specs.Limits.{mostBits, longestText}
 use Rattle.rules.specs.Faults.Fault.{fault}
 use Rattle.rules.specs.Faults.Bodies.{Judged}
-use Rattle.values.specs.Operators.{opAt, opAt-kind}
+use Rattle.values.specs.Operators.{opAt}
+use Rattle.values.specs.Laws.Operators.{opAt-kind}
 use Rattle.table.specs.Keys.{key, noKey}
-use Rattle.expressions.specs.Weights.{Weighs, operated, operated-unsound, operated-long, operated-short}
+use Rattle.expressions.specs.Weights.{Weighs, operated}
+use Rattle.expressions.specs.Laws.Weights.{operated-unsound, operated-long, operated-short}
 use Rattle.expressions.proofs.operators.combined.Statement.{statement}
 use Rattle.expressions.proofs.operators.combined.Tie as tie
 

@@ -13,7 +13,8 @@ use Rattle.table.specs.Holds.{kindByte, placeCell}
 use Rattle.table.specs.Operators.{tightnessAt}
 use Rattle.table.specs.Laws.Operators.{tightness-at}
 use Rattle.expressions.specs.Weights.{Weighs, operated}
-use Rattle.expressions.specs.Settling.{SettleAt, Settles, Settling, top, top-room, top-kind, top-place, top-small, length-fits, left-fits, turned, stopped, emptied}
+use Rattle.expressions.specs.Settling.{SettleAt, Settles}
+use Rattle.expressions.specs.Laws.Settling.{Settling, top, top-room, top-kind, top-place, top-small, length-fits, left-fits, turned, stopped, emptied}
 use Rattle.expressions.proofs.operators.settle.Statement.{statement}
 use Rattle.expressions.proofs.operators.settle.Tie as tie
 

@@ -12,14 +12,16 @@ use Rattle.cells.specs.Cells.{cell}
 use Rattle.rules.specs.Grammar.Trees.{Tokens}
 use Rattle.rules.specs.Declarations.{Target, declaredOf}
 use Rattle.table.specs.Meaning.{outerOnly}
-use Rattle.table.specs.Positions.{record-within}
+use Rattle.table.specs.Laws.Positions.{record-within}
 use Rattle.table.specs.Views.{View, TargetStands, TargetAt}
 use Rattle.table.specs.Shown.{shownBits}
 use Rattle.table.specs.declared.views.Names.{Names}
 use Rattle.expressions.specs.declared.owners.Storage.the-variants.{Carrier, Nothing}
-use Rattle.expressions.specs.Lookups.{view-of, numbered}
-use Rattle.expressions.specs.Names.{isMissing, missing-bits, present-bits}
-use Rattle.expressions.specs.Owners.{NameHere, Owns, owner-none, owner-found, owner-bitless, owner-own, owner-storage, owner-under}
+use Rattle.expressions.specs.Laws.Lookups.{view-of, numbered}
+use Rattle.expressions.specs.Names.{isMissing}
+use Rattle.expressions.specs.Laws.Names.{missing-bits, present-bits}
+use Rattle.expressions.specs.Owners.{NameHere, Owns}
+use Rattle.expressions.specs.Laws.Owners.{owner-none, owner-found, owner-bitless, owner-own, owner-storage, owner-under}
 use Rattle.expressions.proofs.owners.owner.Statement.{statement}
 use Rattle.expressions.proofs.owners.owner.Tie as tie
 use Rattle.table.specs.Holds.{insideCell}

@@ -1,7 +1,7 @@
 -- `lines::bytes::put_byte` meets its contract: the byte stands behind what the buffer held.
 -- Assumes nothing.
 use borrow.Author.Needs.{needs}
-use Rattle.lines.specs.Appended.{one-more}
+use Rattle.lines.specs.Laws.Appended.{one-more}
 use Rattle.lines.proofs.bytes.put_byte.Statement.{statement}
 use Rattle.lines.proofs.bytes.put_byte.Tie as tie
 

@@ -3,7 +3,7 @@
 use borrow.Author.Needs.{needs}
 use Prim.Native.Nat.{_-_}
 use lib.ListN.{length, drop}
-use Rattle.lines.specs.Appended.{Left, all-left}
+use Rattle.lines.specs.Laws.Appended.{Left, all-left}
 use Rattle.lines.proofs.Runs.{room-left, byte-less, bytes-done}
 use Rattle.lines.proofs.bytes.put_bytes.Statement.{statement}
 use Rattle.lines.proofs.bytes.put_bytes.Tie as tie

@@ -1,7 +1,7 @@
 -- `lines::endings::put_fault` meets its contract: one follows the other.
 -- Assumes nothing.
 use borrow.Author.Needs.{needs}
-use Rattle.lines.specs.Appended.{and-then}
+use Rattle.lines.specs.Laws.Appended.{and-then}
 use Rattle.lines.proofs.endings.put_fault.Statement.{statement}
 use Rattle.lines.proofs.endings.put_fault.Tie as tie
 

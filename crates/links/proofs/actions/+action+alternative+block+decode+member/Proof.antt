@@ -6,12 +6,12 @@ use native.Mathlib.Omega.{arith}
 use mathlib.Core.Path.{_∙_}
 use Prim.Native.Nat.{ℕ, _+_, _-_, _*_, _<_}
 use lib.ListN.{length}
-use Rattle.links.specs.Standing.{within}
-use Rattle.links.specs.Members.{members-within, left-all, left-then, left-done, member-end, member-end-within, last-member, last-done}
-use Rattle.links.specs.Members.{next-starts, this-member, more-done, block-members, block-done, Passing}
-use Rattle.links.specs.Choices.{turns-within, turns-all, turns-then, turns-done, alternative-at as turn-here, this-alternative, part-within, last-turn, more-turns}
-use Rattle.links.specs.Choices.{choice-arrow, begin-fits, choice-turns, choice-done, Choosing}
-use Rattle.links.specs.Actions.{behind-done, block-behind, choice-behind, leaf-behind}
+use Rattle.ways.specs.Laws.Standing.{within}
+use Rattle.links.specs.Laws.Members.{members-within, left-all, left-then, left-done, member-end, member-end-within, last-member, last-done}
+use Rattle.links.specs.Laws.Members.{next-starts, this-member, more-done, block-members, block-done, Passing}
+use Rattle.links.specs.Laws.Choices.{turns-within, turns-all, turns-then, turns-done, alternative-at as turn-here, this-alternative, part-within, last-turn, more-turns}
+use Rattle.links.specs.Laws.Choices.{choice-arrow, begin-fits, choice-turns, choice-done, Choosing}
+use Rattle.links.specs.Laws.Actions.{behind-done, block-behind, choice-behind, leaf-behind}
 use borrow.Fn.Kinds.{In}
 use borrow.Fn.PlainCycle.{Measures, is, falls, and}
 use Rattle.links.proofs.actions.action.Reads as action
@@ -30,10 +30,10 @@ use Rattle.links.proofs.actions.member.Reads as member
 use Rattle.links.proofs.actions.member.Kinds as member-kinds
 use Rattle.links.proofs.actions.+action+alternative+block+decode+member.Lts-member as member-lts
 use Rattle.links.proofs.leaves.leaf.Reads as leaf-reads
-use Rattle.links.proofs.prefixes.behind_prefixes.Reads as behind-prefixes-reads
-use Rattle.links.proofs.scans.first_of.Reads as first-of-reads
-use Rattle.links.proofs.scans.seek.Reads as seek-reads
-use Rattle.links.proofs.separators.separator.Reads as separator-reads
+use Rattle.ways.proofs.prefixes.behind_prefixes.Reads as behind-prefixes-reads
+use Rattle.ways.proofs.scans.first_of.Reads as first-of-reads
+use Rattle.ways.proofs.scans.seek.Reads as seek-reads
+use Rattle.ways.proofs.separators.separator.Reads as separator-reads
 use Rattle.table.proofs.records.kind_at.Reads as kind-at-reads
 use Rattle.links.proofs.actions.+action+alternative+block+decode+member.{statement}
 use Rattle.links.proofs.actions.+action+alternative+block+decode+member.Tie.{close}

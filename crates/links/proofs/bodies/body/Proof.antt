@@ -2,8 +2,8 @@
 -- Assumes nothing.
 use borrow.Author.Needs.{needs}
 use native.Mathlib.Omega.{arith}
-use Rattle.links.specs.Firsts.{first-fits}
-use Rattle.links.specs.Bodies.{body-starts, body-within, body-action, body-done}
+use Rattle.ways.specs.Laws.Firsts.{first-fits}
+use Rattle.links.specs.Laws.Bodies.{body-starts, body-within, body-action, body-done}
 use Rattle.links.proofs.bodies.body.Statement.{statement}
 use Rattle.links.proofs.bodies.body.Tie as tie
 

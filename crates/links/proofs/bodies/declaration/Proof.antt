@@ -1,7 +1,7 @@
 -- `links::bodies::declaration` meets its contract.
 -- Assumes nothing.
 use borrow.Author.Needs.{needs}
-use Rattle.links.specs.Bodies.{cell-room, view-here, without-body, body-in, with-body}
+use Rattle.links.specs.Laws.Bodies.{cell-room, view-here, without-body, body-in, with-body}
 use Rattle.links.proofs.bodies.declaration.Statement.{statement}
 use Rattle.links.proofs.bodies.declaration.Tie as tie
 

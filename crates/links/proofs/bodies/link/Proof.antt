@@ -5,7 +5,7 @@ use native.Mathlib.Omega.{arith}
 use mathlib.Core.Path.{_≡_, refl}
 use Prim.Native.Nat.{_-_}
 use lib.ListN.{length}
-use Rattle.links.specs.Bodies.{Going, start-going, partly-at, one-linked, all-linked}
+use Rattle.links.specs.Laws.Bodies.{Going, start-going, partly-at, one-linked, all-linked}
 use Rattle.links.proofs.bodies.link.Statement.{statement}
 use Rattle.links.proofs.bodies.link.Tie as tie
 

@@ -3,9 +3,9 @@
 use borrow.Author.Needs.{needs}
 use native.Mathlib.Omega.{arith}
 use Rattle.rules.specs.Text.Tokens.{LEAVE, RESTART, NO-OP, STOP}
-use Rattle.links.specs.Standing.{within}
-use Rattle.links.specs.Prefixes.{heads, heads-not}
-use Rattle.links.specs.Leaves.{no-op-done, stop-done, leave-at, leave-done, restart-at, restart-done, leaf-named}
+use Rattle.ways.specs.Laws.Standing.{within}
+use Rattle.ways.specs.Laws.Prefixes.{heads, heads-not}
+use Rattle.links.specs.Laws.Leaves.{no-op-done, stop-done, leave-at, leave-done, restart-at, restart-done, leaf-named}
 use Rattle.links.proofs.leaves.leaf.Statement.{statement}
 use Rattle.links.proofs.leaves.leaf.Tie as tie
 

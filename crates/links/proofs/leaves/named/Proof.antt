@@ -2,9 +2,9 @@
 -- Assumes nothing.
 use borrow.Author.Needs.{needs}
 use native.Mathlib.Omega.{arith}
-use Rattle.links.specs.Seeking.{found-within}
-use Rattle.links.specs.Standing.{within}
-use Rattle.links.specs.Leaves.{behind-within, activation-done, equals-sought, transfer-done}
+use Rattle.ways.specs.Laws.Seeking.{found-within}
+use Rattle.ways.specs.Laws.Standing.{within}
+use Rattle.links.specs.Laws.Leaves.{behind-within, activation-done, equals-sought, transfer-done}
 use Rattle.links.proofs.leaves.named.Statement.{statement}
 use Rattle.links.proofs.leaves.named.Tie as tie
 

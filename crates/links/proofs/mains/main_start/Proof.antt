@@ -3,7 +3,7 @@
 use borrow.Author.Needs.{needs}
 use native.Mathlib.Omega.{arith}
 use Prim.Native.Nat.{_-_}
-use Rattle.links.specs.Mains.{Searching, start-searching, main-exists, cell-room, view-at, name-fits, main-here, main-later}
+use Rattle.links.specs.Laws.Mains.{Searching, start-searching, main-exists, cell-room, view-at, name-fits, main-here, main-later}
 use Rattle.links.proofs.mains.main_start.Statement.{statement}
 use Rattle.links.proofs.mains.main_start.Tie as tie
 

@@ -1,7 +1,7 @@
 -- `places::bases::base_of` meets its contract: a carrier reaches itself, and a mapping what it lies on.
 -- Assumes nothing.
 use borrow.Author.Needs.{needs}
-use Rattle.places.specs.Reaching.{base-view, some-view, storage-reached, mapping-at, mapping-reached}
+use Rattle.places.specs.Laws.Reaching.{base-view, some-view, storage-reached, mapping-at, mapping-reached}
 use Rattle.places.proofs.bases.base_of.Statement.{statement}
 use Rattle.places.proofs.bases.base_of.Tie as tie
 

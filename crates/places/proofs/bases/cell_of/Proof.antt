@@ -1,7 +1,7 @@
 -- `places::bases::cell_of` meets its contract: by the form of the bits.
 -- Assumes nothing.
 use borrow.Author.Needs.{needs}
-use Rattle.places.specs.Bases.{cell-all, cell-unnamed, cell-some}
+use Rattle.places.specs.Laws.Bases.{cell-all, cell-unnamed, cell-some}
 use Rattle.places.proofs.bases.cell_of.Statement.{statement}
 use Rattle.places.proofs.bases.cell_of.Tie as tie
 

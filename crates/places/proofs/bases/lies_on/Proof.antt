@@ -1,7 +1,7 @@
 -- `places::bases::lies_on` meets its contract: the cell of the target numbers the declaration under the mapping.
 -- Assumes nothing.
 use borrow.Author.Needs.{needs}
-use Rattle.places.specs.Reaching.{no-number, under-view, lies-shown}
+use Rattle.places.specs.Laws.Reaching.{no-number, under-view, lies-shown}
 use Rattle.places.proofs.bases.lies_on.Statement.{statement}
 use Rattle.places.proofs.bases.lies_on.Tie as tie
 

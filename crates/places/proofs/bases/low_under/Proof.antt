@@ -1,7 +1,7 @@
 -- `places::bases::low_under` meets its contract: by the form of the bits.
 -- Assumes nothing.
 use borrow.Author.Needs.{needs}
-use Rattle.places.specs.Reaching.{under-missing, under-unnamed, under-span}
+use Rattle.places.specs.Laws.Reaching.{under-missing, under-unnamed, under-span}
 use Rattle.places.proofs.bases.low_under.Statement.{statement}
 use Rattle.places.proofs.bases.low_under.Tie as tie
 

@@ -2,7 +2,7 @@
 -- Assumes nothing.
 use borrow.Author.Needs.{needs}
 use mathlib.Core.Path.{refl}
-use Rattle.places.specs.Reaching.{words-missing, words-unnamed, words-span}
+use Rattle.places.specs.Laws.Reaching.{words-missing, words-unnamed, words-span}
 use Rattle.places.proofs.bases.storage.Statement.{statement}
 use Rattle.places.proofs.bases.storage.Tie as tie
 

@@ -6,8 +6,8 @@ use mathlib.Core.Path.{_≡_, refl}
 use mathlib.Core.List.{List}
 use Prim.Native.Nat.{ℕ, _-_}
 use lib.ListN.{length}
-use Rattle.places.specs.Scene.{cell-room, view-here}
-use Rattle.places.specs.Counting.{Counted, few-so-far, put-room, counted-more, all-counted, none-counted}
+use Rattle.places.specs.Laws.Scene.{cell-room, view-here}
+use Rattle.places.specs.Laws.Counting.{Counted, few-so-far, put-room, counted-more, all-counted, none-counted}
 use Rattle.places.proofs.counting.first_words.Statement.{statement}
 use Rattle.places.proofs.counting.first_words.Tie as tie
 

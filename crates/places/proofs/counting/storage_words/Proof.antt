@@ -1,7 +1,7 @@
 -- `places::counting::storage_words` meets its contract: by the form of the bits.
 -- Assumes nothing.
 use borrow.Author.Needs.{needs}
-use Rattle.places.specs.Counting.{storage-missing, storage-unnamed, storage-span}
+use Rattle.places.specs.Laws.Counting.{storage-missing, storage-unnamed, storage-span}
 use Rattle.places.proofs.counting.storage_words.Statement.{statement}
 use Rattle.places.proofs.counting.storage_words.Tie as tie
 

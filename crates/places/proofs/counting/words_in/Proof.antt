@@ -1,7 +1,7 @@
 -- `places::counting::words_in` meets its contract: a mapping adds no word.
 -- Assumes nothing.
 use borrow.Author.Needs.{needs}
-use Rattle.places.specs.Counting.{mapping-words, carrier-words}
+use Rattle.places.specs.Laws.Counting.{mapping-words, carrier-words}
 use Rattle.places.proofs.counting.words_in.Statement.{statement}
 use Rattle.places.proofs.counting.words_in.Tie as tie
 

@@ -1,7 +1,7 @@
 -- `places::counting::words_named` meets its contract: by the form of the names.
 -- Assumes nothing.
 use borrow.Author.Needs.{needs}
-use Rattle.places.specs.Counting.{words-missing, words-unnamed, words-span}
+use Rattle.places.specs.Laws.Counting.{words-missing, words-unnamed, words-span}
 use Rattle.places.proofs.counting.words_named.Statement.{statement}
 use Rattle.places.proofs.counting.words_named.Tie as tie
 

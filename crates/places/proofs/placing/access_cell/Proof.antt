@@ -1,7 +1,7 @@
 -- `places::placing::access_cell` meets its contract: what the name reaches, and the bits behind it.
 -- Assumes nothing.
 use borrow.Author.Needs.{needs}
-use Rattle.places.specs.Placing.{no-place, behind-name, place-here}
+use Rattle.places.specs.Laws.Placing.{no-place, behind-name, place-here}
 use Rattle.places.proofs.placing.access_cell.Statement.{statement}
 use Rattle.places.proofs.placing.access_cell.Tie as tie
 

@@ -1,7 +1,7 @@
 -- `places::placing::behind_index` meets its contract: a subscript begins with `[`, and nothing else behind a name does.
 -- Assumes nothing.
 use borrow.Author.Needs.{needs}
-use Rattle.places.specs.Placing.{index-past, index-none, index-some}
+use Rattle.places.specs.Laws.Placing.{index-past, index-none, index-some}
 use Rattle.places.proofs.placing.behind_index.Statement.{statement}
 use Rattle.places.proofs.placing.behind_index.Tie as tie
 

@@ -2,7 +2,7 @@
 -- Assumes nothing.
 use borrow.Author.Needs.{needs}
 use Prim.Native.Nat.{_-_}
-use Rattle.places.specs.Placing.{Going, none-placed, still, placed-more, all-placed}
+use Rattle.places.specs.Laws.Placing.{Going, none-placed, still, placed-more, all-placed}
 use Rattle.places.proofs.placing.place.Statement.{statement}
 use Rattle.places.proofs.placing.place.Tie as tie
 

@@ -2,7 +2,7 @@
 -- Assumes nothing.
 use borrow.Author.Needs.{needs}
 use native.Mathlib.Omega.{arith}
-use Rattle.places.specs.Placing.{no-name, name-in, name-placed}
+use Rattle.places.specs.Laws.Placing.{no-name, name-in, name-placed}
 use Rattle.places.proofs.placing.place_one.Statement.{statement}
 use Rattle.places.proofs.placing.place_one.Tie as tie
 

@@ -7,8 +7,10 @@ use mathlib.Core.List.{List}
 use Prim.Native.Nat.{ℕ, _+_, _*_, _-_, _<_, _≤_}
 use lib.ListN.{length, drop}
 use Rattle.table.specs.Holds.{kindByte}
-use Rattle.places.specs.Tabled.{Tabled, few, record-there, kind-there, next-token, no-more}
-use Rattle.places.specs.Brackets.{opened, past, past-all, past-none, past-one}
+use Rattle.places.specs.Tabled.{Tabled}
+use Rattle.places.specs.Laws.Tabled.{few, record-there, kind-there, next-token, no-more}
+use Rattle.places.specs.Brackets.{opened, past}
+use Rattle.places.specs.Laws.Brackets.{past-all, past-none, past-one}
 use Rattle.places.proofs.reading.behind_subscript.Statement.{statement}
 use Rattle.places.proofs.reading.behind_subscript.Tie as tie
 

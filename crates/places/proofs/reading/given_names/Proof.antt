@@ -1,7 +1,7 @@
 -- `places::reading::given_names` meets its contract: the tokens at fixed distances tell the form of the bits.
 -- Assumes nothing.
 use borrow.Author.Needs.{needs}
-use Rattle.places.specs.Given.{given-short, given-none, given-one, given-two}
+use Rattle.places.specs.Laws.Given.{given-short, given-none, given-one, given-two}
 use Rattle.places.proofs.reading.given_names.Statement.{statement}
 use Rattle.places.proofs.reading.given_names.Tie as tie
 

@@ -1,7 +1,7 @@
 -- `places::reading::opened` meets its contract: one more behind `[`, one fewer behind `]`.
 -- Assumes nothing.
 use borrow.Author.Needs.{needs}
-use Rattle.places.specs.Brackets.{opened-more, opened-none, opened-fewer, opened-same}
+use Rattle.places.specs.Laws.Brackets.{opened-more, opened-none, opened-fewer, opened-same}
 use Rattle.places.proofs.reading.opened.Statement.{statement}
 use Rattle.places.proofs.reading.opened.Tie as tie
 

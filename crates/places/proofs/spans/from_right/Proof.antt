@@ -1,7 +1,7 @@
 -- `places::spans::from_right` meets its contract: the difference, or 0 where it is less than none.
 -- Assumes nothing.
 use borrow.Author.Needs.{needs}
-use Rattle.places.specs.Spans.{right-up, right-down, right-up-past, right-down-past}
+use Rattle.places.specs.Laws.Spans.{right-up, right-down, right-up-past, right-down-past}
 use Rattle.places.proofs.spans.from_right.Statement.{statement}
 use Rattle.places.proofs.spans.from_right.Tie as tie
 

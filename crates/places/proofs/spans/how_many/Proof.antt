@@ -1,7 +1,7 @@
 -- `places::spans::how_many` meets its contract: one more than the larger less the smaller.
 -- Assumes nothing.
 use borrow.Author.Needs.{needs}
-use Rattle.places.specs.Spans.{many-up, many-down}
+use Rattle.places.specs.Laws.Spans.{many-up, many-down}
 use Rattle.places.proofs.spans.how_many.Statement.{statement}
 use Rattle.places.proofs.spans.how_many.Tie as tie
 

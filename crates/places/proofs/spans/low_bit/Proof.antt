@@ -1,7 +1,7 @@
 -- `places::spans::low_bit` meets its contract: by the form of the names.
 -- Assumes nothing.
 use borrow.Author.Needs.{needs}
-use Rattle.places.specs.Spans.{low-missing, low-unnamed, low-span}
+use Rattle.places.specs.Laws.Spans.{low-missing, low-unnamed, low-span}
 use Rattle.places.proofs.spans.low_bit.Statement.{statement}
 use Rattle.places.proofs.spans.low_bit.Tie as tie
 

@@ -1,7 +1,7 @@
 -- `places::spans::own_count` meets its contract: by the form of the names.
 -- Assumes nothing.
 use borrow.Author.Needs.{needs}
-use Rattle.places.specs.Spans.{many-missing, many-unnamed, many-span}
+use Rattle.places.specs.Laws.Spans.{many-missing, many-unnamed, many-span}
 use Rattle.places.proofs.spans.own_count.Statement.{statement}
 use Rattle.places.proofs.spans.own_count.Tie as tie
 

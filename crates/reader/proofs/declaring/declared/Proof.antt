@@ -1,7 +1,7 @@
 -- `reader::declaring::declared` meets its contract: what the declarations' pass tells is what is answered.
 -- Assumes nothing.
 use borrow.Author.Needs.{needs}
-use Rattle.reader.specs.Read.{described, told}
+use Rattle.reader.specs.Laws.Read.{described, told}
 use Rattle.reader.proofs.declaring.declared.Statement.{statement}
 use Rattle.reader.proofs.declaring.declared.Tie as tie
 

@@ -1,7 +1,7 @@
 -- `reader::judging::judge` meets its contract: the declarations stand where they are kept.
 -- Assumes nothing.
 use borrow.Author.Needs.{needs}
-use Rattle.reader.specs.Judged.{declares-kept}
+use Rattle.reader.specs.Laws.Judged.{declares-kept}
 use Rattle.reader.proofs.judging.judge.Statement.{statement}
 use Rattle.reader.proofs.judging.judge.Tie as tie
 

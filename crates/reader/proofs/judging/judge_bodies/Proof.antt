@@ -1,7 +1,7 @@
 -- `reader::judging::judge_bodies` meets its contract: the least fault of the 40s is the refusal, else the whole is judged.
 -- Assumes nothing.
 use borrow.Author.Needs.{needs}
-use Rattle.reader.specs.Judged.{to-judge-bodies, refused-40, lawful-40}
+use Rattle.reader.specs.Laws.Judged.{to-judge-bodies, refused-40, lawful-40}
 use Rattle.reader.proofs.judging.judge_bodies.Statement.{statement}
 use Rattle.reader.proofs.judging.judge_bodies.Tie as tie
 

@@ -1,7 +1,7 @@
 -- `reader::judging::judge_whole` meets its contract: the least fault of the 50s is the refusal.
 -- Assumes nothing.
 use borrow.Author.Needs.{needs}
-use Rattle.reader.specs.Judged.{to-judge-whole, refused-50, accepted-50}
+use Rattle.reader.specs.Laws.Judged.{to-judge-whole, refused-50, accepted-50}
 use Rattle.reader.proofs.judging.judge_whole.Statement.{statement}
 use Rattle.reader.proofs.judging.judge_whole.Tie as tie
 

@@ -7,7 +7,8 @@ use native.Mathlib.Omega.{arith}
 use borrow.Author.Needs.{needs}
 use lib.ListN.{length}
 use Rattle.cells.specs.Laws.{length-put}
-use Rattle.reader.specs.Copied.{Copied, none-copied, one-more, all-copied}
+use Rattle.reader.specs.Copied.{Copied}
+use Rattle.reader.specs.Laws.Copied.{none-copied, one-more, all-copied}
 use Rattle.reader.proofs.judging.keep.Statement.{statement}
 use Rattle.reader.proofs.judging.keep.Tie as tie
 

@@ -1,7 +1,7 @@
 -- `reader::parsing::parse` meets its contract: the scanner's refusal, or the recogniser's answer on what the scanner wrote.
 -- Assumes nothing.
 use borrow.Author.Needs.{needs}
-use Rattle.reader.specs.Parsed.{refused-scan, scanned}
+use Rattle.reader.specs.Laws.Parsed.{refused-scan, scanned}
 use Rattle.reader.proofs.parsing.parse.Statement.{statement}
 use Rattle.reader.proofs.parsing.parse.Tie as tie
 

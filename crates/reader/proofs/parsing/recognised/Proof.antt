@@ -1,7 +1,7 @@
 -- `reader::parsing::recognised` meets its contract: each answer is the recogniser's.
 -- Assumes nothing.
 use borrow.Author.Needs.{needs}
-use Rattle.reader.specs.Parsed.{scans-records, scans-room, scans-fine, scans-20, scans-21}
+use Rattle.reader.specs.Laws.Parsed.{scans-records, scans-room, scans-fine, scans-20, scans-21}
 use Rattle.reader.proofs.parsing.recognised.Statement.{statement}
 use Rattle.reader.proofs.parsing.recognised.Tie as tie
 

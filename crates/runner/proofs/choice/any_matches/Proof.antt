@@ -8,7 +8,7 @@ use lib.ListN.{length}
 use Rattle.rules.specs.Selectors.{matches}
 use Rattle.selectors.specs.Stands.{ItemsView}
 use Rattle.selectors.specs.Laws.Lists.{Left, walk-starts, item-view, next-room, walks-on, walk-finds, walk-ends, walk-goes-on}
-use Rattle.runner.specs.Choice.{some-matches}
+use Rattle.runner.specs.Laws.Choice.{some-matches}
 use Rattle.runner.proofs.choice.any_matches.Statement.{statement}
 use Rattle.runner.proofs.choice.any_matches.Tie as tie
 

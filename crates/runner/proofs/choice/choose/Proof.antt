@@ -4,8 +4,9 @@ use native.Mathlib.Omega.{arith}
 use mathlib.Core.Path.{refl}
 use Prim.Native.Nat.{_-_, _≤_}
 use lib.ListN.{length}
-use Rattle.laws.specs.Orders.Flat.{find}
-use Rattle.runner.specs.Choice.{ChoiceView, placeNo, choice-room, case-view, goes-ahead, Left, walk-ends, walk-finds, walk-goes-on}
+use Rattle.laws_orders.specs.Cited.Flat.{find}
+use Rattle.runner.specs.Choice.{ChoiceView, placeNo}
+use Rattle.runner.specs.Laws.Choice.{choice-room, case-view, goes-ahead, Left, walk-ends, walk-finds, walk-goes-on}
 use Rattle.runner.proofs.choice.choose.Statement.{statement}
 use Rattle.runner.proofs.choice.choose.Tie as tie
 

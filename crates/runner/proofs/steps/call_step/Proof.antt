@@ -5,7 +5,7 @@ use native.Mathlib.Omega.{arith}
 use mathlib.Core.Path.{ap, _∙_}
 use Rattle.cells.specs.Cells.{cell}
 use Rattle.table.specs.Holds.{linkCell}
-use Rattle.runner.specs.Steps.{call-declared, call-body, call-answer}
+use Rattle.runner.specs.Laws.Steps.{call-declared, call-body, call-answer}
 use Rattle.runner.proofs.steps.call_step.Statement.{statement}
 use Rattle.runner.proofs.steps.call_step.Tie as tie
 

@@ -2,8 +2,8 @@
 -- Assumes nothing.
 use borrow.Author.Needs.{needs}
 use native.Mathlib.Omega.{arith}
-use Rattle.runner.specs.Choice.{choice-room}
-use Rattle.runner.specs.Steps.{decode-test, decode-choice, decode-faults, decode-none, decode-goes}
+use Rattle.runner.specs.Laws.Choice.{choice-room}
+use Rattle.runner.specs.Laws.Steps.{decode-test, decode-choice, decode-faults, decode-none, decode-goes}
 use Rattle.runner.proofs.steps.decode_step.Statement.{statement}
 use Rattle.runner.proofs.steps.decode_step.Tie as tie
 

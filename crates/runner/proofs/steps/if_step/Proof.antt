@@ -1,7 +1,7 @@
 -- `runner::steps::if_step` meets its contract: the test is worked out, and any bit counts.
 -- Assumes nothing.
 use borrow.Author.Needs.{needs}
-use Rattle.runner.specs.Steps.{if-test, if-faults, if-passes, if-acts}
+use Rattle.runner.specs.Laws.Steps.{if-test, if-faults, if-passes, if-acts}
 use Rattle.runner.proofs.steps.if_step.Statement.{statement}
 use Rattle.runner.proofs.steps.if_step.Tie as tie
 

@@ -2,7 +2,7 @@
 -- Assumes nothing.
 use borrow.Author.Needs.{needs}
 use mathlib.Core.Path.{sym, _∙_}
-use Rattle.runner.specs.Steps.{name-room, go-answer, stop-answer}
+use Rattle.runner.specs.Laws.Steps.{name-room, go-answer, stop-answer}
 use Rattle.runner.proofs.steps.step.Statement.{statement}
 use Rattle.runner.proofs.steps.step.Tie as tie
 

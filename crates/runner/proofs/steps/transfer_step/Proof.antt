@@ -1,7 +1,7 @@
 -- `runner::steps::transfer_step` meets its contract: the transfer is made, or nothing is.
 -- Assumes nothing.
 use borrow.Author.Needs.{needs}
-use Rattle.runner.specs.Steps.{move-at, move-faults, move-goes}
+use Rattle.runner.specs.Laws.Steps.{move-at, move-faults, move-goes}
 use Rattle.runner.proofs.steps.transfer_step.Statement.{statement}
 use Rattle.runner.proofs.steps.transfer_step.Tie as tie
 

@@ -11,7 +11,8 @@ use Prim.Native.Nat.{ℕ, zero, suc, _+_, _-_, _%_, _^_, _<_, _≤_}
 use lib.Dec.{leb, eqb, eqb·suc-zero, leb·suc-zero}
 use lib.Pow.{pow-pos, pow-mono}
 use Rattle.rules.specs.Faults.Bodies as rules
-use Rattle.selectors.specs.Laws.Reaches.{may, either-way, both-have, neither-has, one-has}
+use Rattle.selectors.specs.Reaches.{may, either-way}
+use Rattle.selectors.specs.Laws.Reaches.{both-have, neither-has, one-has}
 use Rattle.selectors.proofs.meets.reaches.Statement.{statement}
 use Rattle.selectors.proofs.meets.reaches.Tie as tie
 

@@ -10,7 +10,8 @@ use Prim.Native.Nat.{ℕ, _+_, _-_, _<_, _≤_}
 use Rattle.cells.specs.Cells.{cell}
 use Rattle.rules.specs.Declarations.{numberOf}
 use Rattle.table.specs.Words.{TwoNames, sameWords}
-use Rattle.table.specs.Lookups.{Known, orElse, firstOf, numberPast, cell-within, both-names, number-step, number-end}
+use Rattle.table.specs.Lookups.{Known, orElse, firstOf}
+use Rattle.table.specs.Laws.Lookups.{numberPast, cell-within, both-names, number-step, number-end}
 use Rattle.table.proofs.lookups.lookup.Statement.{statement}
 use Rattle.table.proofs.lookups.lookup.Tie as tie
 

@@ -4,7 +4,7 @@ use borrow.Author.Needs.{needs}
 use native.Mathlib.Omega.{arith}
 use mathlib.Core.Path.{sym, ap, _∙_}
 use Rattle.table.specs.Shown.{shownBits}
-use Rattle.table.specs.ViewLaws.{given-within, bits-view, bits-part}
+use Rattle.table.specs.Laws.Views.{given-within, bits-view, bits-part}
 use Rattle.table.proofs.views.bits_of.Statement.{statement}
 use Rattle.table.proofs.views.bits_of.Tie as tie
 

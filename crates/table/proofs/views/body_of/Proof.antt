@@ -2,7 +2,7 @@
 -- Assumes nothing.
 use borrow.Author.Needs.{needs}
 use native.Mathlib.Omega.{arith}
-use Rattle.table.specs.ViewLaws.{seen-given, given-far, body-none, body-some, body-other}
+use Rattle.table.specs.Laws.Views.{seen-given, given-far, body-none, body-some, body-other}
 use Rattle.table.proofs.views.body_of.Statement.{statement}
 use Rattle.table.proofs.views.body_of.Tie as tie
 

@@ -6,8 +6,9 @@ use mathlib.Core.Path.{_≡_}
 use mathlib.Core.List.{List}
 use Prim.Native.Nat.{ℕ, _+_}
 use Rattle.table.specs.Bits.{BitsView, bitsSize}
-use Rattle.table.specs.Views.{View, wordsSize, bitsPart}
-use Rattle.table.specs.ViewLaws.{bits-view, given-within, given-some, given-none}
+use Rattle.table.specs.Views.{View, wordsSize}
+use Rattle.table.specs.Laws.Views.{bitsPart}
+use Rattle.table.specs.Laws.Views.{bits-view, given-within, given-some, given-none}
 use Rattle.table.proofs.views.given_at.Statement.{statement}
 use Rattle.table.proofs.views.given_at.Tie as tie
 

@@ -2,7 +2,7 @@
 -- Assumes nothing.
 use borrow.Author.Needs.{needs}
 use native.Mathlib.Omega.{arith}
-use Rattle.table.specs.ViewLaws.{name-here, main-some, main-none}
+use Rattle.table.specs.Laws.Views.{name-here, main-some, main-none}
 use Rattle.table.proofs.views.main_of.Statement.{statement}
 use Rattle.table.proofs.views.main_of.Tie as tie
 

@@ -3,7 +3,7 @@
 use borrow.Author.Needs.{needs}
 use native.Mathlib.Omega.{arith}
 use mathlib.Core.Path.{_≡_}
-use Rattle.table.specs.Bits.{seen, bits-within, names-none, names-unnamed, names-single, size-last, names-pair}
+use Rattle.table.specs.Laws.Bits.{seen, bits-within, names-none, names-unnamed, names-single, size-last, names-pair}
 use Rattle.table.proofs.views.names_at.Statement.{statement}
 use Rattle.table.proofs.views.names_at.Tie as tie
 

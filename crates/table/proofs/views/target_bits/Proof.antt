@@ -3,7 +3,7 @@
 use borrow.Author.Needs.{needs}
 use native.Mathlib.Omega.{arith}
 use Rattle.rules.specs.Declarations.{declaredOf}
-use Rattle.table.specs.ViewLaws.{target-missing, target-within, target-view, target-names}
+use Rattle.table.specs.Laws.Views.{target-missing, target-within, target-view, target-names}
 use Rattle.table.proofs.views.target_bits.Statement.{statement}
 use Rattle.table.proofs.views.target_bits.Tie as tie
 

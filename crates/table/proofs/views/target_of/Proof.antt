@@ -2,7 +2,7 @@
 -- Assumes nothing.
 use borrow.Author.Needs.{needs}
 use native.Mathlib.Omega.{arith}
-use Rattle.table.specs.ViewLaws.{seen-given, given-far, target-none, target-body, target-some}
+use Rattle.table.specs.Laws.Views.{seen-given, given-far, target-none, target-body, target-some}
 use Rattle.table.proofs.views.target_of.Statement.{statement}
 use Rattle.table.proofs.views.target_of.Tie as tie
 

@@ -3,7 +3,7 @@
 use borrow.Author.Needs.{needs}
 use native.Mathlib.Omega.{arith}
 use mathlib.Core.Path.{_≡_}
-use Rattle.table.specs.ViewLaws.{seen-words, given-within, words-missing, words-five, words-span}
+use Rattle.table.specs.Laws.Views.{seen-words, given-within, words-missing, words-five, words-span}
 use Rattle.table.proofs.views.words_of.Statement.{statement}
 use Rattle.table.proofs.views.words_of.Tie as tie
 

@@ -2,7 +2,7 @@
 -- Assumes nothing.
 use borrow.Author.Needs.{needs}
 use native.Mathlib.Omega.{arith}
-use Rattle.table.specs.ViewLaws.{seen-words, given-within, words-size, no-words-size}
+use Rattle.table.specs.Laws.Views.{seen-words, given-within, words-size, no-words-size}
 use Rattle.table.proofs.views.words_size.Statement.{statement}
 use Rattle.table.proofs.views.words_size.Tie as tie
 

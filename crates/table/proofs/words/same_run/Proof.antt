@@ -11,7 +11,7 @@ use lib.ListN.{length, getD}
 use Rattle.rules.specs.Text.Bytes.{fold}
 use Rattle.rules.specs.Text.Scan.{sameBytes}
 use Rattle.table.specs.Holds.{foldedAt}
-use Rattle.table.specs.Words.{same-next, differ-next, same-end}
+use Rattle.table.specs.Laws.Words.{same-next, differ-next, same-end}
 use Rattle.table.proofs.words.same_run.Statement.{statement}
 use Rattle.table.proofs.words.same_run.Tie as tie
 

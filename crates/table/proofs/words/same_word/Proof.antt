@@ -1,7 +1,7 @@
 -- `table::words::same_word` meets its contract: words of one size are compared where they stand in the text.
 -- Assumes nothing.
 use borrow.Author.Needs.{needs}
-use Rattle.table.specs.Words.{other-size, runs-inside, same-runs}
+use Rattle.table.specs.Laws.Words.{other-size, runs-inside, same-runs}
 use Rattle.table.proofs.words.same_word.Statement.{statement}
 use Rattle.table.proofs.words.same_word.Tie as tie
 

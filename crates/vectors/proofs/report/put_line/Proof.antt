@@ -1,7 +1,7 @@
 -- `vectors::report::put_line` meets its contract: one follows the other.
 -- Assumes nothing.
 use borrow.Author.Needs.{needs}
-use Rattle.lines.specs.Appended.{and-then}
+use Rattle.lines.specs.Laws.Appended.{and-then}
 use Rattle.vectors.proofs.report.put_line.Statement.{statement}
 use Rattle.vectors.proofs.report.put_line.Tie as tie
 

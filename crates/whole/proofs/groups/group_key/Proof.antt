@@ -2,8 +2,8 @@
 use borrow.Author.Needs.{needs}
 use native.Mathlib.Omega.{arith}
 use Prim.Native.Nat.{_-_}
-use Rattle.whole.specs.Reading.{kinded}
-use Rattle.whole.specs.GroupKeys.{Comparing, compare-none, last-member, end-inside, next-member}
+use Rattle.reading.specs.Laws.Reading.{kinded}
+use Rattle.whole.specs.Laws.GroupKeys.{Comparing, compare-none, last-member, end-inside, next-member}
 use Rattle.whole.proofs.groups.group_key.Statement.{statement}
 use Rattle.whole.proofs.groups.group_key.Tie as tie
 

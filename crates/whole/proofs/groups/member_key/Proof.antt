@@ -2,7 +2,7 @@
 use borrow.Author.Needs.{needs}
 use mathlib.Core.Path.{sym, _∙_}
 use Rattle.rules.specs.Whole.Sets.{race}
-use Rattle.whole.specs.GroupKeys.{stopped-key, raced-key, sound-key}
+use Rattle.whole.specs.Laws.GroupKeys.{stopped-key, raced-key, sound-key}
 use Rattle.whole.proofs.groups.member_key.Statement.{statement}
 use Rattle.whole.proofs.groups.member_key.Tie as tie
 

@@ -1,6 +1,6 @@
 -- `whole::groups::place_of` meets its contract.
 use borrow.Author.Needs.{needs}
-use Rattle.whole.specs.GroupKeys.{place-there, place-past, place-bound}
+use Rattle.whole.specs.Laws.GroupKeys.{place-there, place-past, place-bound}
 use Rattle.whole.proofs.groups.place_of.Statement.{statement}
 use Rattle.whole.proofs.groups.place_of.Tie as tie
 

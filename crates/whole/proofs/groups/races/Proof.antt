@@ -1,6 +1,6 @@
 -- `whole::groups::races` meets its contract.
 use borrow.Author.Needs.{needs}
-use Rattle.whole.specs.GroupKeys.{race-first, race-second}
+use Rattle.whole.specs.Laws.GroupKeys.{race-first, race-second}
 use Rattle.whole.proofs.groups.races.Statement.{statement}
 use Rattle.whole.proofs.groups.races.Tie as tie
 

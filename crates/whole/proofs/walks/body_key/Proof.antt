@@ -1,7 +1,7 @@
 -- `whole::walks::body_key` meets its contract.
 use borrow.Author.Needs.{needs}
-use Rattle.whole.specs.Written.{reading}
-use Rattle.whole.specs.WalkKeys.{no-body-key, some-body-key}
+use Rattle.whole.specs.Laws.Written.{reading}
+use Rattle.whole.specs.Laws.WalkKeys.{no-body-key, some-body-key}
 use Rattle.whole.proofs.walks.body_key.Statement.{statement}
 use Rattle.whole.proofs.walks.body_key.Tie as tie
 

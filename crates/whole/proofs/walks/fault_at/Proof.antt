@@ -4,8 +4,8 @@ use mathlib.Core.Path.{sym}
 use native.Mathlib.Omega.{arith}
 use lib.Seq.{length-take-le}
 use Rattle.table.specs.Room.{labelsFrom}
-use Rattle.whole.specs.Written.{reading, worded}
-use Rattle.whole.specs.WalkKeys.{memo-room, all-labels, fault-group, fault-jump}
+use Rattle.whole.specs.Laws.Written.{reading, worded}
+use Rattle.whole.specs.Laws.WalkKeys.{memo-room, all-labels, fault-group, fault-jump}
 use Rattle.whole.proofs.walks.fault_at.Statement.{statement}
 use Rattle.whole.proofs.walks.fault_at.Tie as tie
 

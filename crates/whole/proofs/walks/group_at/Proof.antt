@@ -1,7 +1,7 @@
 -- `whole::walks::group_at` meets its contract.
 use borrow.Author.Needs.{needs}
-use Rattle.whole.specs.Reading.{kinded}
-use Rattle.whole.specs.WalkKeys.{group-some, group-none}
+use Rattle.reading.specs.Laws.Reading.{kinded}
+use Rattle.whole.specs.Laws.WalkKeys.{group-some, group-none}
 use Rattle.whole.proofs.walks.group_at.Statement.{statement}
 use Rattle.whole.proofs.walks.group_at.Tie as tie
 

@@ -1,7 +1,7 @@
 -- `whole::walks::groups_key` meets its contract.
 use borrow.Author.Needs.{needs}
 use Prim.Native.Nat.{_-_}
-use Rattle.whole.specs.WalkKeys.{Bodies, bodies-none, bodies-more, bodies-all}
+use Rattle.whole.specs.Laws.WalkKeys.{Bodies, bodies-none, bodies-more, bodies-all}
 use Rattle.whole.proofs.walks.groups_key.Statement.{statement}
 use Rattle.whole.proofs.walks.groups_key.Tie as tie
 

@@ -3,7 +3,7 @@ use mathlib.Core.Path.{sym, ap}
 use mathlib.Core.List.{_∷_, []}
 use Rattle.rules.specs.Whole.Sets.{member}
 use Rattle.table.specs.Laws.Scans.{missing}
-use Rattle.whole.specs.Walks.{opens}
+use Rattle.scopes.specs.Walks.{opens}
 use Rattle.whole.proofs.walks.opens.Statement.{statement}
 use Rattle.whole.proofs.walks.opens.Tie as tie
 

@@ -1,6 +1,6 @@
 -- `whole::walks::turn_in` meets its contract.
 use borrow.Author.Needs.{needs}
-use Rattle.whole.specs.WalkKeys.{all-labels, turned-in}
+use Rattle.whole.specs.Laws.WalkKeys.{all-labels, turned-in}
 use Rattle.whole.proofs.walks.turn_in.Statement.{statement}
 use Rattle.whole.proofs.walks.turn_in.Tie as tie
 

@@ -2,7 +2,7 @@
 use borrow.Author.Needs.{needs}
 use Prim.Native.Nat.{_-_}
 use native.Mathlib.Omega.{arith}
-use Rattle.whole.specs.WalkKeys.{Walking, walk-starts, walk-ended, walk-faulty, walk-turning, walk-on, walk-over}
+use Rattle.whole.specs.Laws.WalkKeys.{Walking, walk-starts, walk-ended, walk-faulty, walk-turning, walk-on, walk-over}
 use Rattle.whole.proofs.walks.walk_key.Statement.{statement}
 use Rattle.whole.proofs.walks.walk_key.Tie as tie
 

@@ -1,0 +1,2 @@
+// The class of each byte: one table, its rule proved once.
+pub mod classes;

@@ -1,0 +1,7 @@
+-- The laws of declarations.
+pub mod Skipping
+pub mod Faults
+pub mod Earliest
+pub mod Spans
+pub mod Lawful
+pub mod Small

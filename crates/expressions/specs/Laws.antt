@@ -1,0 +1,15 @@
+-- The laws of expressions and destinations.
+pub mod Tests
+pub mod Weights
+pub mod Operands
+pub mod Lookups
+pub mod Lengths
+pub mod Names
+pub mod Chains
+pub mod Settling
+pub mod Expressions
+pub mod Accesses
+pub mod Carriers
+pub mod Owners
+pub mod Destinations
+pub mod Sound

@@ -1,0 +1,63 @@
+-- Laws of what is remembered: it is read back, and that of other bodies stays.
+use Prim.Native.Nat.{ℕ, _+_, _*_, _^_, _<_, _≤_}
+use mathlib.Core.Path.{_≡_, ap, _∙_}
+use mathlib.Core.Bool.{Bool}
+use mathlib.Core.List.{List}
+use native.Mathlib.Omega.{arith}
+use native.Mathlib.Decide.{decLt}
+use lib.Dec.{eqb}
+use lib.ListN.{length, getD}
+use Rattle.cells.specs.Cells.{cell, putCell}
+use Rattle.cells.specs.Laws.{le-put-same, le-put-below, le-put-above}
+use Rattle.rules.specs.Whole.Sets.{Sets}
+use Rattle.reading.specs.Bits.{holds}
+use Rattle.reading.specs.Laws.Bits.{same-words}
+use Rattle.gathering.specs.Memory.{Put, PutWords, wordsAt, Stored, Entry}
+
+pub put-cell : (b : List ℕ) (i v : ℕ) → 8 * i + 8 ≤ length b → v < 2 ^ 64 → Put b (putCell 8 b i v) i v
+put-cell b i v h l = record { here = le-put-same 8 b (8 * i) v h l; elsewhere = λ j n. by j n (decLt j i) }
+  where
+    by : (j : ℕ) → (j ≡ i → ⊥) → Dec (j < i) → cell 8 (putCell 8 b i v) j ≡ cell 8 b j
+    by j n (yes q) = le-put-below 8 8 b (8 * i) v (8 * j) (omega arith)
+    by j n (no q) = le-put-above 8 8 b (8 * i) v (8 * j) (let p : i < j = other (λ e. n e) (λ e. q e) in omega arith)
+      where
+        other : (j ≡ i → ⊥) → (j < i → ⊥) → i < j
+        other a b = omega arith
+
+pub put-words : {a₀ a₁ a₂ a₃ a₄ : List ℕ} {c : ℕ} (w : List ℕ) → Put a₀ a₁ c (getD w 0 0) → Put a₁ a₂ (c + 1) (getD w 1 0) → Put a₂ a₃ (c + 2) (getD w 2 0)
+    → Put a₃ a₄ (c + 3) (getD w 3 0) → PutWords a₀ a₄ c w
+put-words {a₀} {a₁} {a₂} {a₃} {a₄} {c} w p q r s = record {
+  words = same-words (wordsAt a₄ c) w
+      (s .elsewhere c (λ e. omega arith) ∙ (r .elsewhere c (λ e. omega arith) ∙ (q .elsewhere c (λ e. omega arith) ∙ p .here)))
+      (s .elsewhere (c + 1) (λ e. omega arith) ∙ (r .elsewhere (c + 1) (λ e. omega arith) ∙ q .here))
+      (s .elsewhere (c + 2) (λ e. omega arith) ∙ r .here)
+      (s .here);
+  elsewhere = λ j n. s .elsewhere j (λ e. n (omega arith) (omega arith)) ∙ (r .elsewhere j (λ e. n (omega arith) (omega arith))
+      ∙ (q .elsewhere j (λ e. n (omega arith) (omega arith)) ∙ p .elsewhere j (λ e. n (omega arith) (omega arith))));
+}
+
+words-kept : (old new : List ℕ) (c : ℕ) → ((j : ℕ) → c ≤ j → j < c + 4 → cell 8 new j ≡ cell 8 old j) → (k : ℕ) → holds (wordsAt new c) k ≡ holds
+    (wordsAt old c) k
+words-kept old new c h = same-words (wordsAt new c) (wordsAt old c) (h c (omega arith) (omega arith)) (h (c + 1) (omega arith) (omega arith))
+    (h (c + 2) (omega arith) (omega arith))
+    (h (c + 3) (omega arith) (omega arith))
+
+pub stored : {a₀ a₁ a₂ a₃ : List ℕ} {k f mark : ℕ} (reads writes : List ℕ) → PutWords a₀ a₁ (9 * k + 1) reads → PutWords a₁ a₂ (9 * k + 5) writes
+    → Put a₂ a₃ (9 * k) f → f ≡ mark → Stored a₀ a₃ k reads writes mark
+stored {a₀} {a₁} {a₂} {a₃} {k} reads writes p q r e = record {
+  marked = r .here ∙ e;
+  reads = λ c. words-kept a₁ a₃ (9 * k + 1) (λ j l h. r .elsewhere j (λ e. omega arith) ∙ q .elsewhere j (λ x y. omega arith)) c ∙ p .words c;
+  writes = λ c. words-kept a₂ a₃ (9 * k + 5) (λ j l h. r .elsewhere j (λ e. omega arith)) c ∙ q .words c;
+  elsewhere = λ j n. r .elsewhere j (λ e. n (omega arith) (omega arith))
+      ∙ (q .elsewhere j (λ x y. n (omega arith) (omega arith)) ∙ p .elsewhere j (λ x y. n (omega arith) (omega arith)));
+}
+
+-- another entry is stored
+pub entry-kept : {old new : List ℕ} {k mark : ℕ} {reads writes : List ℕ} → Stored old new k reads writes mark → (j : ℕ) → (j ≡ k → ⊥)
+    → {s : Sets} {stops : Bool}
+    → Entry old j s stops → Entry new j s stops
+entry-kept {old} {new} {k} p j n e = record {
+  reads = λ c. words-kept old new (9 * j + 1) (λ i l h. p .elsewhere i (λ x y. n (omega arith))) c ∙ e .reads c;
+  writes = λ c. words-kept old new (9 * j + 5) (λ i l h. p .elsewhere i (λ x y. n (omega arith))) c ∙ e .writes c;
+  stopping = ap (λ (x : ℕ). eqb x 2) (p .elsewhere (9 * j) (λ x y. n (omega arith))) ∙ e .stopping;
+}

@@ -1,0 +1,64 @@
+-- What is remembered of each body, in 72 bytes for a declaration: 0 where it is not gathered yet, 1 where it is, 2 where it may stop; what it reads and
+-- what it writes, each in four words.
+use Prim.Native.Nat.{ℕ, _+_, _*_, _<_, _≤_}
+use mathlib.Core.Path.{_≡_}
+use mathlib.Core.Bool.{Bool, true, false}
+use mathlib.Core.List.{List, [], _∷_}
+use mathlib.Core.Option.{some}
+use lib.Dec.{eqb}
+use Rattle.cells.specs.Cells.{cell}
+use Rattle.rules.specs.Declarations.{Name as Word, numberOf}
+use Rattle.rules.specs.Whole.Sets.{Sets, bodySets, bodyStops, member}
+use Rattle.rules.specs.Limits.{longestChain}
+use Rattle.reading.specs.Reading.{Reading, tableOf}
+use Rattle.reading.specs.Bits.{holds}
+
+-- the cell i takes v, and no other changes
+pub record Put (old new : List ℕ) (i v : ℕ) : Type 0 where
+  pub here : cell 8 new i ≡ v
+  pub elsewhere : (j : ℕ) → (j ≡ i → ⊥) → cell 8 new j ≡ cell 8 old j
+
+-- the four words from the cell c on
+abbrev pub wordsAt : List ℕ → ℕ → List ℕ
+wordsAt b c = cell 8 b c ∷ cell 8 b (c + 1) ∷ cell 8 b (c + 2) ∷ cell 8 b (c + 3) ∷ []
+
+-- the words w are put there
+pub record PutWords (old new : List ℕ) (c : ℕ) (w : List ℕ) : Type 0 where
+  pub words : (k : ℕ) → holds (wordsAt new c) k ≡ holds w k
+  pub elsewhere : (j : ℕ) → (c ≤ j → j < c + 4 → ⊥) → cell 8 new j ≡ cell 8 old j
+
+-- the entry of the declaration k: its mark, what it reads, what it writes
+abbrev pub markOf : List ℕ → ℕ → ℕ
+markOf b k = cell 8 b (9 * k)
+
+abbrev pub readsAt : List ℕ → ℕ → List ℕ
+readsAt b k = wordsAt b (9 * k + 1)
+
+abbrev pub writesAt : List ℕ → ℕ → List ℕ
+writesAt b k = wordsAt b (9 * k + 5)
+
+abbrev pub markFor : Bool → ℕ
+markFor true = 2
+markFor false = 1
+
+pub record Stored (old new : List ℕ) (k : ℕ) (r w : List ℕ) (mark : ℕ) : Type 0 where
+  pub marked : markOf new k ≡ mark
+  pub reads : (c : ℕ) → holds (readsAt new k) c ≡ holds r c
+  pub writes : (c : ℕ) → holds (writesAt new k) c ≡ holds w c
+  pub elsewhere : (j : ℕ) → (9 * k ≤ j → j < 9 * k + 9 → ⊥) → cell 8 new j ≡ cell 8 old j
+
+-- an entry that is right for sets and for whether the body may stop
+pub record Entry (b : List ℕ) (k : ℕ) (s : Sets) (stops : Bool) : Type 0 where
+  pub reads : (c : ℕ) → holds (readsAt b k) c ≡ member c (s .reads)
+  pub writes : (c : ℕ) → holds (writesAt b k) c ≡ member c (s .writes)
+  pub stopping : eqb (markOf b k) 2 ≡ stops
+
+module _ {records decls : List ℕ} {m n : ℕ} (v : Reading records decls m n) where
+  -- of a name, if it is declared
+  pub record Recalls (b : List ℕ) (w : Word) : Type 0 where
+    pub entry : (k : ℕ) → numberOf (tableOf v) w ≡ some k → Entry b k (bodySets (tableOf v) longestChain w) (bodyStops (tableOf v) longestChain w)
+
+  -- every entry that is marked is right
+  pub record Remembers (b : List ℕ) : Type 0 where
+    pub right : (k : ℕ) → (markOf b k ≡ 0 → ⊥) → (w : Word) → numberOf (tableOf v) w ≡ some k
+        → Entry b k (bodySets (tableOf v) longestChain w) (bodyStops (tableOf v) longestChain w)

@@ -1,0 +1,172 @@
+// What an action reads and writes, and whether it may stop, gathered from its tokens and from what is remembered of the bodies it activates.
+use crate::memory::Touched;
+use crate::memory::nothing;
+use crate::memory::recalled;
+use reading::bits::Set;
+use reading::bits::only;
+use reading::bits::union;
+use reading::kinds::closes;
+use reading::kinds::kind_of;
+use reading::kinds::mode;
+use reading::kinds::stores;
+use reading::names::carrier;
+use table::kinds::LPAR;
+use table::kinds::NAME;
+use table::kinds::STOP;
+use table::records::inside_at;
+use table::records::kind_at;
+use table::scans::SEPARATOR;
+use table::scans::deeper;
+use table::scans::halts;
+ghost use mathlib.Core.Path.{_≡_};
+ghost use mathlib.Core.Bool.{_||_, true};
+ghost use mathlib.Core.List.{List};
+ghost use Prim.Native.Nat.{ℕ, _*_, _<_, _≤_};
+ghost use lib.ListN.{length};
+ghost use Rattle.rules.specs.Whole.Sets.{member};
+ghost use Rattle.table.specs.Holds.{kindByte};
+ghost use Rattle.table.specs.Words.{wordAt};
+ghost use Rattle.reading.specs.Reading.{Reading};
+ghost use Rattle.reading.specs.Names.{Owned};
+ghost use Rattle.reading.specs.Bits.{holds};
+ghost use Rattle.gathering.specs.Memory.{Recalls};
+ghost use Rattle.gathering.specs.Shown.{Touches, Hears, Gathers};
+
+// The set with the carrier c; from 256 on there is none.
+fn with(s: Set, c: usize) -> Set
+    ensures { λ r. ⌜ ((xs : List ℕ) → Owned xs c → (k : ℕ) → holds (r .w) k ≡ (holds (s .w) k || member k xs)) ⌝ }
+{
+    if c < 256 {
+        return union(s, only(c));
+    }
+    s
+}
+
+fn halted(t: Touched) -> Touched
+    ensures { λ r. ⌜ (r .reads .w ≡ t .reads .w) × ((r .writes .w ≡ t .writes .w) × (r .stops ≡ true)) ⌝ }
+{
+    let mut h = t;
+    h.stops = true;
+    h
+}
+
+fn reading(t: Touched, c: usize) -> Touched
+    ensures { λ r. ⌜ ((xs : List ℕ) → Owned xs c → (k : ℕ) → holds (r .reads .w) k ≡ (holds (t .reads .w) k || member k xs))
+        × ((r .writes .w ≡ t .writes .w) × (r .stops ≡ t .stops)) ⌝ }
+{
+    let reads = t.reads;
+    let writes = t.writes;
+    Touched {
+        reads: with(reads, c),
+        writes,
+        stops: t.stops,
+    }
+}
+
+fn writing(t: Touched, c: usize) -> Touched
+    ensures { λ r. ⌜ (r .reads .w ≡ t .reads .w)
+        × (((xs : List ℕ) → Owned xs c → (k : ℕ) → holds (r .writes .w) k ≡ (holds (t .writes .w) k || member k xs)) × (r .stops ≡ t .stops)) ⌝ }
+{
+    let reads = t.reads;
+    let writes = t.writes;
+    Touched {
+        reads,
+        writes: with(writes, c),
+        stops: t.stops,
+    }
+}
+
+pub fn joined(t: Touched, u: Touched) -> Touched
+    ensures { λ r. ⌜ ((k : ℕ) → holds (r .reads .w) k ≡ (holds (t .reads .w) k || holds (u .reads .w) k))
+        × (((k : ℕ) → holds (r .writes .w) k ≡ (holds (t .writes .w) k || holds (u .writes .w) k)) × (r .stops ≡ (t .stops || u .stops))) ⌝ }
+{
+    let a = t.reads;
+    let b = u.reads;
+    let c = t.writes;
+    let d = u.writes;
+    Touched {
+        reads: union(a, b),
+        writes: union(c, d),
+        stops: t.stops || u.stops,
+    }
+}
+
+// What the body of the name i touches.
+fn called(records: &[u8], decls: &[u8], memo: &[u8], m: usize, n: usize, i: usize) -> Touched
+    requires { ⌜ Reading (now records) (now decls) m n × ((i < n) × ((kindByte (now records) i ≡ 0) × (72 * m ≤ length (now memo)))) ⌝ }
+    ensures { λ r. ⌜ ((v : Reading (now (records .entry)) (now (decls .entry)) m n) → Recalls v (now (memo .entry)) (wordAt (v .tokens) i)
+        → Touches v (wordAt (v .tokens) i) (r .reads .w) (r .writes .w) (r .stops)) ⌝ }
+{
+    let k = inside_at(records, i);
+    if m <= k {
+        return nothing();
+    }
+    recalled(memo, k)
+}
+
+// What is gathered with the token i, whose kind this is.
+fn heard(
+    records: &[u8],
+    decls: &[u8],
+    memo: &[u8],
+    m: usize,
+    n: usize,
+    i: usize,
+    kind: u8,
+    mode: usize,
+    t: Touched,
+) -> Touched
+    requires { ⌜ Reading (now records) (now decls) m n × ((i < n) × ((kind ≡ kindByte (now records) i) × (72 * m ≤ length (now memo)))) ⌝ }
+    ensures { λ r. ⌜ Hears (now (records .entry)) (now (decls .entry)) (now (memo .entry)) m n mode i (t .reads .w) (t .writes .w) (t .stops) (r .reads .w) (r .writes .w) (r .stops) ⌝ }
+{
+    if kind == STOP {
+        return halted(t);
+    }
+    if kind != NAME {
+        return t;
+    }
+    if mode != 0 {
+        return reading(t, carrier(records, decls, m, n, i));
+    }
+    let next = kind_of(records, n, i + 1);
+    if next == LPAR {
+        return joined(t, called(records, decls, memo, m, n, i));
+    }
+    if stores(next) {
+        return writing(t, carrier(records, decls, m, n, i));
+    }
+    t
+}
+
+// What the action at from touches.
+pub fn touched(
+    records: &[u8],
+    decls: &[u8],
+    memo: &[u8],
+    m: usize,
+    n: usize,
+    from: usize,
+) -> Touched
+    requires { ⌜ Reading (now records) (now decls) m n × (72 * m ≤ length (now memo)) ⌝ }
+    ensures { λ r. ⌜ Gathers (now (records .entry)) (now (decls .entry)) (now (memo .entry)) m n from (r .reads .w) (r .writes .w) (r .stops) ⌝ }
+{
+    let mut t = nothing();
+    let mut d: usize = 0;
+    let mut at_mode: usize = 0;
+    let mut i = from;
+    while i < n {
+        let at = i;
+        let kind = kind_at(records, at);
+        if halts(SEPARATOR, d, kind) {
+            return t;
+        }
+        t = heard(records, decls, memo, m, n, at, kind, at_mode, t);
+        if closes(d, kind) {
+            return t;
+        }
+        d = deeper(d, kind);
+        at_mode = mode(at_mode, kind);
+        i += 1;
+    }
+    t
+}

@@ -1,0 +1,13 @@
+pub mod Constants
+pub mod Declared
+pub mod Destinations
+pub mod Evaluated
+pub mod Faultless
+pub mod Grouped
+pub mod Jumps
+pub mod Lengths
+pub mod Named
+pub mod Orderly
+pub mod Races
+pub mod Reached
+pub mod Scanned

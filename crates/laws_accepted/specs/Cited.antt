@@ -1,0 +1,4 @@
+pub mod Constants
+pub mod Declared
+pub mod Destinations
+pub mod Lengths

@@ -1,0 +1,3 @@
+pub mod Accepted
+pub mod Cited
+pub mod Demand3

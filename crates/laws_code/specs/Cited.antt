@@ -1,0 +1,4 @@
+pub mod Bodies
+pub mod Code
+pub mod Numbers
+pub mod Placed

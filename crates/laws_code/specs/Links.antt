@@ -1,0 +1,5 @@
+pub mod Bodies
+pub mod Held
+pub mod Numbers
+pub mod Placed
+pub mod Sized

@@ -1,0 +1,6 @@
+pub mod Answer
+pub mod Heads
+pub mod Nesting
+pub mod Positions
+pub mod Rows
+pub mod Shunting

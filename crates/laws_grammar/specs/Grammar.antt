@@ -1,0 +1,17 @@
+pub mod Answer
+pub mod Blocks
+pub mod Complete
+pub mod Depth
+pub mod Exact
+pub mod Follow
+pub mod Groups
+pub mod Heads
+pub mod Kinds
+pub mod Meanings
+pub mod Nesting
+pub mod Positions
+pub mod Precedence
+pub mod Reading
+pub mod Samples
+pub mod Shunting
+pub mod Tight

@@ -1,0 +1,205 @@
+-- Trees write their tokens and nothing else, so they stand at positions of a token list.
+use mathlib.Core.Path.{_≡_, refl, sym, ap, _∙_}
+use mathlib.Core.List.{[], _∷_, _++_}
+use Prim.Native.Nat.{ℕ, suc, _+_, _<_}
+use native.Mathlib.Omega.{arith}
+use lib.ListN.{length, drop, getD, length-append}
+use lib.Seq.{drop-append-seam, drop-drop, drop-cons, drop-length}
+use Rattle.rules.specs.Text.Tokens.{Kind, Info, Token, tk, opKind, Name, Const, Masked, LPar, RPar, LBra, RBra, Less, Greater, Comma, Semi, Colon, Becomes, Equals, Arrow, At, Stars, BEGIN, END, NEXT, IF, DECODE, OTHERWISE, REPEAT, LEAVE, RESTART, MAIN, STOP, NO-OP, NOT}
+use Rattle.rules.specs.Grammar.Trees.{Tokens, BitsEnd, bit, upto, bitsEndTokens, Bits, all-bits, bits, bitsTokens, Operand, constant, access, parens, negated, operandTokens, Tail, no-more, with-op, tailTokens, Subscript, no-subscript, subscript, subscriptTokens, Joined, alone, joined, joinedTokens, Literal, exact, masked, literalTokens, Range, single, to, rangeTokens, Items, close, item, itemsTokens, Selector, one-of, any-of, selectorTokens, Action, block, labelled, if-then, decode, repeat, leave, restart, activate, stop, no-op, transfer, actionTokens, Members, end, also, next, membersTokens, Alternatives, counted, selected, alternativesTokens, Counted, counted-end, counted-more, countedTokens, Selected, select, otherwise, selectedTokens, SelectedMore, selected-end, selected-more, selectedMoreTokens, OwnBits, unnamed, named, ownBitsTokens, Meaning, body, mapped, meaningTokens, Given, carrier, given, givenTokens, Form, words, with-bits, bare-body, formTokens, MainBits, bitless, main-bits, mainBitsTokens, Declaration, plain, main, declarationTokens, Heading, no-heading, heading, headingTokens, Declarations, declared-all, declared-also, declarationsTokens, Description, descriptionTokens}
+use Rattle.laws_grammar.specs.Cited.Rows.{recognise}
+use Rattle.laws_grammar.specs.Cited.Answer.{accepted}
+use Rattle.laws_grammar.specs.Grammar.Exact.{description-of-accepted}
+use Rattle.laws_grammar.specs.Cited.Positions.{Stands, ActionAt}
+
+-- what follows stands untouched behind what f writes
+pub record Writes (f : Tokens → Tokens) : Type 0 where
+  pub grows : (xs ys : Tokens) → f (xs ++ ys) ≡ f xs ++ ys
+
+then : {f g : Tokens → Tokens} → Writes f → Writes g → Writes (λ ts. f (g ts))
+then {f} {g} p q = record { grows = λ xs ys. ap f (q .grows xs ys) ∙ p .grows (g xs) ys }
+
+token : (k : Kind) (i : Info) {g : Tokens → Tokens} → Writes g → Writes (λ ts. tk k i ∷ g ts)
+token k i q = record { grows = λ xs ys. ap (λ (l : Tokens). tk k i ∷ l) (q .grows xs ys) }
+
+nothing : Writes (λ ts. ts)
+nothing = record { grows = λ xs ys. refl }
+
+pub bits-end-writes : (b : BitsEnd) → Writes (bitsEndTokens b)
+bits-end-writes (bit g) = token Greater g nothing
+bits-end-writes (upto c n g) = token Colon c (token Const n (token Greater g nothing))
+
+pub bits-writes : (b : Bits) → Writes (bitsTokens b)
+bits-writes all-bits = nothing
+bits-writes (bits l n e) = token Less l (token Const n (bits-end-writes e))
+
+mutual
+  pub operand-writes : (o : Operand) → Writes (operandTokens o)
+  operand-writes (constant i) = token Const i nothing
+  operand-writes (access i s b) = token Name i (then (subscript-writes s) (bits-writes b))
+  operand-writes (parens l o t r) = token LPar l (then (operand-writes o) (then (tail-writes t) (token RPar r nothing)))
+  operand-writes (negated i o) = token NOT i (operand-writes o)
+
+  pub tail-writes : (t : Tail) → Writes (tailTokens t)
+  tail-writes no-more = nothing
+  tail-writes (with-op op i o t) = token (opKind op) i (then (operand-writes o) (tail-writes t))
+
+  pub subscript-writes : (s : Subscript) → Writes (subscriptTokens s)
+  subscript-writes no-subscript = nothing
+  subscript-writes (subscript l o t r) = token LBra l (then (operand-writes o) (then (tail-writes t) (token RBra r nothing)))
+
+pub joined-writes : (j : Joined) → Writes (joinedTokens j)
+joined-writes alone = nothing
+joined-writes (joined a n s b j) = token At a (token Name n (then (subscript-writes s) (then (bits-writes b) (joined-writes j))))
+
+pub literal-writes : (l : Literal) → Writes (literalTokens l)
+literal-writes (exact i) = token Const i nothing
+literal-writes (masked i) = token Masked i nothing
+
+pub range-writes : (r : Range) → Writes (rangeTokens r)
+range-writes single = nothing
+range-writes (to c l) = token Colon c (literal-writes l)
+
+pub items-writes : (v : Items) → Writes (itemsTokens v)
+items-writes (close r) = token RBra r nothing
+items-writes (item c l r v) = token Comma c (then (literal-writes l) (then (range-writes r) (items-writes v)))
+
+pub selector-writes : (s : Selector) → Writes (selectorTokens s)
+selector-writes (one-of l r) = then (literal-writes l) (range-writes r)
+selector-writes (any-of b l r v) = token LBra b (then (literal-writes l) (then (range-writes r) (items-writes v)))
+
+mutual
+  pub action-writes : (a : Action) → Writes (actionTokens a)
+  action-writes (block b a m) = token BEGIN b (then (action-writes a) (members-writes m))
+  action-writes (labelled n b a) = token Name n (token Becomes b (action-writes a))
+  action-writes (if-then i o t w a) = token IF i (then (operand-writes o) (then (tail-writes t) (token Arrow w (action-writes a))))
+  action-writes (decode i o t w b v) =
+      token DECODE i (then (operand-writes o) (then (tail-writes t) (token Arrow w (token BEGIN b (alternatives-writes v)))))
+  action-writes (repeat i a) = token REPEAT i (action-writes a)
+  action-writes (leave i n) = token LEAVE i (token Name n nothing)
+  action-writes (restart i n) = token RESTART i (token Name n nothing)
+  action-writes (activate n l r) = token Name n (token LPar l (token RPar r nothing))
+  action-writes (stop i l r) = token STOP i (token LPar l (token RPar r nothing))
+  action-writes (no-op i l r) = token NO-OP i (token LPar l (token RPar r nothing))
+  action-writes (transfer n s b j e o t) =
+      token Name n (then (subscript-writes s) (then (bits-writes b) (then (joined-writes j) (token Equals e (then (operand-writes o) (tail-writes t))))))
+
+  pub members-writes : (m : Members) → Writes (membersTokens m)
+  members-writes (end i) = token END i nothing
+  members-writes (also i a m) = token Semi i (then (action-writes a) (members-writes m))
+  members-writes (next i a m) = token NEXT i (then (action-writes a) (members-writes m))
+
+  pub alternatives-writes : (v : Alternatives) → Writes (alternativesTokens v)
+  alternatives-writes (counted a c) = then (action-writes a) (counted-writes c)
+  alternatives-writes (selected s) = selected-writes s
+
+  pub counted-writes : (v : Counted) → Writes (countedTokens v)
+  counted-writes (counted-end i) = token END i nothing
+  counted-writes (counted-more i a c) = token Comma i (then (action-writes a) (counted-writes c))
+
+  pub selected-writes : (v : Selected) → Writes (selectedTokens v)
+  selected-writes (select s b a m) = then (selector-writes s) (token Becomes b (then (action-writes a) (selected-more-writes m)))
+  selected-writes (otherwise i b a e) = token OTHERWISE i (token Becomes b (then (action-writes a) (token END e nothing)))
+
+  pub selected-more-writes : (v : SelectedMore) → Writes (selectedMoreTokens v)
+  selected-more-writes (selected-end i) = token END i nothing
+  selected-more-writes (selected-more i s) = token Comma i (selected-writes s)
+
+pub own-bits-writes : (o : OwnBits) → Writes (ownBitsTokens o)
+own-bits-writes (unnamed g) = token Greater g nothing
+own-bits-writes (named n e) = token Const n (bits-end-writes e)
+
+pub meaning-writes : (m : Meaning) → Writes (meaningTokens m)
+meaning-writes (body b a m) = token BEGIN b (then (action-writes a) (members-writes m))
+meaning-writes (mapped n l c e) = token Name n (token Less l (token Const c (bits-end-writes e)))
+
+pub given-writes : (g : Given) → Writes (givenTokens g)
+given-writes carrier = nothing
+given-writes (given b m) = token Becomes b (meaning-writes m)
+
+pub form-writes : (f : Form) → Writes (formTokens f)
+form-writes (words l m c n r b o) = token LBra l (token Const m (token Colon c (token Const n (token RBra r (token Less b (own-bits-writes o))))))
+form-writes (with-bits l o g) = token Less l (then (own-bits-writes o) (given-writes g))
+form-writes (bare-body e b a m) = token Becomes e (token BEGIN b (then (action-writes a) (members-writes m)))
+
+pub main-bits-writes : (o : MainBits) → Writes (mainBitsTokens o)
+main-bits-writes bitless = nothing
+main-bits-writes (main-bits l o) = token Less l (own-bits-writes o)
+
+pub declaration-writes : (d : Declaration) → Writes (declarationTokens d)
+declaration-writes (plain n f) = token Name n (form-writes f)
+declaration-writes (main i n o e b a m) =
+    token MAIN i (token Name n (then (main-bits-writes o) (token Becomes e (token BEGIN b (then (action-writes a) (members-writes m))))))
+
+pub heading-writes : (h : Heading) → Writes (headingTokens h)
+heading-writes no-heading = nothing
+heading-writes (heading l n r) = token Stars l (token Name n (token Stars r nothing))
+
+pub declarations-writes : (d : Declarations) → Writes (declarationsTokens d)
+declarations-writes (declared-all e) = token END e nothing
+declarations-writes (declared-also c h d ds) = token Comma c (then (heading-writes h) (then (declaration-writes d) (declarations-writes ds)))
+
+-- one behind the other
+pub stands-join : (f g : Tokens → Tokens) (T : Tokens) (i j k : ℕ) → Writes f → Stands f T i j → Stands g T j k → Stands (λ ts. f (g ts)) T i k
+stands-join f g T i j k w p q =
+    record {
+      size = let a = p .size in let b = q .size in omega (arith, ap length (w .grows [] (g [])), length-append (f []) (g []));
+      ends = q .ends;
+      reads = p .reads ∙ ap f (q .reads);
+    }
+
+-- and apart again
+pub stands-split : (f g : Tokens → Tokens) (T : Tokens) (i k : ℕ) → Writes f → Writes g → Stands (λ ts. f (g ts)) T i k
+    → (j : ℕ) × Stands f T i j × Stands g T j k
+stands-split f g T i k w v p =
+    let j = i + length (f []) in
+    let s = p .size in
+    let e : length (f (g [])) ≡ length (f []) + length (g []) = ap length (w .grows [] (g [])) ∙ length-append (f []) (g []) in
+    let h : drop j T ≡ g (drop k T) = sym (drop-drop (length (f [])) i T) ∙ ap (drop (length (f []))) (p .reads ∙ w .grows [] (g (drop k T))) ∙ drop-append-seam (f []) (g (drop k T)) in
+    let l = p .ends in (
+      j,
+      record { size = refl; ends = omega arith; reads = p .reads ∙ ap f (sym h) },
+      record { size = omega arith; ends = p .ends; reads = h },
+    )
+
+-- one token
+pub stands-token : (k : Kind) (x : Info) (g : Tokens → Tokens) (T : Tokens) (i j : ℕ) (d : Token) → Stands (λ ts. tk k x ∷ g ts) T i j
+    → (i < length T) × (getD T i d ≡ tk k x) × Stands g T (suc i) j
+stands-token k x g T i j d p =
+    let s = p .size in
+    let l = p .ends in
+    let b : i < length T = omega arith in
+    let c = sym (drop-cons T i d b) ∙ p .reads in
+    (b, ap (λ (ts : Tokens). getD ts 0 d) c, record { size = omega arith; ends = p .ends; reads = ap (drop 1) c })
+
+pub token-stands : (k : Kind) (x : Info) (g : Tokens → Tokens) (T : Tokens) (i j : ℕ) (d : Token) → i < length T → getD T i d ≡ tk k x → Stands g T (suc i) j
+    → Stands (λ ts. tk k x ∷ g ts) T i j
+token-stands k x g T i j d b e p =
+    record {
+      size = let s = p .size in omega arith;
+      ends = p .ends;
+      reads = drop-cons T i d b ∙ ap (λ (t : Token). t ∷ drop (suc i) T) e ∙ ap (λ (l : Tokens). tk k x ∷ l) (p .reads);
+    }
+
+abbrev pub ExpressionAt : Tokens → ℕ → Operand → Tail → ℕ → Type 0
+ExpressionAt T i o t j = Stands (λ ts. operandTokens o (tailTokens t ts)) T i j
+
+abbrev pub DescriptionAt : Tokens → ℕ → Description → ℕ → Type 0
+DescriptionAt T i d j = Stands (descriptionTokens d) T i j
+
+-- an example of what a walk by index needs: `IF e => action` at i
+pub if-at : (T : Tokens) (i j : ℕ) (x w : Info) (o : Operand) (t : Tail) (a : Action) (d : Token) → ActionAt T i (if-then x o t w a) j
+    → (getD T i d ≡ tk IF x) × ((m : ℕ) × ExpressionAt T (suc i) o t m × (getD T m d ≡ tk Arrow w) × ActionAt T (suc m) a j)
+if-at T i j x w o t a d p =
+    let q = stands-token IF x (λ ts. operandTokens o (tailTokens t (tk Arrow w ∷ actionTokens a ts))) T i j d p in
+    let r = stands-split (λ ts. operandTokens o (tailTokens t ts)) (λ ts. tk Arrow w ∷ actionTokens a ts) T (suc i) j
+    (then (operand-writes o) (tail-writes t)) (token Arrow w (action-writes a)) (q .2) in
+    let s = stands-token Arrow w (actionTokens a) T (r .0) j d (r .2) in
+    (q .1, (r .0, r .1, s .1, s .2))
+
+-- an accepted text stands as a description, from its first token to its end
+pub accepted-at : (T : Tokens) → recognise T ≡ accepted → (d : Description) × DescriptionAt T 0 d (length T)
+accepted-at T h =
+    let q = description-of-accepted T h in
+    let z = drop-length T in
+    (q .0, record { size = sym (ap length (q .1)) ∙ omega arith; ends = omega arith; reads = sym (q .1) ∙ ap (descriptionTokens (q .0)) (sym z) })

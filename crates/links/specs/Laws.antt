@@ -1,0 +1,14 @@
+pub mod Actions
+pub mod Bodies
+pub mod Choices
+pub mod Codes
+pub mod Instructed
+pub mod Layout
+pub mod Leaves
+pub mod Linked
+pub mod Mains
+pub mod Members
+pub mod Numbers
+pub mod Promised
+pub mod Setting
+pub mod Sound

@@ -1,0 +1,4 @@
+pub mod Arrays
+pub mod Spelling
+pub mod Storage
+pub mod Tables

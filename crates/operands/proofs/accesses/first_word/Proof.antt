@@ -1,0 +1,17 @@
+-- `operands::accesses::first_word` meets its contract: the first two bytes of the cell.
+-- Assumes nothing.
+use borrow.Author.Needs.{needs}
+use native.Mathlib.Omega.{arith}
+use mathlib.Core.Path.{_∙_}
+use Rattle.operands.specs.Laws.Cells.{first-bytes}
+use Rattle.operands.proofs.accesses.first_word.Statement.{statement}
+use Rattle.operands.proofs.accesses.first_word.Tie as tie
+
+pub first-word-spec : {M : Type 1} → statement M
+first-word-spec =
+    tie.close
+    (tie.spec
+    (λ c. search needs)
+    (λ c κs. search needs)
+    (λ c. search needs)
+    (λ c. c .get16 .ensures ∙ first-bytes _ (λ k. omega (arith, c .before .shared-slice-known .given k)) _))

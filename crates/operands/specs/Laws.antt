@@ -1,0 +1,13 @@
+pub mod Accesses
+pub mod Cells
+pub mod Chains
+pub mod Expressions
+pub mod Going
+pub mod Nots
+pub mod Operands
+pub mod Scene
+pub mod Settling
+pub mod Subscripts
+pub mod Trees
+pub mod Waits
+pub mod Worths

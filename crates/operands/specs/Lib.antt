@@ -1,0 +1,12 @@
+pub mod Answers
+pub mod Cells
+pub mod Chains
+pub mod Expressions
+pub mod Laws
+pub mod Nots
+pub mod Operands
+pub mod Scene
+pub mod Settling
+pub mod Subscripts
+pub mod Trees
+pub mod Worths

@@ -1,0 +1,12 @@
+-- The laws of places.
+pub mod Spans
+pub mod Tabled
+pub mod Brackets
+pub mod Given
+pub mod Scene
+pub mod Packed
+pub mod Bases
+pub mod Reaching
+pub mod Apart
+pub mod Counting
+pub mod Placing

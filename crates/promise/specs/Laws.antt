@@ -1,0 +1,2 @@
+-- The laws of the promise.
+pub mod Reached

@@ -1,0 +1,12 @@
+pub mod Bits
+pub mod Bodies
+pub mod Calls
+pub mod Events
+pub mod Groups
+pub mod Hearing
+pub mod Kinds
+pub mod Meanings
+pub mod Names
+pub mod Races
+pub mod Reading
+pub mod Touches

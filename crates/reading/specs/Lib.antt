@@ -1,0 +1,13 @@
+pub mod Behind
+pub mod Bits
+pub mod Bodies
+pub mod Calls
+pub mod Events
+pub mod Groups
+pub mod Kinds
+pub mod Laws
+pub mod Meanings
+pub mod Names
+pub mod Races
+pub mod Reading
+pub mod Touches

@@ -1,0 +1,4 @@
+pub mod Behind
+pub mod Frames
+pub mod Labels
+pub mod Walks

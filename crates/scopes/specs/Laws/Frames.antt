@@ -1,0 +1,329 @@
+-- Laws of frames: how each kind of token changes the scopes around it.
+use Prim.Native.Nat.{ℕ, suc, _+_, _-_, _*_, _<_, _≤_}
+use mathlib.Core.Path.{_≡_, refl, sym, ap, _∙_, subst}
+use mathlib.Core.Bool.{Bool, true, false}
+use mathlib.Core.List.{List, [], _∷_, _++_}
+use mathlib.Core.Option.{none, some}
+use native.Mathlib.Numerals.{add-one}
+use native.Mathlib.Omega.{arith}
+use lib.ListN.{length, drop}
+use Rattle.cells.specs.Cells.{cell, putCell}
+use Rattle.cells.specs.Laws.{length-put, le-put-same}
+use Rattle.rules.specs.Grammar.Trees.{Tokens}
+use Rattle.rules.specs.Declarations.{Table}
+use Rattle.rules.specs.Faults.Whole.{Scope, memberScope}
+use Rattle.table.specs.Holds.{tokenAt}
+use Rattle.table.specs.Scans.{no as number}
+use Rattle.reading.specs.Reading.{Kinded}
+use Rattle.reading.specs.Laws.Reading.{next-token}
+use Rattle.reading.specs.Groups.{more}
+use Rattle.scopes.specs.Walks.{around, outside, lastOpen, labelling, walk, faultsAt}
+use Rattle.scopes.specs.Laws.Walks.{walk-begin, walk-end, walk-semi, walk-next, walk-comma, walk-becomes, walk-other}
+use Rattle.scopes.specs.Labels.{Worded, Labelled, Scoped, namesFrom, Pushed}
+use Rattle.scopes.specs.Laws.Labels.{by-kinds, scope-kept, put-elsewhere}
+use Rattle.scopes.specs.Frames.{frameAt, Frames, no-frames, frame, FramePushed, Surrounding, Turning, Opened, GroupBase, Followed, NextGroup, Stack, Turned, Standing, Onward}
+
+frames-kept : {ts : Tokens} {old new : List ℕ} {depth limit : ℕ} {σ : List Scope} → depth ≤ 8192 → ((j : ℕ) → j < limit → cell 2 new j ≡ cell 2 old j)
+    → ((j : ℕ) → frameAt depth ≤ j → cell 2 new j ≡ cell 2 old j) → Frames ts old depth limit σ → Frames ts new depth limit σ
+frames-kept l low high no-frames = no-frames
+frames-kept l low high (frame {depth} {limit} {base} {top} b t h e s f) =
+    frame (high (frameAt (suc depth)) (omega arith) ∙ b) (high (frameAt (suc depth) + 1) (omega arith) ∙ t) h e (scope-kept limit h low s)
+    (frames-kept (omega arith) (λ j x. low j (omega arith)) (λ j x. high j (omega arith)) f)
+
+frames-under : {ts : Tokens} {labels : List ℕ} {depth limit new : ℕ} {σ : List Scope} → limit ≤ new → Frames ts labels depth limit σ
+    → Frames ts labels depth new σ
+frames-under h no-frames = no-frames
+frames-under {new = new} h (frame b t l e s f) = frame {limit = new} b t (omega arith) e s f
+
+-- whether the innermost open block is the body itself
+pub last-open : {ts : Tokens} {labels : List ℕ} {depth limit : ℕ} {σ : List Scope} → depth < 2 → Frames ts labels depth limit σ → lastOpen σ ≡ true
+last-open h no-frames = refl
+last-open h (frame b t l e s no-frames) = refl
+last-open h (frame b t l e s (frame c u m f r g)) = absurd (omega arith)
+
+inner-open : {ts : Tokens} {labels : List ℕ} {depth limit : ℕ} {σ : List Scope} → 2 ≤ depth → Frames ts labels depth limit σ → lastOpen σ ≡ false
+inner-open h no-frames = absurd (omega arith)
+inner-open h (frame b t l e s no-frames) = absurd (omega arith)
+inner-open h (frame b t l e s (frame c u m f r g)) = refl
+
+-- a scope without labels, and no scope
+scoped-empty : {ts : Tokens} {labels : List ℕ} {base top : ℕ} → base ≡ top → Scoped ts labels base top (some [])
+unfolding namesFrom
+scoped-empty {ts} {labels} {base} {top} e = record {
+  around = λ l. let z : top - base ≡ 0 = omega arith in sym (ap (λ (c : ℕ). some (namesFrom ts labels base c)) z);
+  nowhere = λ l. absurd (omega arith);
+}
+
+pub scoped-none : {ts : Tokens} {labels : List ℕ} {base top : ℕ} → top < base → Scoped ts labels base top none
+scoped-none h = record { around = λ l. absurd (omega arith); nowhere = λ l. refl }
+
+pub frame-pushed : {old mid new : List ℕ} {depth base top : ℕ} → 32768 ≤ length old → base < 65536 → top < 65536 → mid ≡ putCell 2 old (16382 - 2 * depth) base
+    → new ≡ putCell 2 mid (16382 - 2 * depth + 1) top → FramePushed old new depth base top
+frame-pushed {old} {mid} {new} {depth} {base} {top} h b t e f =
+    let at = 16382 - 2 * depth in
+    let one : length mid ≡ length old = ap length e ∙ length-put 2 old (2 * at) base in
+    let two : length new ≡ length mid = ap length f ∙ length-put 2 mid (2 * (at + 1)) top in
+    let later : (j : ℕ) → (j ≡ at + 1 → ⊥) → cell 2 new j ≡ cell 2 mid j = λ j x. ap (λ (l : List ℕ). cell 2 l j) f ∙ put-elsewhere mid (at + 1) top j x in
+    record {
+      base-there = later at (λ x. omega arith) ∙ (ap (λ (l : List ℕ). cell 2 l at) e ∙ le-put-same 2 old (2 * at) base (omega arith) b);
+      top-there = ap (λ (l : List ℕ). cell 2 l (at + 1)) f ∙ le-put-same 2 mid (2 * (at + 1)) top (omega (arith, one)) t;
+      kept = λ j x y. later j y ∙ (ap (λ (l : List ℕ). cell 2 l j) e ∙ put-elsewhere old at base j x);
+      size = two ∙ one;
+    }
+
+record Around (ts : Tokens) (labels : List ℕ) (depth limit base top : ℕ) (σ : List Scope) : Type 0 where
+  scoped : Scoped ts labels base top (around σ)
+  lower : top ≤ limit
+  edge : base ≤ top + 1
+  same : Frames ts labels depth top σ
+  outer : Frames ts labels (depth - 1) top (outside σ)
+
+surrounded : {ts : Tokens} {labels : List ℕ} {depth limit base top : ℕ} {σ : List Scope} → Surrounding labels depth limit base top
+    → Frames ts labels depth limit σ
+    → Around ts labels depth limit base top σ
+surrounded x no-frames =
+    let y = x .outermost refl in
+    record { scoped = scoped-none (omega (arith, y .0, y .1)); lower = omega (arith, y .1); edge = omega (arith, y .0, y .1); same = no-frames; outer = no-frames }
+surrounded {ts} {labels} {base = base} {top = top} x (frame {depth} {base = base₀} {top = top₀} p q l e r f) =
+    let y = x .inside (λ z. omega arith) in
+    let eb : base ≡ base₀ = y .0 ∙ p in
+    let et : top ≡ top₀ = y .1 ∙ q in
+    let less : suc depth - 1 ≡ depth = omega arith in
+    rw (eb, et) (record { scoped = r; lower = l; edge = e; same = frame {limit = top₀} p q (omega arith) e r f; outer = rw less f })
+
+-- what the steps of a turn ask
+module _ {text records labels : List ℕ} {n i kind depth base top : ℕ} (x : Turning text records labels n i kind depth base top) where
+  pub to-read : (32768 ≤ length labels) × ((depth < 8192) × (top < 65536))
+  to-read = (x .stack .space, (omega (arith, x .few), omega (arith, x .few)))
+
+  pub to-follow : Kinded records n × ((i < n) × ((32768 ≤ length labels) × ((depth < 8192) × (top < 65536))))
+  to-follow = (by-kinds (x .worded), (x .within, to-read))
+
+  pub to-open : Kinded records n × ((i < n) × ((32768 ≤ length labels) × ((depth < 8192) × ((base < 65536) × (top < 65536)))))
+  to-open = (by-kinds (x .worded), (x .within, (x .stack .space, (omega (arith, x .few), (omega (arith, x .few, x .stack .edge), omega (arith, x .few))))))
+
+  pub to-push : Worded text records n × ((i < n) × ((1 ≤ i) × (2 * top + 2 ≤ length labels)))
+  to-push = (x .worded, (x .within, (x .later, omega (arith, x .stack .space, x .few))))
+
+module _ {records : List ℕ} {n i : ℕ} {b : Bool} (tells : (v : Kinded records n) → b ≡ more (drop (i + 1) (v .tokens))) where
+  pub opened-more : {old new : List ℕ} {depth base top : ℕ} → FramePushed old new depth base top → b ≡ true → Opened records old new n i depth base top
+      (depth + 1) top top
+  opened-more {base = base} {top = top} p e = record {
+    pushed = p;
+    deeper = refl;
+    same = refl;
+    scope = λ v. subst (λ (c : Bool). GroupBase c base top top)
+        (sym e ∙ tells v) refl;
+  }
+
+  pub opened-one : {old new : List ℕ} {depth base top : ℕ} → FramePushed old new depth base top → b ≡ false → Opened records old new n i depth base top
+      (depth + 1) base top
+  opened-one {base = base} {top = top} p e = record {
+    pushed = p;
+    deeper = refl;
+    same = refl;
+    scope = λ v. subst (λ (c : Bool). GroupBase c base top base)
+        (sym e ∙ tells v) refl;
+  }
+
+module _ {records : List ℕ} {n i : ℕ} {b : Bool} (tells : (v : Kinded records n) → b ≡ more (drop (i + 1) (v .tokens))) where
+  pub followed-more : {labels : List ℕ} {depth limit : ℕ} → b ≡ true → Followed records labels n i depth limit depth limit limit
+  followed-more {labels} {depth} {limit} e =
+      record { same = refl; group = λ v. subst (λ (c : Bool). NextGroup c labels depth limit limit limit) (sym e ∙ tells v) (refl, refl) }
+
+  pub followed-one : {labels : List ℕ} {depth limit depth₁ base₁ top₁ : ℕ} → b ≡ false → depth₁ ≡ depth → Surrounding labels depth limit base₁ top₁
+      → Followed records labels n i depth limit depth₁ base₁ top₁
+  followed-one {labels} {depth} {limit} {depth₁} {base₁} {top₁} e d x =
+      record { same = d; group = λ v. subst (λ (c : Bool). NextGroup c labels depth limit base₁ top₁) (sym e ∙ tells v) x }
+
+module _ {text records old : List ℕ} {n i kind depth base top : ℕ} (x : Turning text records old n i kind depth base top) where
+  here : (v : Worded text records n) → drop i (v .tokens) ≡ tokenAt (v .tokens) i ∷ drop (i + 1) (v .tokens)
+  here v = next-token (by-kinds v) i (x .within)
+
+  kind-here : {k : ℕ} (v : Worded text records n) → kind ≡ k → number (tokenAt (v .tokens) i) ≡ k
+  kind-here v e = sym (x .kind-is ∙ by-kinds v .kind i (x .within)) ∙ e
+
+  -- the walk from the token i on
+  from-here : (ds : Table) (v : Worded text records n) (σ : List Scope) (s : Scope)
+      → walk ds σ s (tokenAt (v .tokens) (i - 1)) (drop i (v .tokens)) ≡ walk ds σ s (tokenAt (v .tokens) (i - 1))
+      (tokenAt (v .tokens) i ∷ drop (i + 1) (v .tokens))
+  from-here ds v σ s = ap (walk ds σ s (tokenAt (v .tokens) (i - 1))) (here v)
+
+  -- the names below a lower top
+  labelled-under : {new : List ℕ} {t : ℕ} → t ≤ top → ((j : ℕ) → j < top → cell 2 new j ≡ cell 2 old j) → length new ≡ length old → Labelled records new n t
+  labelled-under {new} {t} l k e =
+      let y = x .stack .labelled in
+      record {
+        room = omega (arith, y .room);
+        inside = λ j h. let q : j < top = omega arith in rw (k j q) (y .inside j q);
+        names = λ j h. let q : j < top = omega arith in rw (k j q) (y .names j q);
+      }
+
+  -- back to the scope around the innermost open block
+  module _ {base₁ top₁ : ℕ} (r : Surrounding old depth top base₁ top₁) where
+    around-stack : Stack records old n base₁ top₁
+    around-stack =
+        let y = surrounded r (x .standing .frames) in
+        record { labelled = labelled-under (y .lower) (λ j h. refl) refl; edge = y .edge; space = x .stack .space }
+
+    around-lower : top₁ ≤ top
+    around-lower = surrounded r (x .standing .frames) .lower
+
+    pub turned-comma : {depth₁ : ℕ} → kind ≡ 9 → depth₁ ≡ depth → Turned text records old old n i depth base top depth₁ base₁ top₁
+    turned-comma e d = rw d (record {
+      stack = around-stack;
+      grown = omega (arith, around-lower);
+      on = λ ds v σ s z.
+          let y = surrounded r (z .frames) in
+          record {
+            scopes = σ;
+            scope = around σ;
+            standing = record { scoped = y .scoped; frames = y .same };
+            walks = from-here ds v σ s ∙ walk-comma ds σ s _ _ _ (kind-here v e);
+          };
+    })
+
+    pub turned-end : kind ≡ 20 → Turned text records old old n i depth base top (depth - 1) base₁ top₁
+    turned-end e = record {
+      stack = around-stack;
+      grown = omega (arith, around-lower);
+      on = λ ds v σ s z.
+          let y = surrounded r (z .frames) in
+          record {
+            scopes = outside σ;
+            scope = around σ;
+            standing = record { scoped = y .scoped; frames = y .outer };
+            walks = from-here ds v σ s ∙ walk-end ds σ s _ _ _ (kind-here v e) (inner-open (x .inner e) (z .frames));
+          };
+    }
+
+  -- a scope without labels
+  fresh-stack : Stack records old n top top
+  fresh-stack = record { labelled = x .stack .labelled; edge = omega arith; space = x .stack .space }
+
+  pub turned-semi : kind ≡ 10 → Turned text records old old n i depth base top depth top top
+  turned-semi e = record {
+    stack = fresh-stack;
+    grown = omega arith;
+    on = λ ds v σ s z. record {
+      scopes = σ;
+      scope = some [];
+      standing = record { scoped = scoped-empty refl; frames = z .frames };
+      walks = from-here ds v σ s ∙ walk-semi ds σ s _ _ _ (kind-here v e);
+    };
+  }
+
+  pub turned-next : {depth₁ base₁ top₁ : ℕ} → kind ≡ 21 → Followed records old n i depth top depth₁ base₁ top₁
+      → Turned text records old old n i depth base top depth₁ base₁ top₁
+  turned-next {depth₁} {base₁} {top₁} e f = rw (f .same) (record {
+    stack = stack-by (more (drop (i + 1) (x .worded .tokens))) (f .group (by-kinds (x .worded)));
+    grown = grown-by (more (drop (i + 1) (x .worded .tokens))) (f .group (by-kinds (x .worded)));
+    on = λ ds v σ s z. on-by ds v σ s z (more (drop (i + 1) (v .tokens))) refl (f .group (by-kinds v));
+  })
+    where
+      stack-by : (b : Bool) → NextGroup b old depth top base₁ top₁ → Stack records old n base₁ top₁
+      stack-by true y = rw (y .0, y .1) fresh-stack
+      stack-by false y = around-stack y
+
+      grown-by : (b : Bool) → NextGroup b old depth top base₁ top₁ → top₁ + depth ≤ top + depth + 1
+      grown-by true y = omega (arith, y .1)
+      grown-by false y = omega (arith, around-lower y)
+
+      on-by : (ds : Table) (v : Worded text records n) (σ : List Scope) (s : Scope) → Standing (v .tokens) old depth base top σ s → (b : Bool) → more
+          (drop (i + 1) (v .tokens)) ≡ b
+          → NextGroup b old depth top base₁ top₁ → Onward ds (v .tokens) old i depth base₁ top₁ σ s
+      on-by ds v σ s z true q y = rw (y .0, y .1) (record {
+        scopes = σ;
+        scope = some [];
+        standing = record { scoped = scoped-empty refl; frames = z .frames };
+        walks = from-here ds v σ s ∙ (walk-next ds σ s _ _ _ (kind-here v e)
+            ∙ ap (λ (b : Bool). faultsAt ds s (tokenAt (v .tokens) i) (drop (i + 1) (v .tokens)) ++ walk ds σ (memberScope ds b (around σ))
+            (tokenAt (v .tokens) i) (drop (i + 1) (v .tokens))) q);
+      })
+      on-by ds v σ s z false q y =
+          let a = surrounded y (z .frames) in
+          record {
+            scopes = σ;
+            scope = around σ;
+            standing = record { scoped = a .scoped; frames = a .same };
+            walks = from-here ds v σ s ∙ (walk-next ds σ s _ _ _ (kind-here v e)
+                ∙ ap (λ (b : Bool). faultsAt ds s (tokenAt (v .tokens) i) (drop (i + 1) (v .tokens)) ++ walk ds σ (memberScope ds b (around σ))
+                (tokenAt (v .tokens) i) (drop (i + 1) (v .tokens))) q);
+          }
+
+  pub turned-begin : {new : List ℕ} {depth₁ base₁ top₁ : ℕ} → kind ≡ 19 → Opened records old new n i depth base top depth₁ base₁ top₁
+      → Turned text records old new n i depth base top depth₁ base₁ top₁
+  turned-begin {new} {depth₁} {base₁} {top₁} e o = rw (o .deeper ∙ add-one depth, o .same) (record {
+    stack = record {
+      labelled = labelled-under (omega arith) below (o .pushed .size);
+      edge = edge-by (more (drop (i + 1) (x .worded .tokens))) (o .scope (by-kinds (x .worded)));
+      space = omega (arith, x .stack .space, o .pushed .size);
+    };
+    grown = omega arith;
+    on = λ ds v σ s z. on-by ds v σ s z (more (drop (i + 1) (v .tokens))) refl (o .scope (by-kinds v));
+  })
+    where
+      below : (j : ℕ) → j < top → cell 2 new j ≡ cell 2 old j
+      below j h = o .pushed .kept j (λ y. omega (arith, x .few)) (λ y. omega (arith, x .few))
+
+      edge-by : (b : Bool) → GroupBase b base top base₁ → base₁ ≤ top + 1
+      edge-by true y = omega arith
+      edge-by false y = omega (arith, x .stack .edge)
+
+      frames-by : (v : Worded text records n) (σ : List Scope) (s : Scope) → Standing (v .tokens) old depth base top σ s → Frames (v .tokens) new
+          (suc depth) top (s ∷ σ)
+      frames-by v σ s z =
+          let at : frameAt (suc depth) ≡ 16382 - 2 * depth = omega arith in
+          frame {limit = top} (ap (cell 2 new) at ∙ o .pushed .base-there) (ap (λ (y : ℕ). cell 2 new (y + 1)) at ∙ o .pushed .top-there) (omega arith)
+          (x .stack .edge)
+          (scope-kept top (omega arith) below (z .scoped))
+          (frames-kept (omega (arith, x .few)) below (λ j h. o .pushed .kept j (λ y. omega (arith, x .few)) (λ y. omega (arith, x .few))) (z .frames))
+
+      on-by : (ds : Table) (v : Worded text records n) (σ : List Scope) (s : Scope) → Standing (v .tokens) old depth base top σ s → (b : Bool) → more
+          (drop (i + 1) (v .tokens)) ≡ b
+          → GroupBase b base top base₁ → Onward ds (v .tokens) new i (suc depth) base₁ top σ s
+      on-by ds v σ s z b q y = record {
+        scopes = s ∷ σ;
+        scope = memberScope ds b s;
+        standing = record { scoped = scoped-by b y; frames = frames-by v σ s z };
+        walks = from-here ds v σ s ∙ (walk-begin ds σ s _ _ _ (kind-here v e)
+            ∙ ap (λ (c : Bool). faultsAt ds s (tokenAt (v .tokens) i) (drop (i + 1) (v .tokens)) ++ walk ds (s ∷ σ) (memberScope ds c s)
+            (tokenAt (v .tokens) i) (drop (i + 1) (v .tokens))) q);
+      }
+        where
+          scoped-by : (b : Bool) → GroupBase b base top base₁ → Scoped (v .tokens) new base₁ top (memberScope ds b s)
+          scoped-by true y = scoped-empty y
+          scoped-by false y = rw y (scope-kept top (omega arith) below (z .scoped))
+
+  pub turned-becomes : {new : List ℕ} {r : ℕ} → kind ≡ 12 → Pushed text records old new n i base top r → length new ≡ length old
+      → Turned text records old new n i depth base top depth base r
+  turned-becomes {new} {r} e p size = record {
+    stack = record { labelled = p .labelled (x .stack .labelled); edge = omega (arith, x .stack .edge, p .low); space = omega (arith, x .stack .space) };
+    grown = omega (arith, p .high);
+    on = λ ds v σ s z. record {
+      scopes = σ;
+      scope = labelling (tokenAt (v .tokens) (i - 1)) s;
+      standing = record {
+        scoped = p .scope v s (z .scoped);
+        frames = frames-under (p .low) (frames-kept (omega (arith, x .few)) (λ j h. p .kept j (λ y. omega arith))
+            (λ j h. p .kept j (λ y. omega (arith, x .few))) (z .frames));
+      };
+      walks = from-here ds v σ s ∙ walk-becomes ds σ s _ _ _ (kind-here v e);
+    };
+  }
+
+  pub turned-other : (kind ≡ 19 → ⊥) → (kind ≡ 20 → ⊥) → (kind ≡ 10 → ⊥) → (kind ≡ 21 → ⊥) → (kind ≡ 9 → ⊥) → (kind ≡ 12 → ⊥)
+      → Turned text records old old n i depth base top depth base top
+  turned-other a b c d f g = record {
+    stack = x .stack;
+    grown = omega arith;
+    on = λ ds v σ s z.
+        let q = x .kind-is ∙ by-kinds v .kind i (x .within) in
+        record {
+          scopes = σ;
+          scope = s;
+          standing = z;
+          walks = from-here ds v σ s ∙ walk-other ds σ s _ _ _ (λ y. a (q ∙ y)) (λ y. b (q ∙ y)) (λ y. c (q ∙ y)) (λ y. d (q ∙ y)) (λ y. f (q ∙ y))
+              (λ y. g (q ∙ y));
+        };
+  }

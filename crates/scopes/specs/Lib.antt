@@ -1,0 +1,4 @@
+pub mod Frames
+pub mod Labels
+pub mod Laws
+pub mod Walks

@@ -1,0 +1,108 @@
+// The labels around a token, kept as a stack of their tokens' numbers in lent bytes.
+use cells::get16;
+use cells::put16;
+use reading::kinds::kind_of;
+use table::keys::NO_KEY;
+use table::keys::number_key;
+use table::kinds::LEAVE;
+use table::kinds::NAME;
+use table::kinds::RESTART;
+use table::records::kind_at;
+use table::records::place_at;
+use table::words::same_word;
+ghost use mathlib.Core.Path.{_≡_};
+ghost use Prim.Native.Nat.{_+_, _-_, _*_, _<_, _≤_};
+ghost use lib.ListN.{length};
+ghost use Rattle.rules.specs.Faults.Declared.{isKnown};
+ghost use Rattle.table.specs.Holds.{kindByte};
+ghost use Rattle.table.specs.Words.{wordAt};
+ghost use Rattle.scopes.specs.Walks.{jumps};
+ghost use Rattle.scopes.specs.Labels.{Worded, Labelled, JumpKey, Pushed, namesFrom};
+
+// Whether the name has the word of a label from base up to top.
+fn among(
+    text: &[u8],
+    records: &[u8],
+    labels: &[u8],
+    n: usize,
+    base: usize,
+    top: usize,
+    name: usize,
+) -> bool
+    requires { ⌜ Worded (now text) (now records) n × (Labelled (now records) (now labels) n top × ((base ≤ top) × ((name < n) × (kindByte (now records) name ≡ 0)))) ⌝ }
+    ensures { λ r. ⌜ ((v : Worded (now (text .entry)) (now (records .entry)) n)
+        → r ≡ isKnown (wordAt (v .tokens) name) (namesFrom (v .tokens) (now (labels .entry)) base (top - base))) ⌝ }
+{
+    let mut j = top;
+    while base < j {
+        j -= 1;
+        let label = get16(labels, j) as usize;
+        if same_word(text, records, label, name) {
+            return true;
+        }
+    }
+    false
+}
+
+// Whether it is LEAVE or RESTART.
+fn jumps(kind: u8) -> bool
+    ensures { λ r. ⌜ r ≡ jumps kind ⌝ }
+{
+    match kind {
+        LEAVE => true,
+        RESTART => true,
+        _ => false,
+    }
+}
+
+// The key of 52 at the token i, whose kind this is: where it jumps to none of the labels from base up to top.
+pub fn jump_key(
+    text: &[u8],
+    records: &[u8],
+    labels: &[u8],
+    n: usize,
+    i: usize,
+    kind: u8,
+    base: usize,
+    top: usize,
+) -> u32
+    requires { ⌜ Worded (now text) (now records) n × (Labelled (now records) (now labels) n top × ((i < n) × (kind ≡ kindByte (now records) i))) ⌝ }
+    ensures { λ r. ⌜ JumpKey (now (text .entry)) (now (records .entry)) (now (labels .entry)) n i base top r ⌝ }
+{
+    if !jumps(kind) {
+        return NO_KEY;
+    }
+    if kind_of(records, n, i + 1) != NAME {
+        return NO_KEY;
+    }
+    if top < base {
+        return NO_KEY;
+    }
+    if among(text, records, labels, n, base, top, i + 1) {
+        return NO_KEY;
+    }
+    number_key(52, place_at(records, i))
+}
+
+// The top of the labels behind the `:=` at i: one more, if a name stands before it and there is a scope.
+pub fn push_label(
+    text: &[u8],
+    records: &[u8],
+    labels: &mut [u8],
+    n: usize,
+    i: usize,
+    base: usize,
+    top: usize,
+) -> usize
+    requires { ⌜ Worded (now text) (now records) n × ((i < n) × ((1 ≤ i) × (2 * top + 2 ≤ length (now labels)))) ⌝ }
+    ensures { λ r. ⌜ Pushed (now (text .entry)) (now (records .entry)) (now (labels .entry)) (now (labels .exit)) n i base top r ⌝ }
+{
+    if top < base {
+        return top;
+    }
+    if kind_at(records, i - 1) != NAME {
+        return top;
+    }
+    put16(labels, top, (i - 1) as u16);
+    top + 1
+}

@@ -1,0 +1,148 @@
+// The scopes around a token: the labels of the innermost member, and for each open block those around it.
+use crate::labels::push_label;
+use cells::get16;
+use cells::put16;
+use reading::kinds::more;
+use table::kinds::BECOMES;
+use table::kinds::BEGIN;
+use table::kinds::COMMA;
+use table::kinds::END;
+use table::kinds::NEXT;
+use table::kinds::SEMI;
+use table::room::FIRST_SCOPE;
+use table::room::SCOPES_END;
+ghost use mathlib.Core.Path.{_≡_};
+ghost use Prim.Native.Nat.{_<_, _≤_};
+ghost use lib.ListN.{length};
+ghost use Rattle.reading.specs.Reading.{Kinded};
+ghost use Rattle.scopes.specs.Frames.{FramePushed, Surrounding, Opened, Followed, Turning, Turned};
+
+// How many blocks are open, and where the labels of the scope begin and end; where they end before they begin there is no scope.
+pub struct Nest {
+    pub depth: usize,
+    pub base: usize,
+    pub top: usize,
+}
+
+// Keeps the scope around a block that is opened with depth others around it.
+fn push_frame(labels: &mut [u8], depth: usize, base: usize, top: usize)
+    requires { ⌜ (32768 ≤ length (now labels)) × ((depth < 8192) × ((base < 65536) × (top < 65536))) ⌝ }
+    ensures { λ _. ⌜ FramePushed (now (labels .entry)) (now (labels .exit)) depth base top ⌝ }
+{
+    let at = FIRST_SCOPE - 2 * depth;
+    put16(labels, at, base as u16);
+    put16(labels, at + 1, top as u16);
+}
+
+// Behind the BEGIN at i.
+fn opened(
+    records: &[u8],
+    labels: &mut [u8],
+    n: usize,
+    i: usize,
+    depth: usize,
+    base: usize,
+    top: usize,
+) -> Nest
+    requires { ⌜ Kinded (now records) n × ((i < n) × ((32768 ≤ length (now labels)) × ((depth < 8192) × ((base < 65536) × (top < 65536))))) ⌝ }
+    ensures { λ r. ⌜ Opened (now (records .entry)) (now (labels .entry)) (now (labels .exit)) n i depth base top (r .depth) (r .base) (r .top) ⌝ }
+{
+    push_frame(labels, depth, base, top);
+    if more(records, n, i + 1) {
+        return Nest {
+            depth: depth + 1,
+            base: top,
+            top,
+        };
+    }
+    Nest {
+        depth: depth + 1,
+        base,
+        top,
+    }
+}
+
+// The scope around the innermost open block.
+fn surrounding(labels: &[u8], depth: usize, top: usize) -> Nest
+    requires { ⌜ (32768 ≤ length (now labels)) × ((depth < 8192) × (top < 65536)) ⌝ }
+    ensures { λ r. ⌜ (r .depth ≡ depth) × Surrounding (now (labels .entry)) depth top (r .base) (r .top) ⌝ }
+{
+    if depth == 0 {
+        return Nest {
+            depth,
+            base: top + 1,
+            top,
+        };
+    }
+    let at = SCOPES_END - 2 * depth;
+    Nest {
+        depth,
+        base: get16(labels, at) as usize,
+        top: get16(labels, at + 1) as usize,
+    }
+}
+
+// Behind the NEXT at i.
+fn next_group(records: &[u8], labels: &[u8], n: usize, i: usize, depth: usize, top: usize) -> Nest
+    requires { ⌜ Kinded (now records) n × ((i < n) × ((32768 ≤ length (now labels)) × ((depth < 8192) × (top < 65536)))) ⌝ }
+    ensures { λ r. ⌜ Followed (now (records .entry)) (now (labels .entry)) n i depth top (r .depth) (r .base) (r .top) ⌝ }
+{
+    if more(records, n, i + 1) {
+        return Nest {
+            depth,
+            base: top,
+            top,
+        };
+    }
+    surrounding(labels, depth, top)
+}
+
+// Behind the token i, whose kind this is.
+pub fn turn(
+    text: &[u8],
+    records: &[u8],
+    labels: &mut [u8],
+    n: usize,
+    i: usize,
+    kind: u8,
+    depth: usize,
+    base: usize,
+    top: usize,
+) -> Nest
+    requires { ⌜ Turning (now text) (now records) (now labels) n i kind depth base top ⌝ }
+    ensures { λ r. ⌜ Turned (now (text .entry)) (now (records .entry)) (now (labels .entry)) (now (labels .exit)) n i depth base top (r .depth) (r .base) (r .top) ⌝ }
+{
+    if kind == BEGIN {
+        return opened(records, labels, n, i, depth, base, top);
+    }
+    if kind == END {
+        let around = surrounding(labels, depth, top);
+        return Nest {
+            depth: depth - 1,
+            base: around.base,
+            top: around.top,
+        };
+    }
+    if kind == SEMI {
+        return Nest {
+            depth,
+            base: top,
+            top,
+        };
+    }
+    if kind == NEXT {
+        return next_group(records, labels, n, i, depth, top);
+    }
+    if kind == COMMA {
+        return surrounding(labels, depth, top);
+    }
+    if kind == BECOMES {
+        let above = push_label(text, records, labels, n, i, base, top);
+        return Nest {
+            depth,
+            base,
+            top: above,
+        };
+    }
+    Nest { depth, base, top }
+}

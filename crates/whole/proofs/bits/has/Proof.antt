@@ -1,9 +1,0 @@
--- `whole::bits::has` meets its contract.
-use borrow.Author.Needs.{needs}
-use mathlib.Core.Path.{sym}
-use Rattle.whole.specs.Bits.{held}
-use Rattle.whole.proofs.bits.has.Statement.{statement}
-use Rattle.whole.proofs.bits.has.Tie as tie
-
-pub has-spec : {M : Type 1} → statement M
-has-spec = tie.close (tie.spec (λ c. search needs) (λ c. search needs) (λ c. search needs) (λ c. sym (held _ _ (search needs))))

@@ -1,8 +1,0 @@
--- `whole::mains::met` meets its contract.
-use borrow.Author.Needs.{needs}
-use Rattle.whole.specs.Mains.{met-unseen}
-use Rattle.whole.proofs.mains.met.Statement.{statement}
-use Rattle.whole.proofs.mains.met.Tie as tie
-
-pub met-spec : {M : Type 1} → statement M
-met-spec = tie.close (tie.spec (λ c. search needs) (λ c. met-unseen (c .before .args .at) (c .if1 .left)))
