@@ -9,6 +9,26 @@ static unsigned passed, failed;
 static uint8_t blanks[ISPS_LONGEST_TEXT + 1];
 static const char accepted[] = "N := BEGIN A<3:0>, MAIN P := BEGIN A = A + 1 END END";
 
+/* The position of an offset by counting the ends of lines before it. */
+static void position_of(const uint8_t *text, uint32_t place, uint32_t *line, uint32_t *column)
+{
+    *line = *column = 1;
+    for (uint32_t i = 0; i < place; i++) {
+        *column = text[i] == 10 ? 1 : *column + 1;
+        *line += text[i] == 10;
+    }
+}
+
+static void judge_position(const char *what, unsigned detail, const uint32_t answer[8], uint32_t line, uint32_t column)
+{
+    if (answer[ISPS_LINE] == line && answer[ISPS_COLUMN] == column) {
+        passed++;
+        return;
+    }
+    failed++;
+    printf("%s, %u: line %u, column %u; expected %u, %u\n", what, detail, answer[ISPS_LINE], answer[ISPS_COLUMN], line, column);
+}
+
 static void judge(const char *what, unsigned detail, const uint32_t answer[8], uint32_t ending, uint32_t number, uint32_t place, uint32_t steps,
                   const char *broken)
 {
@@ -27,10 +47,14 @@ static void both_refuse(const char *what, unsigned detail, const Lengths *length
     uint32_t answer[8];
     const char *broken;
     uint8_t carriers[8] = {0};
+    uint32_t line, column;
+    position_of(text, place, &line, &column);
     lent_check_with(lengths, text, len, answer, &broken);
     judge(what, detail, answer, ISPS_REFUSED, number, place, 0, broken);
+    judge_position(what, detail, answer, line, column);
     lent_run_with(lengths, text, len, carriers, sizeof carriers, 5, answer, &broken);
     judge(what, detail, answer, ISPS_REFUSED, number, place, 0, broken);
+    judge_position(what, detail, answer, line, column);
 }
 
 static void both_accept(const char *what, unsigned detail, const Lengths *lengths)
@@ -81,6 +105,25 @@ static void try_lengths_of_text(void)
     both_refuse("empty text", 0, &published, blanks, 0, 20, 0);
     both_refuse("longest text", 0, &published, blanks, ISPS_LONGEST_TEXT, 20, ISPS_LONGEST_TEXT);
     both_refuse("text too long", 0, &published, blanks, ISPS_LONGEST_TEXT + 1, 2, 0);
+}
+
+/* Texts of blanks are refused at their end: of one line, of empty lines, and with bytes 9 and 13, which end none. */
+static void try_lines(void)
+{
+    static uint8_t lines[ISPS_LONGEST_TEXT];
+    static const uint8_t kinds[] = {9, 10, 13, 32};
+    for (unsigned kind = 0; kind < 4; kind++) {
+        memset(lines, kinds[kind], sizeof lines);
+        for (uint32_t len = 0; len < 4; len++)
+            both_refuse("few equal blanks", 10 * kinds[kind] + len, &published, lines, len, 20, len);
+        both_refuse("as many equal blanks as fit", kinds[kind], &published, lines, sizeof lines, 20, sizeof lines);
+        lines[sizeof lines - 1] = 10;
+        both_refuse("a line end last", kinds[kind], &published, lines, sizeof lines, 20, sizeof lines);
+        lines[sizeof lines - 1] = '$';
+        both_refuse("a bad byte last", kinds[kind], &published, lines, sizeof lines, 10, sizeof lines - 1);
+        lines[20000] = 10;
+        both_refuse("a bad byte last, and a line end before it", kinds[kind], &published, lines, sizeof lines, 10, sizeof lines - 1);
+    }
 }
 
 static int is_allowed(unsigned byte)
@@ -135,6 +178,8 @@ static void run_and_judge(const char *what, unsigned detail, const char *text, c
         memcpy(carriers, start, len);
     lent_run(text == NULL ? blanks : (const uint8_t *)text, text == NULL ? 1 : strlen(text), carriers, len, budget, answer, &broken);
     judge(what, detail, answer, ending, number, place, steps, broken);
+    if (number == 60 || number == 61)
+        judge_position(what, detail, answer, 1, 1);
 }
 
 static void try_lengths_of_carriers(void)
@@ -188,6 +233,7 @@ int main(void)
     try_short_buffers();
     try_long_buffers();
     try_lengths_of_text();
+    try_lines();
     try_every_byte();
     try_lengths_of_carriers();
     try_every_carrier_bit();

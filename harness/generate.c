@@ -63,7 +63,7 @@ static void plan_mischief(void)
 
 /* ---- Tokens ---- */
 
-enum { TOKEN_SIZE = 80, MOST = 12000 };
+enum { TOKEN_SIZE = 80, MOST = 12000, LONGEST_TEXT = 32768 };
 
 typedef struct {
     char letters[MOST][TOKEN_SIZE];
@@ -937,6 +937,37 @@ static void write_out(Generated *text)
     }
 }
 
+/* Puts blanks into a text where it has some already: any of the four kinds, few or many. */
+static void spread(Generated *text)
+{
+    static uint8_t tight[GENERATED_ROOM];
+    size_t len = text->len;
+    bool one_line = chance(20);
+    memcpy(tight, text->bytes, len);
+    text->len = 0;
+    for (size_t i = 0; i < len && text->len < GENERATED_ROOM; i++) {
+        unsigned count = tight[i] == ' ' && len + text->len < LONGEST_TEXT / 2 ? below(4) : 0;
+        text->bytes[text->len++] = tight[i] == '\n' && one_line ? '\r' : tight[i];
+        for (; count > 0 && text->len < GENERATED_ROOM; count--)
+            text->bytes[text->len++] = (uint8_t)*(one_line ? ONE_OF("\t", "\r") : ONE_OF("\t", "\n", "\r", " "));
+    }
+}
+
+/* Blanks in front and behind, up to the longest text. */
+static void pad(Generated *text)
+{
+    if (text->len >= LONGEST_TEXT)
+        return;
+    size_t room = LONGEST_TEXT - text->len, front = chance(50) ? room : below((unsigned)room + 1);
+    uint8_t blank = chance(50) ? '\t' : '\r';
+    memmove(text->bytes + front, text->bytes, text->len);
+    memset(text->bytes, blank, front);
+    memset(text->bytes + front + text->len, blank, room - front);
+    text->len = LONGEST_TEXT;
+    if (front < room && chance(30))
+        text->bytes[LONGEST_TEXT - 1] = '\n';
+}
+
 static void damage_byte(Generated *text)
 {
     size_t at = below((unsigned)text->len), rest = text->len - at - 1;
@@ -974,6 +1005,10 @@ void generate(Generated *text)
     emit_description(text);
     damage_tokens();
     write_out(text);
+    if (chance(50))
+        spread(text);
+    if (chance(5))
+        pad(text);
     if (planned[BYTE_DAMAGE])
         for (unsigned count = 1 + below(3); count > 0 && text->len > 0; count--)
             damage_byte(text);

@@ -68,6 +68,7 @@ static void read_answer(uint32_t returned, uint32_t answer[8])
     if (returned == ISPS_WORK_TOO_SHORT || returned == ISPS_TEXT_TOO_LONG) {
         answer[ISPS_ENDING] = ISPS_REFUSED;
         answer[ISPS_NUMBER] = returned;
+        answer[ISPS_LINE] = answer[ISPS_COLUMN] = 1;
         return;
     }
     for (size_t i = 0; i < 8; i++)
@@ -87,6 +88,12 @@ static const char *fault_of_work_memory(bool untouched)
     return NULL;
 }
 
+static bool has_right_position(const uint32_t answer[8])
+{
+    bool has_place = answer[ISPS_ENDING] == ISPS_REFUSED || answer[ISPS_ENDING] == ISPS_FAULT;
+    return has_place ? answer[ISPS_LINE] >= 1 && answer[ISPS_COLUMN] >= 1 : answer[ISPS_LINE] == 0 && answer[ISPS_COLUMN] == 0;
+}
+
 static const char *fault_of_call(uint32_t returned, const uint32_t answer[8])
 {
     bool untouched = returned == ISPS_WORK_TOO_SHORT || returned == ISPS_TEXT_TOO_LONG;
@@ -102,6 +109,8 @@ static const char *fault_of_call(uint32_t returned, const uint32_t answer[8])
         return "changed carriers and refused";
     if (answer[ISPS_NUMBER] != returned)
         return "returned another number than its answer has";
+    if (!has_right_position(answer))
+        return "gave no line and column to a refusal or fault, or gave them to something else";
     return fault_of_work_memory(untouched);
 }
 

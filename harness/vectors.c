@@ -1,7 +1,9 @@
-/* Reads texts from standard input, each after its length in 4 little-endian bytes, and writes for each one line:
+/* vectors: reads texts from standard input, each after its length in 4 little-endian bytes, and writes for each one line:
  *     check NUMBER PLACE DECLARATIONS WORDS run FIRST-LINE carriers HASH
  * The run has zero carriers and a budget of 1000; the hash is FNV-1a, 64 bits, of the carriers left, of none after a refusal.
- * Ends with 1 if a call did with its buffers what it may not do. */
+ * vectors position: reads a text, carriers, each after its length, and a budget in 4 bytes, over and over, and writes for each one line, with all numbers:
+ *     check EIGHT run EIGHT carriers HASH
+ * where the hash is that of the carriers, whatever the ending. Ends with 1 if a call did with its buffers what it may not do. */
 #include <stdbool.h>
 #include <stdio.h>
 #include <string.h>
@@ -12,16 +14,25 @@
 enum { BUDGET = 1000, MOST_WORDS = 4096 };
 
 static uint8_t text[LONGEST_LENT];
-static uint8_t carriers[8 * MOST_WORDS];
+static uint8_t carriers[8 * MOST_WORDS + 16];
 static bool all_good = true;
 
-static bool read_text(size_t *len)
+static bool read_number(uint32_t *number)
 {
     uint8_t head[4];
     if (fread(head, 1, 4, stdin) != 4)
         return false;
-    *len = (size_t)head[0] | (size_t)head[1] << 8 | (size_t)head[2] << 16 | (size_t)head[3] << 24;
-    return *len <= LONGEST_LENT && fread(text, 1, *len, stdin) == *len;
+    *number = (uint32_t)head[0] | (uint32_t)head[1] << 8 | (uint32_t)head[2] << 16 | (uint32_t)head[3] << 24;
+    return true;
+}
+
+static bool read_bytes(uint8_t *bytes, size_t room, size_t *len)
+{
+    uint32_t number;
+    if (!read_number(&number) || number > room)
+        return false;
+    *len = number;
+    return fread(bytes, 1, *len, stdin) == *len;
 }
 
 static unsigned long long hash(const uint8_t *bytes, size_t len)
@@ -52,10 +63,34 @@ static void print_run(const uint32_t answer[8], size_t carriers_len)
     printf(" carriers %016llx\n", hash(carriers, answer[ISPS_ENDING] == ISPS_REFUSED ? 0 : carriers_len));
 }
 
-int main(void)
+static void print_numbers(const char *who, const uint32_t answer[8])
+{
+    printf("%s", who);
+    for (int i = 0; i < 8; i++)
+        printf(" %u", answer[i]);
+}
+
+static void answer_positions(void)
+{
+    size_t len, carriers_len;
+    uint32_t budget;
+    while (read_bytes(text, sizeof text, &len) && read_bytes(carriers, sizeof carriers, &carriers_len) && read_number(&budget)) {
+        uint32_t answer[8];
+        const char *broken;
+        lent_check(text, len, answer, &broken);
+        report(broken);
+        print_numbers("check", answer);
+        lent_run(text, len, carriers, carriers_len, budget, answer, &broken);
+        print_numbers(" run", answer);
+        printf(" carriers %016llx\n", hash(carriers, carriers_len));
+        report(broken);
+    }
+}
+
+static void answer_texts(void)
 {
     size_t len;
-    while (read_text(&len)) {
+    while (read_bytes(text, sizeof text, &len)) {
         uint32_t answer[8];
         const char *broken;
         lent_check(text, len, answer, &broken);
@@ -67,5 +102,13 @@ int main(void)
         print_run(answer, carriers_len);
         report(broken);
     }
+}
+
+int main(int count, char **arguments)
+{
+    if (count > 1 && strcmp(arguments[1], "position") == 0)
+        answer_positions();
+    else
+        answer_texts();
     return all_good ? 0 : 1;
 }

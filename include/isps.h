@@ -32,7 +32,8 @@ uint32_t isps_run(const uint8_t *text, size_t text_len,
                   uint8_t *answer, size_t answer_len);
 
 /* Work memory may hold anything before a call. After it, it is zero over its whole length, also where it is longer than the published size.
- * Refusals 1 and 2 are the exception: they write nothing anywhere, not even the answer, so that the returned number is all there is. */
+ * Refusals 1 and 2 are the exception: they write nothing anywhere, not even the answer, so that the returned number is all there is. It stands for
+ * place 0, line 1 and column 1. */
 
 /* `answer` takes eight little-endian numbers of 4 bytes; bytes behind its first 32 stay as they are. This is their order. */
 enum {
@@ -42,9 +43,12 @@ enum {
     ISPS_STEPS,        /* that Run took, 0 after a refusal */
     ISPS_DECLARATIONS, /* number of declarations, in Check's answer to an accepted text, else 0 */
     ISPS_WORDS,        /* number of words of all carriers, likewise */
-    ISPS_LINE,         /* 0 for now */
-    ISPS_COLUMN        /* 0 for now */
+    ISPS_LINE,         /* of the place of a refusal or fault, else 0; see below */
+    ISPS_COLUMN        /* likewise */
 };
+
+/* Line and column are counted from 1. Byte 10 ends a line; every other byte, tab and 13 included, is one column. The end of the text has what the next
+ * byte would have. Where the place is no offset into the text (1, 2, 60, 61), line and column are 1. */
 
 /* Endings. */
 enum {

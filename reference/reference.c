@@ -19,7 +19,7 @@ enum {
     LONGEST_CHAIN = 16
 };
 
-enum { ENDING, NUMBER, PLACE, STEPS, DECLARATIONS, WORDS };
+enum { ENDING, NUMBER, PLACE, STEPS, DECLARATIONS, WORDS, LINE, COLUMN };
 enum { DONE, STOPPED, PAUSED, FAULTED, REFUSED };
 
 /* ---- Memory: what a call builds lives until the call ends, and the next call uses it again ---- */
@@ -1401,21 +1401,35 @@ static void read_text(Reader *r, const uint8_t *text, size_t text_len)
         stages[i](r);
 }
 
-static uint32_t give(uint32_t answer[8], uint32_t ending, Fault fault, uint32_t steps)
+/* The line is one more than the bytes 10 before the place; the column is counted back to the last of them. */
+static void give_position(uint32_t answer[8], const uint8_t *text, Fault fault)
+{
+    bool is_in_text = fault.number >= 10 && fault.number / 10 != 6;
+    size_t place = is_in_text ? fault.place : 0, line_start = place;
+    while (line_start > 0 && text[line_start - 1] != '\n')
+        line_start--;
+    answer[LINE] = 1;
+    for (size_t i = 0; i < line_start; i++)
+        answer[LINE] += text[i] == '\n';
+    answer[COLUMN] = (uint32_t)(place - line_start) + 1;
+}
+
+static void give(uint32_t answer[8], const uint8_t *text, uint32_t ending, Fault fault, uint32_t steps)
 {
     memset(answer, 0, 8 * sizeof *answer);
     answer[ENDING] = ending;
     answer[NUMBER] = fault.number;
     answer[PLACE] = fault.place;
     answer[STEPS] = steps;
-    return fault.number;
+    if (fault.number != 0)
+        give_position(answer, text, fault);
 }
 
 uint32_t reference_check(const uint8_t *text, size_t text_len, uint32_t answer[8])
 {
     Reader r;
     read_text(&r, text, text_len);
-    give(answer, r.fault.number == 0 ? DONE : REFUSED, r.fault, 0);
+    give(answer, text, r.fault.number == 0 ? DONE : REFUSED, r.fault, 0);
     if (r.fault.number == 0) {
         answer[DECLARATIONS] = r.declaration_count;
         answer[WORDS] = r.word_count;
@@ -1847,12 +1861,12 @@ static uint32_t run(const uint8_t *text, size_t text_len, uint8_t *carriers, siz
     if (r.fault.number == 0)
         load_carriers(&r, words, carriers, carriers_len);
     if (r.fault.number != 0) {
-        give(answer, REFUSED, r.fault, 0);
+        give(answer, text, REFUSED, r.fault, 0);
     } else {
         Outcome outcome = in_order(&m, r.main, seed);
         for (uint32_t i = 0; i < r.word_count; i++)
             save_word(carriers + (size_t)i * 8, words[i]);
-        give(answer, endings[outcome], m.fault, m.steps);
+        give(answer, text, endings[outcome], m.fault, m.steps);
     }
     give_back_memory(r.memory);
     return answer[NUMBER];

@@ -22,4 +22,4 @@ Near (Refused m p) = p ≤ longestText
 pub record Told (text : List ℕ) (a : Answer) : Type 0 where
   pub verdict : Answered
   pub checks : Checks text verdict
-  pub is : numbersOf a ≡ verdictNumbers verdict
+  pub is : numbersOf a ≡ verdictNumbers text verdict

@@ -11,12 +11,12 @@ ghost use Rattle.lent.specs.Numbers.{numbersOf};
 ghost use Rattle.checking.specs.Checked.{verdictOf, Near, Told};
 
 // The numbers of the reader's verdict.
-fn verdict_answer(v: Verdict) -> Answer
+fn verdict_answer(text: &[u8], v: Verdict) -> Answer
     requires { ⌜ Near v ⌝ }
-    ensures { λ r. ⌜ numbersOf r ≡ verdictNumbers (verdictOf v) ⌝ }
+    ensures { λ r. ⌜ numbersOf r ≡ verdictNumbers (now (text .entry)) (verdictOf v) ⌝ }
 {
     match v {
-        Verdict::Refused(number, place) => refusal(number, place),
+        Verdict::Refused(number, place) => refusal(text, number, place),
         Verdict::Accepted(declarations, words, _) => Answer {
             ending: 0,
             number: 0,
@@ -36,5 +36,5 @@ pub fn checked(text: &[u8], a: &mut [u8], b: &mut [u8], c: &mut [u8]) -> Answer
     ensures { λ r. ⌜ Told (now (text .entry)) r ⌝ }
 {
     let mut decls: [u8; 512] = [0; 512];
-    verdict_answer(reader::check(text, a, b, c, &mut decls))
+    verdict_answer(text, reader::check(text, a, b, c, &mut decls))
 }

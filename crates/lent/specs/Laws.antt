@@ -1,4 +1,5 @@
 -- The laws of lent.
 pub mod Bytes
+pub mod Numbers
 pub mod Measured
 pub mod Settled

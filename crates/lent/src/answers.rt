@@ -1,5 +1,6 @@
 // An answer as eight numbers of 32 bits.
 use cells::put64;
+use positions::position_of;
 ghost use mathlib.Core.Path.{_≡_};
 ghost use Prim.Native.Nat.{_+_, _*_, _<_, _≤_};
 ghost use lib.ListN.{length};
@@ -20,10 +21,11 @@ pub struct Answer {
 }
 
 // Refused, with a number and a place.
-pub fn refusal(number: u32, place: usize) -> Answer
+pub fn refusal(text: &[u8], number: u32, place: usize) -> Answer
     requires { ⌜ place ≤ 32768 ⌝ }
-    ensures { λ r. ⌜ numbersOf r ≡ refusedNumbers number place ⌝ }
+    ensures { λ r. ⌜ numbersOf r ≡ refusedNumbers (now (text .entry)) number place ⌝ }
 {
+    let here = position_of(text, number, place);
     Answer {
         ending: 4,
         number,
@@ -31,8 +33,8 @@ pub fn refusal(number: u32, place: usize) -> Answer
         steps: 0,
         fourth: 0,
         fifth: 0,
-        line: 0,
-        column: 0,
+        line: here.line,
+        column: here.column,
     }
 }
 

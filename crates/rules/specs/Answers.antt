@@ -20,6 +20,7 @@ use Rattle.rules.specs.Faults.Fault.{Fault, byPlace, byNumber, least}
 use Rattle.rules.specs.Faults.Declared.{faults30}
 use Rattle.rules.specs.Faults.Bodies.{faults40}
 use Rattle.rules.specs.Faults.Whole.{faults50, mainName}
+use Rattle.rules.specs.Positions.{positionOf}
 
 -- Check: accepted, with the numbers of declarations and of words; or refused, with a number and a place
 pub data Verdict : Type 0 where
@@ -125,21 +126,22 @@ pub data Runs (text buffer : List ℕ) (budget : ℕ) : Result → Type 0 where
   ran : {n w : ℕ} (d : Description) → flatten d ≡ scan text .tokens → Checks text (accepted n w)
       → Runs text buffer budget (runOn (declarations d) buffer budget)
 
--- An answer as eight numbers: ending, number, place, steps, declarations, words, line and column (0 as yet). Endings: 0 Done or accepted, 1 Stopped,
--- 2 Paused, 3 Fault, 4 refused. "Every refusal gives 0 for steps and counts"; Done, Stopped and Paused have number 0 and place 0.
-abbrev pub refusedNumbers : ℕ → ℕ → List ℕ
-refusedNumbers m p = 4 ∷ m ∷ p ∷ 0 ∷ 0 ∷ 0 ∷ 0 ∷ 0 ∷ []
+-- The answer to a text as eight numbers: ending, number, place, steps, declarations, words, line and column. Endings: 0 Done or accepted, 1 Stopped,
+-- 2 Paused, 3 Fault, 4 refused. "Every refusal gives 0 for steps and counts"; Done, Stopped and Paused have number 0 and place 0. "Each refusal and
+-- fault should also carry a line and a column"; all else has 0 and 0.
+abbrev pub refusedNumbers : List ℕ → ℕ → ℕ → List ℕ
+refusedNumbers text m p = 4 ∷ m ∷ p ∷ 0 ∷ 0 ∷ 0 ∷ positionOf text m p .line ∷ positionOf text m p .column ∷ []
 
-abbrev pub verdictNumbers : Verdict → List ℕ
-verdictNumbers (accepted n w) = 0 ∷ 0 ∷ 0 ∷ 0 ∷ n ∷ w ∷ 0 ∷ 0 ∷ []
-verdictNumbers (refused m p) = refusedNumbers m p
+abbrev pub verdictNumbers : List ℕ → Verdict → List ℕ
+verdictNumbers text (accepted n w) = 0 ∷ 0 ∷ 0 ∷ 0 ∷ n ∷ w ∷ 0 ∷ 0 ∷ []
+verdictNumbers text (refused m p) = refusedNumbers text m p
 
-abbrev pub ranNumbers : Ending → ℕ → List ℕ
-ranNumbers done n = 0 ∷ 0 ∷ 0 ∷ n ∷ 0 ∷ 0 ∷ 0 ∷ 0 ∷ []
-ranNumbers halted n = 1 ∷ 0 ∷ 0 ∷ n ∷ 0 ∷ 0 ∷ 0 ∷ 0 ∷ []
-ranNumbers paused n = 2 ∷ 0 ∷ 0 ∷ n ∷ 0 ∷ 0 ∷ 0 ∷ 0 ∷ []
-ranNumbers (faulted m p) n = 3 ∷ m ∷ p ∷ n ∷ 0 ∷ 0 ∷ 0 ∷ 0 ∷ []
+abbrev pub ranNumbers : List ℕ → Ending → ℕ → List ℕ
+ranNumbers text done n = 0 ∷ 0 ∷ 0 ∷ n ∷ 0 ∷ 0 ∷ 0 ∷ 0 ∷ []
+ranNumbers text halted n = 1 ∷ 0 ∷ 0 ∷ n ∷ 0 ∷ 0 ∷ 0 ∷ 0 ∷ []
+ranNumbers text paused n = 2 ∷ 0 ∷ 0 ∷ n ∷ 0 ∷ 0 ∷ 0 ∷ 0 ∷ []
+ranNumbers text (faulted m p) n = 3 ∷ m ∷ p ∷ n ∷ 0 ∷ 0 ∷ positionOf text m p .line ∷ positionOf text m p .column ∷ []
 
-abbrev pub resultNumbers : Result → List ℕ
-resultNumbers (refusal m p) = refusedNumbers m p
-resultNumbers (ended e n b) = ranNumbers e n
+abbrev pub resultNumbers : List ℕ → Result → List ℕ
+resultNumbers text (refusal m p) = refusedNumbers text m p
+resultNumbers text (ended e n b) = ranNumbers text e n

@@ -19,6 +19,7 @@ use Rattle.rules.specs.Steps.Evaluation.{gives, then, wordOr70, wordOf, 
 use Rattle.rules.specs.Steps.Control.{start, leftmost, workI, nextI, choose}
 use Rattle.rules.specs.Steps.Runs.{Conf, running, finished, Run, ran, done, paused, faulted, runFrom, bodyAct}
 use Rattle.rules.specs.Whole.Sets.{Sets, owner, readsOf, factorReads, indexReads, subscriptReads, stores, setsOf, setsI, bodySets, touched, member, meet, race}
+use Rattle.rules.specs.Positions.{position, behind, after, positionAt, positionOf}
 use Rattle.rules.specs.Faults.Fault.{Fault, fault, byPlace, byNumber, least, leastFrom}
 use Rattle.rules.specs.Faults.Bodies.{patternsMeet, reaches, itemsMeet}
 
@@ -152,3 +153,16 @@ races : map (λ a. race (touched table first) (touched table a))
     ≡ true ∷ true ∷ true ∷ false ∷ []
 unfolding touched setsOf setsI readsOf factorReads indexReads subscriptReads stores owner race meet member howMany fromRight bitCount numberFrom numberOf storageWords firstWord reachStorage lowBit reachOn reachUnder reachOf reachNumber reach sameBytes bodyAct
 races = refl
+
+-- line and column of every offset of the bytes `a`, tab, 13, 10, `!`, 10, the end included; and of a fault and of 61 at one of them
+abbrev three-lines : List ℕ
+three-lines = 97 ∷ 9 ∷ 13 ∷ 10 ∷ 33 ∷ 10 ∷ []
+
+positions : map (positionAt three-lines) (0 ∷ 1 ∷ 2 ∷ 3 ∷ 4 ∷ 5 ∷ 6 ∷ [])
+    ≡ position 1 1 ∷ position 1 2 ∷ position 1 3 ∷ position 1 4 ∷ position 2 1 ∷ position 2 2 ∷ position 3 1 ∷ []
+unfolding after behind
+positions = refl
+
+position-by-number : map (λ number. positionOf three-lines number 5) (10 ∷ 53 ∷ 60 ∷ 61 ∷ 70 ∷ []) ≡ position 2 2 ∷ position 2 2 ∷ position 1 1 ∷ position 1 1 ∷ position 2 2 ∷ []
+unfolding positionOf member after behind
+position-by-number = refl

@@ -7,6 +7,7 @@ pub mod Declarations
 pub mod Steps
 pub mod Whole
 pub mod Faults
+pub mod Positions
 pub mod Answers
 pub mod Calls
 pub mod Agreement

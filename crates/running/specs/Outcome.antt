@@ -10,5 +10,5 @@ use Rattle.lent.specs.declared.answers.Answer.{Answer}
 pub record Outcome (text carriers : List ℕ) (budget : ℕ) (left : List ℕ) (a : Answer) : Type 0 where
   pub result : Result
   pub runs : Runs text carriers budget result
-  pub is : numbersOf a ≡ resultNumbers result
+  pub is : numbersOf a ≡ resultNumbers text result
   pub left-is : left ≡ carriersLeft carriers result

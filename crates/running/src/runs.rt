@@ -55,7 +55,10 @@ fn run_started(
     ensures { λ r. ⌜ Outcome (now (text .entry)) (now (carriers .entry)) budget (now (carriers .exit)) r ⌝ }
 {
     let begin = prepare(text, records, values, room, decls, m, n);
-    ended_answer(run(records, values, decls, carriers, room, begin, budget))
+    ended_answer(
+        text,
+        run(records, values, decls, carriers, room, begin, budget),
+    )
 }
 
 // Runs an accepted description, unless its carriers are refused.
@@ -75,7 +78,7 @@ fn run_accepted(
     ensures { λ r. ⌜ Outcome (now (text .entry)) (now (carriers .entry)) budget (now (carriers .exit)) r ⌝ }
 {
     match start(records, values, decls, m, carriers) {
-        Started::Refused(number, place) => refusal(number, place),
+        Started::Refused(number, place) => refusal(text, number, place),
         Started::Fine => run_started(text, carriers, budget, records, values, room, decls, m, n),
     }
 }
@@ -94,7 +97,7 @@ pub fn ran(
 {
     let mut decls: [u8; 512] = [0; 512];
     match reader::check(text, records, values, room, &mut decls) {
-        Verdict::Refused(number, place) => refusal(number, place),
+        Verdict::Refused(number, place) => refusal(text, number, place),
         Verdict::Accepted(m, _, n) => {
             run_accepted(text, carriers, budget, records, values, room, &decls, m, n)
         }

@@ -21,6 +21,9 @@ use Rattle.reader.specs.declared.judging.Verdict.the-variants.{Accepted, Refuse
 use Rattle.checking.specs.Checked.{verdictOf, Near, Told}
 
 -- the numbers of a verdict, by its case
+pub numbers-by : (text : List ℕ) {v w : Verdict} {ns : List ℕ} → ns ≡ verdictNumbers text (verdictOf w) → v ≡ w → ns ≡ verdictNumbers text (verdictOf v)
+numbers-by text e q = e ∙ sym (ap (λ x. verdictNumbers text (verdictOf x)) q)
+
 pub refused-near : {v : Verdict} {m p : ℕ} → Near v → v ≡ Refused m p → p ≤ longestText
 refused-near h e = rw e at h
 
@@ -28,7 +31,7 @@ pub accepted-near : {v : Verdict} {m w n : ℕ} → Near v → v ≡ Accepted m 
 accepted-near h e = rw e at h
 
 -- from the reader's verdict
-pub told : {text records values decls : List ℕ} {v : Verdict} {a : Answer} → Judges text records values decls v → numbersOf a ≡ verdictNumbers (verdictOf v) → Told text a
+pub told : {text records values decls : List ℕ} {v : Verdict} {a : Answer} → Judges text records values decls v → numbersOf a ≡ verdictNumbers text (verdictOf v) → Told text a
 told (accepts h) e = record { verdict = _; checks = h .verdict; is = e }
 told (refuses h) e = record { verdict = _; checks = h .checks; is = e }
 
@@ -37,15 +40,15 @@ near (accepts h) = (omega (arith, h .lawful .declares .ready .few), omega (arith
 near (refuses h) = h .near
 
 -- the number of an answer is the second of its numbers
-number-is : (v : Answered) (a : Answer) → numbersOf a ≡ verdictNumbers v → a .number ≡ verdictNumber v
-number-is (accepted m w) a e = cc
-number-is (refused m p) a e = cc
+number-is : (text : List ℕ) (v : Answered) (a : Answer) → numbersOf a ≡ verdictNumbers text v → a .number ≡ verdictNumber v
+number-is text (accepted m w) a e = cc
+number-is text (refused m p) a e = cc
 
 -- the whole call
 pub answers-call : {text : List ℕ} {before after : Memory} {found : Answer} → Enough before → length text ≤ longestText → Told text found → Settled before after found
     → CheckCall text before after (found .number)
 answers-call {text} {before} {after} {found} enough short t s =
-    answer (t .verdict) enough short (t .checks) (number-is (t .verdict) found (t .is)) (settled-same s ∙ ap (λ ns. settled ns before) (t .is))
+    answer (t .verdict) enough short (t .checks) (number-is text (t .verdict) found (t .is)) (settled-same s ∙ ap (λ ns. settled ns before) (t .is))
 
 -- a call that reads no text
 pub unread-call : {text : List ℕ} {number : ℕ} {m : Memory} → Unread text m number → (number ≡ 0 → ⊥) → CheckCall text m m number

@@ -30,7 +30,7 @@ one-check (check.answer v m l c e a) (check.short-memory s e′ a′) = absurd (
 one-check (check.answer v m l c e a) (check.long-text m′ l′ e′ a′) = absurd (omega arith)
 one-check {text} {before} (check.answer v m l c e a) (check.answer v′ m′ l′ c′ e′ a′) =
     let same : v ≡ v′ = one-verdict text c c′ in
-    (e ∙ ap verdictNumber same ∙ sym e′, a ∙ ap (λ x. settled (verdictNumbers x) before) same ∙ sym a′)
+    (e ∙ ap verdictNumber same ∙ sym e′, a ∙ ap (λ x. settled (verdictNumbers text x) before) same ∙ sym a′)
 
 pub one-run : {text carriers left left′ : List ℕ} {budget n n′ : ℕ} {before after after′ : Memory} → RunCall text carriers budget before after left n
     → RunCall text carriers budget before after′ left′ n′ → (n ≡ n′) × (after ≡ after′) × (left ≡ left′)
@@ -44,29 +44,29 @@ one-run (run.answer x m l r e a c) (run.short-memory s e′ a′ c′) = absurd 
 one-run (run.answer x m l r e a c) (run.long-text m′ l′ e′ a′ c′) = absurd (omega arith)
 one-run {text} {carriers} {budget = budget} {before = before} (run.answer x m l r e a c) (run.answer x′ m′ l′ r′ e′ a′ c′) =
     let same : x ≡ x′ = one-result text carriers budget r r′ in
-    (e ∙ ap resultNumber same ∙ sym e′, a ∙ ap (λ y. settled (resultNumbers y) before) same ∙ sym a′, c ∙ ap (carriersLeft carriers) same ∙ sym c′)
+    (e ∙ ap resultNumber same ∙ sym e′, a ∙ ap (λ y. settled (resultNumbers text y) before) same ∙ sym a′, c ∙ ap (carriersLeft carriers) same ∙ sym c′)
 
 -- the first number of an answer
 abbrev verdictCode : Verdict → ℕ
 verdictCode (accepted n w) = 0
 verdictCode (refused m p) = 4
 
-verdict-code : (v : Verdict) (b : List ℕ) → littleEndian 4 (answered (verdictNumbers v) b) ≡ verdictCode v
+verdict-code : (text : List ℕ) (v : Verdict) (b : List ℕ) → littleEndian 4 (answered (verdictNumbers text v) b) ≡ verdictCode v
 unfolding littleEndian answered numberBytes bytesOf
-verdict-code (accepted n w) b = refl
-verdict-code (refused m p) b = refl
+verdict-code text (accepted n w) b = refl
+verdict-code text (refused m p) b = refl
 
-ran-code : (e : Ending) (n : ℕ) (b : List ℕ) → littleEndian 4 (answered (ranNumbers e n) b) ≡ endingCode e
+ran-code : (text : List ℕ) (e : Ending) (n : ℕ) (b : List ℕ) → littleEndian 4 (answered (ranNumbers text e n) b) ≡ endingCode e
 unfolding littleEndian answered numberBytes bytesOf
-ran-code done n b = refl
-ran-code halted n b = refl
-ran-code paused n b = refl
-ran-code (faulted m p) n b = refl
+ran-code text done n b = refl
+ran-code text halted n b = refl
+ran-code text paused n b = refl
+ran-code text (faulted m p) n b = refl
 
-pub result-code : (x : Result) (b : List ℕ) → littleEndian 4 (answered (resultNumbers x) b) ≡ resultCode x
+pub result-code : (text : List ℕ) (x : Result) (b : List ℕ) → littleEndian 4 (answered (resultNumbers text x) b) ≡ resultCode x
 unfolding littleEndian answered numberBytes bytesOf
-result-code (refusal m p) b = refl
-result-code (ended e n left) b = ran-code e n b
+result-code text (refusal m p) b = refl
+result-code text (ended e n left) b = ran-code text e n b
 
 -- the fourth number
 four-bytes : (n : ℕ) → n < 4294967296 → n % 256 + 256 * (n / 256 % 256 + 256 * (n / 256 / 256 % 256 + 256 * (n / 256 / 256 / 256 % 256 + 256 * 0))) ≡ n
@@ -82,12 +82,12 @@ four-bytes n l =
     let d₄ : c ≡ c % 256 = omega (arith, l₂) in
     omega (arith, d₁, d₂, d₃, d₄)
 
-pub ran-steps : (e : Ending) (n : ℕ) (b : List ℕ) → n < 4294967296 → littleEndian 4 (drop 12 (answered (ranNumbers e n) b)) ≡ n
+pub ran-steps : (text : List ℕ) (e : Ending) (n : ℕ) (b : List ℕ) → n < 4294967296 → littleEndian 4 (drop 12 (answered (ranNumbers text e n) b)) ≡ n
 unfolding littleEndian answered numberBytes bytesOf
-ran-steps done n b l = four-bytes n l
-ran-steps halted n b l = four-bytes n l
-ran-steps paused n b l = four-bytes n l
-ran-steps (faulted m p) n b l = four-bytes n l
+ran-steps text done n b l = four-bytes n l
+ran-steps text halted n b l = four-bytes n l
+ran-steps text paused n b l = four-bytes n l
+ran-steps text (faulted m p) n b l = four-bytes n l
 
 -- accepted is what the rules allow
 exact-by : {text : List ℕ} (v : Verdict) → Checks text v → (verdictCode v ≡ 0) ↔ ((m : ℕ) × (w : ℕ) × Lawful text m w)
@@ -102,8 +102,8 @@ pub exact : {text : List ℕ} {before after : Memory} {n : ℕ} → CheckCall te
     → (endingIn (after .answer) ≡ 0) ↔ ((m : ℕ) × (w : ℕ) × Lawful text m w)
 exact (check.short-memory s e a) enough short = absurd (s enough)
 exact (check.long-text m l e a) enough short = absurd (omega arith)
-exact {before = before} (check.answer v m l c e a) enough short =
-    let is = ap (λ x. endingIn (x .answer)) a ∙ verdict-code v (before .answer) in
+exact {text} {before} (check.answer v m l c e a) enough short =
+    let is = ap (λ x. endingIn (x .answer)) a ∙ verdict-code text v (before .answer) in
     let both = exact-by v c in
     (λ z. both .0 (sym is ∙ z), λ l. is ∙ both .1 l)
 

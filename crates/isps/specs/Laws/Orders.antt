@@ -79,15 +79,15 @@ record Answers (text carriers : List ℕ) (budget : ℕ) (before after : Memory)
   pub result : Result
   pub runs : Runs text carriers budget result
   pub ending : endingIn (after .answer) ≡ resultCode result
-  pub answer : after .answer ≡ answered (resultNumbers result) (before .answer)
+  pub answer : after .answer ≡ answered (resultNumbers text result) (before .answer)
   pub left-is : left ≡ carriersLeft carriers result
 
 answers : {text carriers left : List ℕ} {budget n : ℕ} {before after : Memory} → RunCall text carriers budget before after left n → Enough before
     → length text ≤ longestText → Answers text carriers budget before after left
 answers (short-memory s e a c) enough short = absurd (s enough)
 answers (long-text m l e a c) enough short = absurd (omega arith)
-answers {before = before} (answer x m l r e a c) enough short =
-    record { result = x; runs = r; ending = ap (λ y. endingIn (y .answer)) a ∙ result-code x (before .answer); answer = ap (λ y. y .answer) a; left-is = c }
+answers {text} {before = before} (answer x m l r e a c) enough short =
+    record { result = x; runs = r; ending = ap (λ y. endingIn (y .answer)) a ∙ result-code text x (before .answer); answer = ap (λ y. y .answer) a; left-is = c }
 
 -- the description that a call has read, if it is no refusal
 description-by : {text carriers : List ℕ} {budget : ℕ} {x : Result} → Runs text carriers budget x → resultCode x < 4 → (d : Description) × flatten d ≡ scan text .tokens
@@ -161,7 +161,7 @@ module _ {text carriers left : List ℕ} {budget n : ℕ} {before after : Memory
             end = r;
             order = accepted-order-free text _ _ (g .checks) d stands (wordsFrom (totalWords ds) carriers) budget w k c s;
             ending = ap endingCode (f .0) ∙ sym is;
-            steps = f .1 ∙ sym (ap (λ y. stepsIn y) (given .answer ∙ ap (λ x. answered (resultNumbers x) (before .answer)) q) ∙ ran-steps e count (before .answer) bound);
+            steps = f .1 ∙ sym (ap (λ y. stepsIn y) (given .answer ∙ ap (λ x. answered (resultNumbers text x) (before .answer)) q) ∙ ran-steps text e count (before .answer) bound);
             carriers-left = f .2 ∙ sym (given .left-is ∙ ap (carriersLeft carriers) q);
           }
 

@@ -16,5 +16,5 @@ verdictNumber (refused m p) = m
 pub data CheckCall (text : List ℕ) (before after : Memory) (number : ℕ) : Type 0 where
   short-memory : (Enough before → ⊥) → number ≡ 1 → after ≡ before → CheckCall text before after number
   long-text : Enough before → longestText < length text → number ≡ 2 → after ≡ before → CheckCall text before after number
-  answer : (v : Verdict) → Enough before → length text ≤ longestText → Checks text v → number ≡ verdictNumber v → after ≡ settled (verdictNumbers v) before
+  answer : (v : Verdict) → Enough before → length text ≤ longestText → Checks text v → number ≡ verdictNumber v → after ≡ settled (verdictNumbers text v) before
       → CheckCall text before after number

@@ -30,4 +30,4 @@ pub data RunCall (text carriers : List ℕ) (budget : ℕ) (before after : Memor
   long-text : Enough before → longestText < length text → number ≡ 2 → after ≡ before → left ≡ carriers
       → RunCall text carriers budget before after left number
   answer : (x : Result) → Enough before → length text ≤ longestText → Runs text carriers budget x → number ≡ resultNumber x
-      → after ≡ settled (resultNumbers x) before → left ≡ carriersLeft carriers x → RunCall text carriers budget before after left number
+      → after ≡ settled (resultNumbers text x) before → left ≡ carriersLeft carriers x → RunCall text carriers budget before after left number

@@ -29,14 +29,19 @@ use Rattle.running.specs.Prepared.{Prepared}
 use Rattle.running.specs.Outcome.{Outcome}
 use Rattle.running.specs.Laws.Prepared.{to-run}
 
+-- the numbers of an ending, by its case
+pub numbers-by : (text : List ℕ) {e f : Ended} {ns : List ℕ} → ns ≡ ranNumbers text (endingOf f) (stepsOf f) → e ≡ f
+    → ns ≡ ranNumbers text (endingOf e) (stepsOf e)
+numbers-by text q r = q ∙ sym (ap (λ x. ranNumbers text (endingOf x) (stepsOf x)) r)
+
 -- a text that is refused
-pub refused-text : {text carriers : List ℕ} {budget m p : ℕ} {a : Answer} → Refuses text m p → numbersOf a ≡ refusedNumbers m p → Outcome text carriers budget carriers a
+pub refused-text : {text carriers : List ℕ} {budget m p : ℕ} {a : Answer} → Refuses text m p → numbersOf a ≡ refusedNumbers text m p → Outcome text carriers budget carriers a
 refused-text {m = m} {p} r e = record { result = refusal m p; runs = not-accepted (r .checks); is = e; left-is = refl }
 
 module _ {text records values decls : List ℕ} {m words n : ℕ} (v : Accepts text records values decls m words n) where
   -- carriers that are refused
   pub refused-carriers : {carriers : List ℕ} {budget number place : ℕ} {a : Answer} → Declines (table-by v) carriers number place
-      → numbersOf a ≡ refusedNumbers number place → Outcome text carriers budget carriers a
+      → numbersOf a ≡ refusedNumbers text number place → Outcome text carriers budget carriers a
   refused-carriers {carriers} {budget} {number} {place} d e =
       record {
         result = refusal number place;
@@ -48,7 +53,7 @@ module _ {text records values decls : List ℕ} {m words n : ℕ} (v : Accepts t
   -- the run itself
   pub run-ended : {records′ values′ carriers left : List ℕ} {start budget : ℕ} {e : Ended} {a : Answer} (p : Prepared v records′ values′ start) (b : Begins (table-by v) carriers)
       → RunAnswer (to-run v p b) budget left e → length left ≡ length carriers → ((i : ℕ) → getD left i 0 < 256)
-      → numbersOf a ≡ ranNumbers (endingOf e) (stepsOf e) → Outcome text carriers budget left a
+      → numbersOf a ≡ ranNumbers text (endingOf e) (stepsOf e) → Outcome text carriers budget left a
   run-ended {carriers = carriers} {left} {budget = budget} {e} p b told long bytes is =
       let ds = table-by v in
       let k = totalWords ds in
@@ -67,21 +72,21 @@ module _ {text records values decls : List ℕ} {m words n : ℕ} (v : Accepts t
       run-of ws = run (table-by v) (mainName (table-by v)) budget ws
 
 -- the number of an answer is the second of its numbers
-ran-number : (e : Ending) (n : ℕ) (a : Answer) → numbersOf a ≡ ranNumbers e n → a .number ≡ endingNumber e
-ran-number done n a q = cc
-ran-number halted n a q = cc
-ran-number paused n a q = cc
-ran-number (faulted m p) n a q = cc
+ran-number : (text : List ℕ) (e : Ending) (n : ℕ) (a : Answer) → numbersOf a ≡ ranNumbers text e n → a .number ≡ endingNumber e
+ran-number text done n a q = cc
+ran-number text halted n a q = cc
+ran-number text paused n a q = cc
+ran-number text (faulted m p) n a q = cc
 
-result-number : (x : Result) (a : Answer) → numbersOf a ≡ resultNumbers x → a .number ≡ resultNumber x
-result-number (refusal m p) a q = cc
-result-number (ended e n b) a q = ran-number e n a q
+result-number : (text : List ℕ) (x : Result) (a : Answer) → numbersOf a ≡ resultNumbers text x → a .number ≡ resultNumber x
+result-number text (refusal m p) a q = cc
+result-number text (ended e n b) a q = ran-number text e n a q
 
 -- the whole call
 pub run-call : {text carriers left : List ℕ} {budget : ℕ} {before after : Memory} {found : Answer} → Enough before → length text ≤ longestText
     → Outcome text carriers budget left found → Settled before after found → RunCall text carriers budget before after left (found .number)
-run-call {before = before} {after} {found} enough short o s =
-    answer (o .result) enough short (o .runs) (result-number (o .result) found (o .is)) (settled-same s ∙ ap (λ ns. settled ns before) (o .is)) (o .left-is)
+run-call {text} {before = before} {after} {found} enough short o s =
+    answer (o .result) enough short (o .runs) (result-number text (o .result) found (o .is)) (settled-same s ∙ ap (λ ns. settled ns before) (o .is)) (o .left-is)
 
 -- a call that reads no text
 pub unread-call : {text carriers : List ℕ} {budget number : ℕ} {m : Memory} → Unread text m number → (number ≡ 0 → ⊥) → RunCall text carriers budget m m carriers number

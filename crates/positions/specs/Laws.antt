@@ -1,0 +1,2 @@
+-- The laws of positions.
+pub mod Cursors
