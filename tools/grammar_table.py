@@ -1,5 +1,5 @@
 #!/usr/bin/env python3
-"""Lays out the rows of crates/laws/specs/Cited/Rows.antt as one list of numbers, for the recogniser.
+"""Lays out the rows of crates/laws_grammar/specs/Cited/Rows.antt as one list of numbers, for the recogniser.
 
 Writes crates/grammar/src/table.rt (the numbers) and crates/grammar/specs/Places.antt (where each state's row begins).
 To be run after a change of the rows or of the kinds' order. Nothing rests on it: the check of `grammar` compares the numbers with the rows.
@@ -7,7 +7,7 @@ To be run after a change of the rows or of the kinds' order. Nothing rests on it
 import re
 from itertools import product
 
-ROWS = 'crates/laws/specs/Cited/Rows.antt'
+ROWS = 'crates/laws_grammar/specs/Cited/Rows.antt'
 KINDS = 'crates/rules/specs/Text/Tokens.antt'
 NAMES_NO_KIND = 63
 PLACES = 2048
@@ -137,9 +137,9 @@ def places_file(types, places):
            'use mathlib.Core.List.{[], _∷_}',
            'use Prim.Native.Nat.{ℕ, _+_}',
            'use lib.ListN.{getD}',
-           'use Rattle.laws.specs.Cited.Rows.{' + ', '.join((*function, 'State')) + '}']
+           'use Rattle.laws_grammar.specs.Cited.Rows.{' + ', '.join((*function, 'State')) + '}']
     for i in range(0, len(names), 10):
-        out.append('use Rattle.laws.specs.Cited.Rows.{' + ', '.join(names[i:i + 10]) + '}')
+        out.append('use Rattle.laws_grammar.specs.Cited.Rows.{' + ', '.join(names[i:i + 10]) + '}')
     for name in function:
         out += ['', numbering(types, name, function)]
     out += ['', 'abbrev pub place : State → ℕ']
