@@ -35,3 +35,4 @@ enum { DONE, STOPPED, PAUSED, FAULTED, REFUSED };
 #include "runs.c"
 #include "orders.c"
 #include "calls.c"
+#include "images.c"

@@ -16,4 +16,10 @@ uint32_t reference_run(const uint8_t *text, size_t text_len, uint8_t *carriers, 
 uint32_t reference_run_order(const uint8_t *text, size_t text_len, uint8_t *carriers, size_t carriers_len, uint32_t budget, uint64_t seed,
                              uint32_t answer[8]);
 
+/* The image of carriers, and the carriers of an image. A refusal changes neither buffer. */
+uint32_t reference_store(const uint8_t *text, size_t text_len, const uint8_t *carriers, size_t carriers_len, uint8_t *image, size_t image_len,
+                         uint32_t answer[8]);
+uint32_t reference_load(const uint8_t *text, size_t text_len, const uint8_t *image, size_t image_len, uint8_t *carriers, size_t carriers_len,
+                        uint32_t answer[8]);
+
 #endif

@@ -18,7 +18,7 @@ set-behind (z ∷ front) rest zero x y e = absurd (omega arith)
 set-behind (z ∷ front) rest (suc o) x y e = ap (λ l. z ∷ l) (set-behind front rest o x y (omega arith))
 
 -- w bytes of a number, put behind a front
-put-behind : (w : ℕ) (front rest : List ℕ) (o v : ℕ) → o ≡ length front → w ≤ length rest → putAt w (front ++ rest) o v ≡ front ++ (bytesOf w v ++ drop w rest)
+pub put-behind : (w : ℕ) (front rest : List ℕ) (o v : ℕ) → o ≡ length front → w ≤ length rest → putAt w (front ++ rest) o v ≡ front ++ (bytesOf w v ++ drop w rest)
 unfolding putAt bytesOf
 put-behind zero front rest o v e l = refl
 put-behind (suc w) front [] o v e l = absurd (omega arith)
@@ -29,7 +29,7 @@ put-behind (suc w) front (y ∷ rest) o v e l =
     ∙ append-assoc front (v % 256 ∷ []) (bytesOf w (v / 256) ++ drop w rest)
 
 -- the lowest byte of a sum, and the rest
-byte-step : (x l k : ℕ) → x ≡ l + 256 * k → (x % 256 ≡ l % 256) × (x / 256 ≡ l / 256 + k)
+pub byte-step : (x l k : ℕ) → x ≡ l + 256 * k → (x % 256 ≡ l % 256) × (x / 256 ≡ l / 256 + k)
 byte-step x l k e = (omega arith, omega arith)
 
 -- two numbers of 32 bits in one of 64

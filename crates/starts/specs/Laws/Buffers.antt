@@ -20,7 +20,7 @@ unfolding littleEndian
 first-byte n [] = omega (arith, no-bytes n)
 first-byte n (b ∷ bs) = refl
 
-number-at : (n : ℕ) (b : List ℕ) (o : ℕ) → leAt n b o ≡ littleEndian n (drop o b)
+pub number-at : (n : ℕ) (b : List ℕ) (o : ℕ) → leAt n b o ≡ littleEndian n (drop o b)
 unfolding littleEndian leAt
 number-at zero b o = refl
 number-at (suc n) b o =
@@ -37,7 +37,7 @@ words-at (suc n) b o = ap₂ _∷_ (number-at 8 b o) (words-at n b (o + 8) ∙ a
 pub words-cells : (n : ℕ) (b : List ℕ) → cells 8 n b ≡ wordsFrom n b
 words-cells n b = words-at n b 0
 
-bytes-back : (n : ℕ) (b : List ℕ) → n ≤ length b → ((i : ℕ) → getD b i 0 < 256) → bytesOf n (littleEndian n b) ≡ take n b
+pub bytes-back : (n : ℕ) (b : List ℕ) → n ≤ length b → ((i : ℕ) → getD b i 0 < 256) → bytesOf n (littleEndian n b) ≡ take n b
 unfolding littleEndian bytesOf
 bytes-back zero b l each = refl
 bytes-back (suc n) [] l each = absurd (omega arith)

@@ -1,0 +1,4 @@
+pub mod Images
+pub mod Keeping
+pub mod Judged
+pub mod Laws
