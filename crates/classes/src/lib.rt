@@ -1,2 +1,2 @@
-// The class of each byte: one table, its rule proved once.
+// The class of a byte, and runs of bytes by their classes.
 pub mod classes;

@@ -1,7 +1,8 @@
 // From bytes to tokens: the refusals 10 to 13, and the token table.
+mod bytes;
 
+use crate::bytes::CLASSES;
 use cells::put64;
-use classes::classes::CLASSES;
 use lexemes::lexemes::Lexeme;
 use lexemes::lexemes::lexeme_at;
 ghost use mathlib.Core.Path.{_≡_};
