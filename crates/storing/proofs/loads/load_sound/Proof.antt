@@ -1,0 +1,51 @@
+-- `storing::loads::load_sound` meets its contract.
+-- Assumes nothing.
+use borrow.Author.Needs.{needs}
+use native.Mathlib.Omega.{arith}
+use mathlib.Core.Path.{sym, ap, _∙_}
+use lib.ListN.{length}
+use lib.Seq.{length-take-le}
+use Rattle.images.specs.Images.{imageSize}
+use Rattle.starts.specs.Laws.Cases.{declines-by, begins-by}
+use Rattle.storing.specs.Kept.{tableOf}
+use Rattle.storing.specs.Laws.Cases.{same-held, taken-declined, taken-done}
+use Rattle.storing.proofs.loads.load_sound.Statement.{statement}
+use Rattle.storing.proofs.loads.load_sound.Tie as tie
+
+slice-aggregate-start-held : tie.Need-slice-aggregate-start-held
+slice-aggregate-start-held c =
+    let s = c .before .before .before .before .before .before .before in sym (length-take-le (length (s .args .carriers .now)) (s .args .room .now) (omega (arith, s .pre .1 .0, s .pre .1 .1 .0)))
+
+start-held-requires : tie.Need-start-held-requires
+start-held-requires c κs =
+    let s = c .before .before .before .before .before .before .before in
+    let e = length-take-le (length (s .args .carriers .now)) (s .args .room .now) (omega (arith, s .pre .1 .0, s .pre .1 .1 .0)) in
+    (s .pre .0, (omega (arith, e, s .pre .1 .1 .0), s .pre .1 .1 .1 ∙ ap imageSize (sym e)))
+
+returns : tie.Need-returns
+returns c = λ v l.
+    let s = c .before .before .before .before .before .before .before .before .before .before .before .before .before in
+    let e = length-take-le (length (s .args .carriers .now)) (s .args .room .now) (omega (arith, s .pre .1 .0, s .pre .1 .1 .0)) in
+    taken-declined (tableOf v) _ _ l (s .pre .1 .1 .1) (declines-by (same-held (s .args .image .now) (c .before .before .before .before .before .start-held .ensures v) e) (c .before .number .given .1))
+
+returns-2 : tie.Need-returns-2
+returns-2 c = λ v l.
+    let s = c .before .before .before .before .before .before .before .before .before .before .before .before .before .before .before .before in
+    let e = length-take-le (length (s .args .carriers .now)) (s .args .room .now) (omega (arith, s .pre .1 .0, s .pre .1 .1 .0)) in
+    taken-done (tableOf v) _ _ l (s .pre .1 .1 .1) (begins-by (same-held (s .args .image .now) (c .before .before .before .before .before .before .before .before .start-held .ensures v) e) (search needs)) (c .before .before .read .ensures)
+
+pub load-sound-spec : {M : Type 1} → statement M
+load-sound-spec =
+    tie.close
+    (tie.spec
+    (λ c. search needs)
+    slice-aggregate-start-held
+    start-held-requires
+    (λ c. search needs)
+    (λ c. search needs)
+    (λ c κs. search needs)
+    (λ c. search needs)
+    returns
+    (λ c. search needs)
+    (λ c. search needs)
+    returns-2)

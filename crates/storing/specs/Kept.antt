@@ -1,0 +1,60 @@
+-- What Store and Load come to: an ending that the rules allow, and the buffer that they may write.
+use Prim.Native.Nat.{ℕ, _≤_}
+use mathlib.Core.Path.{_≡_}
+use mathlib.Core.List.{List}
+use lib.ListN.{length}
+use Rattle.rules.specs.Limits.{longestText}
+use Rattle.rules.specs.Grammar.Trees.{Tokens, Description}
+use Rattle.rules.specs.Declarations.{Table, declarations}
+use Rattle.table.specs.Ready.{Ready}
+use Rattle.images.specs.Images.{imageOf, imageSize, heldIn}
+use Rattle.images.specs.Keeping.{Kept, refusal, kept, refusedOr, fault61, Keeps, keptIn}
+use Rattle.storing.specs.declared.endings.Ending.{Ending}
+use Rattle.storing.specs.declared.endings.Ending.the-variants.{Refused, Declined, Done}
+
+-- an accepted description that stands in the table
+pub record Stands (records values decls : List ℕ) (m : ℕ) : Type 0 where
+  pub text : List ℕ
+  pub tokens : Tokens
+  pub description : Description
+  pub ready : Ready text records values decls tokens description m
+
+abbrev pub tableOf : {records values decls : List ℕ} {m : ℕ} → Stands records values decls m → Table
+tableOf v = declarations (v .description)
+
+-- an ending, with the bytes that are left
+abbrev pub keptOf : Ending → List ℕ → Kept
+keptOf (Refused m p) left = refusal m p
+keptOf (Declined m p) left = refusal m p
+keptOf Done left = kept left
+
+-- numbers and places are small: a text's place lies in it, and a buffer's number is of the 60s
+pub record OfBuffer (m p : ℕ) : Type 0 where
+  pub least : 60 ≤ m
+  pub most : m ≤ 64
+  pub near : p ≤ 65536
+
+abbrev pub Near : Ending → Type 0
+Near (Refused m p) = p ≤ longestText
+Near (Declined m p) = OfBuffer m p
+Near Done = Unit {0}
+
+pub record Keeping (x : Kept) (target left : List ℕ) (r : Ending) : Type 0 where
+  pub is : keptOf r left ≡ x
+  pub left-is : left ≡ keptIn target x
+  pub near : Near r
+
+-- an image is written, unless its length is wrong
+pub data Written (carriers image left : List ℕ) : Ending → Type 0 where
+  wrong-length : (length image ≡ imageSize (length carriers) → ⊥) → left ≡ image → Written carriers image left (Declined 62 0)
+  written : length image ≡ imageSize (length carriers) → left ≡ imageOf carriers → Written carriers image left Done
+
+-- the words of a sound image are judged
+pub record Taken (ds : Table) (image carriers left : List ℕ) (r : Ending) : Type 0 where
+  pub taken : Keeping (refusedOr (fault61 ds (heldIn (length carriers) image)) (kept (heldIn (length carriers) image))) carriers left r
+
+-- the whole answer
+pub record Answered (text : List ℕ) (call : Table → Kept) (target left : List ℕ) (r : Ending) : Type 0 where
+  pub result : Kept
+  pub keeps : Keeps text call result
+  pub keeping : Keeping result target left r
