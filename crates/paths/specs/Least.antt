@@ -14,7 +14,7 @@ module _ (M : ℕ) where
   least [] = M
   least (p ∷ ps) = min p (least ps)
 
-  least-under : (ps : List ℕ) → least ps ≤ M
+  pub least-under : (ps : List ℕ) → least ps ≤ M
   least-under [] = omega arith
   least-under (p ∷ ps) = omega (arith, least-under ps)
 

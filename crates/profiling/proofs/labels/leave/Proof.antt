@@ -1,0 +1,9 @@
+-- `profiling::labels::leave` meets its contract.
+use borrow.Author.Needs.{needs}
+use Rattle.profiling.proofs.labels.leave.Statement.{statement}
+use Rattle.profiling.proofs.labels.leave.Tie as tie
+use Rattle.profiling.specs.Laws.Labels.{left-flag, left-nowhere, to-seek}
+
+pub leave-spec : {M : Type 1} → statement M
+leave-spec =
+    tie.close (tie.spec (λ c κs. search (needs, to-seek)) (λ c κs. search needs) (λ c. search needs) (λ c. search (needs, left-flag)) (λ c. search needs) (λ c. search (needs, left-nowhere)))

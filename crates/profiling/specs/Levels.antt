@@ -1,0 +1,108 @@
+-- What is known of all bodies down chains of activations of some length, and how one round goes one body further.
+use Prim.Native.Nat.{ℕ, suc, _+_, _*_, _<_, _≤_}
+use mathlib.Core.Path.{_≡_}
+use mathlib.Core.Bool.{Bool, true, false}
+use mathlib.Core.List.{List, [], _∷_}
+use mathlib.Core.Option.{some}
+use lib.Dec.{eqb}
+use lib.ListN.{length, drop}
+use Rattle.cells.specs.Cells.{cell}
+use Rattle.rules.specs.Text.Tokens.{BEGIN, kindNo}
+use Rattle.rules.specs.Text.Scan.{sameBytes}
+use Rattle.rules.specs.Grammar.Trees.{Tokens}
+use Rattle.rules.specs.Declarations.{Name as Word, numberOf}
+use Rattle.rules.specs.Limits.{longestChain}
+use Rattle.paths.specs.Early.{bodyEarly}
+use Rattle.table.specs.Scans.{no}
+use Rattle.reading.specs.Reading.{Kinded}
+use Rattle.whole.specs.Written.{Written, whole}
+use Rattle.profiling.specs.Holding.{bit, unseen, enough}
+use Rattle.profiling.specs.Walking.{indexOf, Known}
+use Rattle.profiling.specs.declared.tasks.Task.{Task}
+
+-- the tokens from the first BEGIN on
+unfoldable pub toBegin : Tokens → Tokens
+toBegin [] = []
+toBegin (t ∷ ts) = elim (eqb (no t) (kindNo BEGIN)) [ true ↦ t ∷ ts | false ↦ toBegin ts ]
+
+-- the first BEGIN behind the name of a declaration is the token r
+pub record BeginBehind (records : List ℕ) (n name r : ℕ) : Type 0 where
+  pub low : r ≤ n
+  pub past : name < r
+  pub reads : (v : Kinded records n) → drop r (v .tokens) ≡ toBegin (drop (name + 1) (v .tokens))
+
+-- the test is what has the index aim
+abbrev pub Aimed : {text records decls : List ℕ} {m n : ℕ} → Written text records decls m n → Word → ℕ → Type 0
+Aimed v test aim = (w : Word) → sameBytes w test ≡ eqb (indexOf (whole v) w) aim
+
+-- the table has what is known down chains of k bodies
+abbrev pub Level : {text records decls : List ℕ} {m n : ℕ} → Written text records decls m n → Word → ℕ → ℕ → List ℕ → Type 0
+Level v test out k table = (w : Word) → Known table (indexOf (whole v) w) (bodyEarly (whole v) test out k w)
+
+-- two cells of a table are put
+pub record Put (old new : List ℕ) (k : ℕ) (ends : Bool) (low : ℕ) : Type 0 where
+  pub size : length new ≡ length old
+  pub ends-is : cell 2 new (2 * k) ≡ bit ends
+  pub low-is : cell 2 new (2 * k + 1) ≡ low
+  pub same : (j : ℕ) → (j ≡ 2 * k → ⊥) → (j ≡ 2 * k + 1 → ⊥) → cell 2 new j ≡ cell 2 old j
+
+-- nothing is reached, of the first k
+pub record Blank (old new : List ℕ) (k : ℕ) : Type 0 where
+  pub size : length new ≡ length old
+  pub ends : (j : ℕ) → j < k → cell 2 new (2 * j) ≡ 0
+  pub low : (j : ℕ) → j < k → cell 2 new (2 * j + 1) ≡ unseen
+
+pub record Levelled (text records decls table next room : List ℕ) (t : Task) : Type 0 where
+  pub written : Written text records decls (t .m) (t .n)
+  pub test : Word
+  pub aims : Aimed written test (t .aim)
+  pub level : ℕ
+  pub known : Level written test (t .out) level table
+  pub output : t .out < 256
+  pub table-room : 1028 ≤ length table
+  pub next-room : 1028 ≤ length next
+  pub space : enough ≤ length room
+
+-- the declaration k is walked
+pub record PartAt (text records decls table next room : List ℕ) (t : Task) (k : ℕ) : Type 0 where
+  pub levelled : Levelled text records decls table next room t
+  pub within : k < t .m
+
+pub record Part (text records decls table old new : List ℕ) (t : Task) (k : ℕ) : Type 0 where
+  pub size : length new ≡ length old
+  pub same : (j : ℕ) → (j ≡ 2 * k → ⊥) → (j ≡ 2 * k + 1 → ⊥) → cell 2 new j ≡ cell 2 old j
+  pub known : (v : Written text records decls (t .m) (t .n)) (test : Word) → Aimed v test (t .aim) → (l : ℕ) → Level v test (t .out) l table
+      → (w : Word) → numberOf (whole v) w ≡ some k → Known new k (bodyEarly (whole v) test (t .out) (suc l) w)
+
+-- the first k declarations are
+pub record Parts (text records decls table first room₀ new room : List ℕ) (t : Task) (k : ℕ) : Type 0 where
+  pub levelled : Levelled text records decls table new room t
+  pub size : length new ≡ length first
+  pub room-size : length room ≡ length room₀
+  pub known : (v : Written text records decls (t .m) (t .n)) (test : Word) → Aimed v test (t .aim) → (l : ℕ) → Level v test (t .out) l table
+      → (j : ℕ) → j < k → (w : Word) → numberOf (whole v) w ≡ some j → Known new j (bodyEarly (whole v) test (t .out) (suc l) w)
+
+pub record Rounded (text records decls table new : List ℕ) (t : Task) : Type 0 where
+  pub known : (v : Written text records decls (t .m) (t .n)) (test : Word) → Aimed v test (t .aim) → (l : ℕ) → Level v test (t .out) l table
+      → Level v test (t .out) (suc l) new
+
+-- before the first round
+pub record Starting (text records decls table next room : List ℕ) (t : Task) : Type 0 where
+  pub written : Written text records decls (t .m) (t .n)
+  pub test : Word
+  pub aims : Aimed written test (t .aim)
+  pub output : t .out < 256
+  pub table-room : 1028 ≤ length table
+  pub next-room : 1028 ≤ length next
+  pub space : enough ≤ length room
+
+-- k rounds are over
+pub record Turned (text records decls table next room : List ℕ) (t : Task) (k : ℕ) : Type 0 where
+  pub starting : Starting text records decls table next room t
+  pub even : ℕ
+  pub is-even : k ≡ 2 * even
+  pub known : (v : Written text records decls (t .m) (t .n)) (test : Word) → Aimed v test (t .aim) → Level v test (t .out) k table
+
+abbrev pub Known16 : List ℕ → List ℕ → List ℕ → List ℕ → Task → Type 0
+Known16 text records decls table t =
+    (v : Written text records decls (t .m) (t .n)) (test : Word) → Aimed v test (t .aim) → Level v test (t .out) longestChain table

@@ -1,0 +1,119 @@
+// What a name does at the start of an action or in a destination.
+use crate::labels::label;
+use crate::nests::Nest;
+use crate::nests::both;
+use crate::nests::destine;
+use crate::nests::flag_at;
+use crate::nests::lowered;
+use crate::nests::mark;
+use crate::tasks::Task;
+use cells::get16;
+use reading::kinds::kind_of;
+use reading::kinds::stores;
+use reading::names::carrier;
+use table::kinds::BECOMES;
+use table::kinds::LPAR;
+use table::records::inside_at;
+use table::records::place_at;
+ghost use mathlib.Core.Path.{_≡_};
+ghost use mathlib.Core.List.{List};
+ghost use Prim.Native.Nat.{ℕ, _+_, _*_, _<_, _≤_};
+ghost use lib.ListN.{length};
+ghost use Rattle.rules.specs.Whole.Sets.{member, owner};
+ghost use Rattle.table.specs.Holds.{kindByte};
+ghost use Rattle.table.specs.Words.{wordAt};
+ghost use Rattle.reading.specs.Reading.{Reading, tableOf};
+ghost use Rattle.profiling.specs.Walking.{indexOf, Acting, Named, Activates};
+
+// Where a table has what is known of names that are not declared.
+pub const UNDECLARED: usize = 256;
+
+// Where a table has what is known of the name i.
+fn index_of(records: &[u8], m: usize, i: usize) -> usize
+    requires { ⌜ (8 * i + 8 ≤ length (now records)) × (m ≤ 256) ⌝ }
+    ensures { λ r. ⌜ (r ≤ 256) × ((decls : List ℕ) (n : ℕ) (v : Reading (now (records .entry)) decls m n) → i < n → kindByte (now (records .entry)) i ≡ 0
+        → r ≡ indexOf (tableOf v) (wordAt (v .tokens) i)) ⌝ }
+{
+    let k = inside_at(records, i);
+    if k < m {
+        return k;
+    }
+    UNDECLARED
+}
+
+// The activation of the name i: by what is known of its body. That of the test does not come back.
+fn activate(
+    text: &[u8],
+    records: &[u8],
+    decls: &[u8],
+    table: &[u8],
+    room: &mut [u8],
+    t: Task,
+    i: usize,
+    s: Nest,
+) -> Nest
+    requires { ⌜ Acting (now text) (now records) (now decls) (now table) (now room) t i s × (kindByte (now records) i ≡ 0) ⌝ }
+    ensures { λ r. ⌜ Activates (now (text .entry)) (now (records .entry)) (now (decls .entry)) (now (table .entry)) (now (room .entry)) (now (room .exit)) t i s r ⌝ }
+{
+    let aim = t.aim;
+    let comes = s.comes;
+    let k = index_of(records, t.m, i);
+    let back = both(k != aim, flag_at(table, 2 * k));
+    let place = get16(table, 2 * k + 1) as usize;
+    let low = lowered(s.low, place, comes);
+    mark(room, s.flag, both(comes, back));
+    Nest {
+        depth: s.depth,
+        free: s.free,
+        label: s.label,
+        flag: s.flag,
+        comes,
+        choosing: s.choosing,
+        begun: s.begun,
+        place: s.place,
+        hit: s.hit,
+        low,
+    }
+}
+
+// Whether the name i is the output, or a mapping on it.
+fn hits(records: &[u8], decls: &[u8], t: Task, i: usize) -> bool
+    requires { ⌜ Reading (now records) (now decls) (t .m) (t .n) × ((i < t .n) × (kindByte (now records) i ≡ 0)) × (t .out < 256) ⌝ }
+    ensures { λ r. ⌜ ((v : Reading (now (records .entry)) (now (decls .entry)) (t .m) (t .n)) → r ≡ member (t .out) (owner (tableOf v) (wordAt (v .tokens) i))) ⌝ }
+{
+    let out = t.out;
+    let c = carrier(records, decls, t.m, t.n, i);
+    out == c
+}
+
+// The name i.
+pub fn name(
+    text: &[u8],
+    records: &[u8],
+    decls: &[u8],
+    table: &[u8],
+    room: &mut [u8],
+    t: Task,
+    i: usize,
+    mode: usize,
+    s: Nest,
+) -> Nest
+    requires { ⌜ Acting (now text) (now records) (now decls) (now table) (now room) t i s × (kindByte (now records) i ≡ 0) ⌝ }
+    ensures { λ r. ⌜ Named (now (text .entry)) (now (records .entry)) (now (decls .entry)) (now (table .entry)) (now (room .entry)) (now (room .exit)) t i mode s r ⌝ }
+{
+    if mode != 0 {
+        return s;
+    }
+    let next = kind_of(records, t.n, i + 1);
+    if next == BECOMES {
+        return label(room, i, s);
+    }
+    if next == LPAR {
+        return activate(text, records, decls, table, room, t, i, s);
+    }
+    if stores(next) {
+        let place = place_at(records, i);
+        return destine(s, place, hits(records, decls, t, i));
+    }
+    s
+}

@@ -1,0 +1,118 @@
+// What a token does to a walk.
+use crate::frames::also;
+use crate::frames::another;
+use crate::frames::close;
+use crate::frames::next;
+use crate::frames::open;
+use crate::labels::leave;
+use crate::names::name;
+use crate::nests::Nest;
+use crate::nests::choosing;
+use crate::nests::reach;
+use crate::nests::transfer;
+use crate::nests::turning;
+use crate::tasks::Task;
+use reading::kinds::kind_of;
+use table::kinds::BEGIN;
+use table::kinds::COMMA;
+use table::kinds::DECODE;
+use table::kinds::END;
+use table::kinds::EQUALS;
+use table::kinds::IF;
+use table::kinds::LEAVE;
+use table::kinds::NAME;
+use table::kinds::NEXT;
+use table::kinds::NO_OP;
+use table::kinds::REPEAT;
+use table::kinds::SEMI;
+ghost use mathlib.Core.Path.{_≡_};
+ghost use mathlib.Core.Bool.{false};
+ghost use Rattle.table.specs.Holds.{kindByte};
+ghost use Rattle.profiling.specs.Walking.{Acting, Acted, Aims};
+ghost use Rattle.profiling.specs.Holding.{Standing, Does};
+ghost use Rattle.profiling.specs.Machine.{reached, chosen};
+
+// IF: its action may be passed by.
+fn test(room: &mut [u8], s: Nest) -> Nest
+    requires { ⌜ Standing (now room) s ⌝ }
+    ensures { λ r. ⌜ Does (λ z. reached (chosen false z) (z .marks)) (now (room .entry)) s (now (room .exit)) r ⌝ }
+{
+    let t = choosing(s, false);
+    reach(room, t)
+}
+
+// LEAVE at i.
+fn jump(
+    text: &[u8],
+    records: &[u8],
+    decls: &[u8],
+    table: &[u8],
+    room: &mut [u8],
+    t: Task,
+    i: usize,
+    s: Nest,
+) -> Nest
+    requires { ⌜ Acting (now text) (now records) (now decls) (now table) (now room) t i s ⌝ }
+    ensures { λ r. ⌜ Aims (now (text .entry)) (now (records .entry)) (now (decls .entry)) (now (table .entry)) (now (room .entry)) (now (room .exit)) t i s r ⌝ }
+{
+    let n = t.n;
+    if kind_of(records, n, i + 1) == NAME {
+        return leave(text, records, room, n, i + 1, s);
+    }
+    s
+}
+
+// The token i, of this kind.
+pub fn step(
+    text: &[u8],
+    records: &[u8],
+    decls: &[u8],
+    table: &[u8],
+    room: &mut [u8],
+    t: Task,
+    i: usize,
+    kind: u8,
+    mode: usize,
+    s: Nest,
+) -> Nest
+    requires { ⌜ Acting (now text) (now records) (now decls) (now table) (now room) t i s × (kind ≡ kindByte (now records) i) ⌝ }
+    ensures { λ r. ⌜ Acted (now (text .entry)) (now (records .entry)) (now (decls .entry)) (now (table .entry)) (now (room .entry)) (now (room .exit)) t i mode s r ⌝ }
+{
+    if kind == NAME {
+        return name(text, records, decls, table, room, t, i, mode, s);
+    }
+    if kind == BEGIN {
+        return open(room, s);
+    }
+    if kind == END {
+        return close(room, s);
+    }
+    if kind == SEMI {
+        return also(room, s);
+    }
+    if kind == NEXT {
+        return next(room, s);
+    }
+    if kind == COMMA {
+        return another(room, s);
+    }
+    if kind == EQUALS {
+        return transfer(room, s);
+    }
+    if kind == IF {
+        return test(room, s);
+    }
+    if kind == DECODE {
+        return choosing(s, true);
+    }
+    if kind == REPEAT {
+        return turning(s);
+    }
+    if kind == LEAVE {
+        return jump(text, records, decls, table, room, t, i, s);
+    }
+    if kind == NO_OP {
+        return reach(room, s);
+    }
+    s
+}

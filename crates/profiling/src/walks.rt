@@ -1,0 +1,98 @@
+// The walk along the tokens of a body.
+use crate::nests::Nest;
+use crate::nests::flag_at;
+use crate::steps::step;
+use crate::tasks::Task;
+use cells::put16;
+use reading::kinds::mode;
+use table::records::kind_at;
+ghost use Prim.Native.Nat.{_+_, _*_, _<_, _≤_};
+ghost use lib.ListN.{length};
+ghost use Rattle.profiling.specs.Going.{Cleared, Beginning, Begins, Tells, Walked};
+ghost use Rattle.profiling.specs.Holding.{Standing};
+
+// How many flags there are.
+const FLAGS: usize = 64;
+
+// Whether its end is reached, and the lowest place that is too early.
+pub struct Found {
+    pub ends: bool,
+    pub low: usize,
+}
+
+fn clear_flags(room: &mut [u8])
+    requires { ⌜ 33280 ≤ length (now room) ⌝ }
+    ensures { λ _. ⌜ Cleared (now (room .entry)) (now (room .exit)) 64 ⌝ }
+{
+    let mut k: usize = 0;
+    while k < FLAGS {
+        let at = k;
+        k += 1;
+        put16(room, at, 0);
+    }
+}
+
+// At the start of a body, whose own name is the outermost label.
+fn begin(room: &mut [u8], name: usize) -> Nest
+    requires { ⌜ (33280 ≤ length (now room)) × (0 < name) × (name < 8192) ⌝ }
+    ensures { λ r. ⌜ Begins (now (room .exit)) name r ⌝ }
+{
+    clear_flags(room);
+    let at = 256 + 2 * name;
+    put16(room, at, 0);
+    put16(room, at + 1, 1);
+    Nest {
+        depth: 0,
+        free: 2,
+        label: name,
+        flag: 1,
+        comes: true,
+        choosing: false,
+        begun: false,
+        place: 0,
+        hit: false,
+        low: 65535,
+    }
+}
+
+// What a walk has found.
+fn tell(room: &[u8], s: Nest) -> Found
+    requires { ⌜ Standing (now room) s ⌝ }
+    ensures { λ r. ⌜ Tells (now (room .entry)) s r ⌝ }
+{
+    Found {
+        ends: flag_at(room, 1),
+        low: s.low,
+    }
+}
+
+// The body at `from` of the declaration whose name is the token `name`.
+pub fn walk(
+    text: &[u8],
+    records: &[u8],
+    decls: &[u8],
+    table: &[u8],
+    room: &mut [u8],
+    t: Task,
+    name: usize,
+    from: usize,
+) -> Found
+    requires { ⌜ Beginning (now text) (now records) (now decls) (now table) (now room) t name from ⌝ }
+    ensures { λ r. ⌜ Walked (now (text .entry)) (now (records .entry)) (now (decls .entry)) (now (table .entry)) t name from r ⌝ }
+{
+    let n = t.n;
+    let mut s = begin(room, name);
+    let mut reading: usize = 0;
+    let mut i = from;
+    while i < n {
+        let at = i;
+        let kind = kind_at(records, at);
+        s = step(text, records, decls, table, room, t, at, kind, reading, s);
+        if s.depth == 0 {
+            return tell(room, s);
+        }
+        reading = mode(reading, kind);
+        i += 1;
+    }
+    tell(room, s)
+}
