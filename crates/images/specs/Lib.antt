@@ -1,4 +1,2 @@
-pub mod Images
-pub mod Keeping
 pub mod Judged
 pub mod Laws

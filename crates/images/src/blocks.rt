@@ -9,7 +9,7 @@ ghost use mathlib.Core.List.{_∷_, _++_};
 ghost use Prim.Native.Nat.{_+_, _*_, _<_, _≤_};
 ghost use lib.ListN.{length, take, drop, replicate};
 ghost use Rattle.rules.specs.Answers.{littleEndian, bytesOf};
-ghost use Rattle.images.specs.Images.{blockSize, checkedSize, payloadSize, edition, checkOf, isChecked, isFormed, frontOf, blockOf};
+ghost use Rattle.rules.specs.Images.{blockSize, checkedSize, payloadSize, edition, checkOf, isChecked, isFormed, frontOf, blockOf};
 
 pub const BLOCK_SIZE: usize = 512;
 

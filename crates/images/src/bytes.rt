@@ -3,7 +3,7 @@ ghost use mathlib.Core.Path.{_≡_};
 ghost use Prim.Native.Nat.{_+_, _≤_};
 ghost use lib.ListN.{length};
 ghost use lib.Seq.{paste};
-ghost use Rattle.images.specs.Images.{allZero};
+ghost use Rattle.rules.specs.Images.{allZero};
 
 // Puts bytes into a buffer from `at` on.
 pub fn copy(to: &mut [u8], at: usize, from: &[u8])

@@ -9,7 +9,7 @@ use crate::bytes::copy;
 ghost use mathlib.Core.Path.{_≡_};
 ghost use Prim.Native.Nat.{_+_, _-_, _*_, _<_, _≤_, min};
 ghost use lib.ListN.{length};
-ghost use Rattle.images.specs.Images.{payloadSize, blocksFor, imageSize, imageOf, imageFault, heldIn};
+ghost use Rattle.rules.specs.Images.{payloadSize, blocksFor, imageSize, imageOf, imageFault, heldIn};
 ghost use Rattle.images.specs.Judged.{faultOf};
 
 // The image is not refused; or it is, with the number and the place.

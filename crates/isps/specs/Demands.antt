@@ -1,4 +1,4 @@
--- THE THREE DEMANDS about the public calls. `CheckCall` (Check.antt) and `RunCall` (Run.antt) are the contracts of `isps_check` and `isps_run` in src/lib.rt,
+-- THE THREE DEMANDS about the public calls. `CheckCall` and `RunCall` (Calls/ of the crate `rules`) are the contracts of `isps_check` and `isps_run` in src/lib.rt,
 -- which have no hypotheses; that a call ends and touches only what it was lent is part of what the check of that file shows. All other words are those of
 -- the crate `rules`.
 use Prim.Native.Nat.{ℕ, _<_, _≤_}

@@ -22,7 +22,7 @@ pub struct Answer {
 
 // Refused, with a number and a place.
 pub fn refusal(text: &[u8], number: u32, place: usize) -> Answer
-    requires { ⌜ place ≤ 32768 ⌝ }
+    requires { ⌜ place < 65536 ⌝ }
     ensures { λ r. ⌜ numbersOf r ≡ refusedNumbers (now (text .entry)) number place ⌝ }
 {
     let here = position_of(text, number, place);

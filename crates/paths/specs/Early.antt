@@ -9,14 +9,14 @@ use Rattle.rules.specs.Text.Scan.{sameBytes}
 use Rattle.rules.specs.Text.Scan.{scan}
 use Rattle.rules.specs.Grammar.Trees.{Action, Description}
 use Rattle.rules.specs.Declarations.{Name, Table, declarations, bodyOf}
-use Rattle.rules.specs.Steps.Actions.{Access, Act, seq, par, label, ins, Ins, iff, decode, repeat, leave, restart, call, stop, noop, transfer, Alts, end, alt}
+use Rattle.rules.specs.Steps.Actions.{Access, Act, seq, par, label, ins, Ins, iff, decode, repeat, leave, restart, call, stop, noop, transfer, Alts, end, alt, firstPlace}
 use Rattle.rules.specs.Steps.Runs.{bodyAct}
 use Rattle.rules.specs.Whole.Sets.{member, stores}
 use Rattle.rules.specs.Limits.{longestChain}
 use Rattle.rules.specs.Faults.Whole.{mainName}
-use Rattle.rules.specs.Answers.{Verdict, accepted as passes, refused as fails}
+use Rattle.rules.specs.Answers.{Verdict, accepted, refused}
 use Rattle.laws_grammar.specs.Answers.{descriptionOf, check}
-use Rattle.paths.specs.Paths.{placeOf, storageOf, Answer, accepted, refused, folded}
+use Rattle.rules.specs.Paths.{storageOf, Profile, passes, fails, folded}
 
 pub record Report : Type 0 where
   pub places : List ℕ
@@ -60,7 +60,7 @@ module _ (test : Name) where
   activation p x = report (x .places) (not (sameBytes p test) && x .ends) (λ k. false)
 
 abbrev pub written : Table → ℕ → List Access → List ℕ
-written ds output d = cond (member output (stores ds d)) (placeOf d ∷ []) []
+written ds output d = cond (member output (stores ds d)) (firstPlace d ∷ []) []
 
 module _ (ds : Table) (test : Name) (output : ℕ) where
   -- with what is known of the bodies
@@ -101,29 +101,29 @@ unfoldable pub lowest : ℕ → List ℕ → ℕ
 lowest p [] = p
 lowest p (q ∷ qs) = lowest (min p q) qs
 
-abbrev pub verdict : List ℕ → Answer
-verdict [] = accepted
-verdict (p ∷ ps) = refused 92 (lowest p ps)
+abbrev pub verdict : List ℕ → Profile
+verdict [] = passes
+verdict (p ∷ ps) = fails 92 (lowest p ps)
 
-abbrev pub onStorage : Table → Name → Option ℕ → Answer
-onStorage ds test none = refused 91 0
+abbrev pub onStorage : Table → Name → Option ℕ → Profile
+onStorage ds test none = fails 91 0
 onStorage ds test (some o) = verdict (earlyPlaces ds test o)
 
-abbrev pub onBody : Table → Name → Name → Option Action → Answer
-onBody ds test output none = refused 90 0
+abbrev pub onBody : Table → Name → Name → Option Action → Profile
+onBody ds test output none = fails 90 0
 onBody ds test output (some a) = onStorage ds test (storageOf ds output)
 
-unfoldable pub profile : Table → Name → Name → Answer
+unfoldable pub profile : Table → Name → Name → Profile
 profile ds test output = onBody ds test output (bodyOf ds test)
 
 -- of a text
-abbrev pub byDescription : Option Description → Name → Name → Answer
-byDescription none test output = refused 0 0
+abbrev pub byDescription : Option Description → Name → Name → Profile
+byDescription none test output = fails 0 0
 byDescription (some d) test output = profile (declarations d) test output
 
-abbrev pub byVerdict : Verdict → Option Description → Name → Name → Answer
-byVerdict (fails m p) d test output = refused m p
-byVerdict (passes n w) d test output = byDescription d test output
+abbrev pub byVerdict : Verdict → Option Description → Name → Name → Profile
+byVerdict (refused m p) d test output = fails m p
+byVerdict (accepted n w) d test output = byDescription d test output
 
-unfoldable pub answer : List ℕ → List ℕ → List ℕ → Answer
+unfoldable pub answer : List ℕ → List ℕ → List ℕ → Profile
 answer text test output = byVerdict (check text) (descriptionOf (scan text .tokens)) (folded test) (folded output)

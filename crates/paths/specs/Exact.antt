@@ -9,7 +9,7 @@ use borrow.Author.Tests.{eqb-true}
 use Rattle.rules.specs.Text.Scan.{sameBytes}
 use Rattle.rules.specs.Grammar.Precedence.{Expr}
 use Rattle.rules.specs.Declarations.{Name, Table}
-use Rattle.rules.specs.Steps.Actions.{Access, Act, seq, par, label, ins, Ins, iff, decode, repeat, leave, restart, call, stop, noop, transfer, Alts, end, alt}
+use Rattle.rules.specs.Steps.Actions.{Access, Act, seq, par, label, ins, Ins, iff, decode, repeat, leave, restart, call, stop, noop, transfer, Alts, end, alt, firstPlace}
 use Rattle.rules.specs.Steps.Control.{Live, one, seqL, both, left, right, labL, loopL, callL, start, workI}
 use Rattle.rules.specs.Steps.Control.{Sig, ends, goes, leaves, restarts, stops, faults, lost, nextI}
 use Rattle.rules.specs.Steps.Runs.{bodyAct}
@@ -18,7 +18,7 @@ use Rattle.rules.specs.Limits.{longestChain}
 use Rattle.rules.specs.Faults.Whole.{mainName}
 use Rattle.laws_orders.specs.Orders.Tests.{or-either, member-either}
 use Rattle.laws_accepted.specs.Accepted.Named.{and-both, same-equal, same-itself}
-use Rattle.paths.specs.Paths.{May, OneOf, spot, Path, outset, placeOf, TooEarly}
+use Rattle.rules.specs.Paths.{May, OneOf, spot, Path, outset, TooEarly}
 use Rattle.paths.specs.Early.{Report, report, nowhere, passed, inTurn, beside, either, inside, turning, activation, written, early, earlyI, earlyAlts, bodyEarly, earlyPlaces}
 use Rattle.paths.specs.Going.{before, firstOf, secondOf, lastLeft, lastRight, labelled, turn, activated, Goes, Says, Comes, says-in, comes-in, says-on, comes-on, says-once}
 
@@ -158,9 +158,9 @@ module _ (ds : Table) (test : Name) (output : ℕ) where
           places = λ p h. found p (member output (stores ds d)) refl h;
         }
       where
-        found : (p : ℕ) (b : Bool) → member output (stores ds d) ≡ b → member p (cond b (placeOf d ∷ []) []) ≡ true → Comes ds test output (one (transfer d e)) p
+        found : (p : ℕ) (b : Bool) → member output (stores ds d) ≡ b → member p (cond b (firstPlace d ∷ []) []) ≡ true → Comes ds test output (one (transfer d e)) p
         found p true w h =
-            let q : p ≡ placeOf d = by (or-either (eqb p (placeOf d)) false h) (eqb-true p (placeOf d)) (λ z. absurd (false≢true z)) in
+            let q : p ≡ firstPlace d = by (or-either (eqb p (firstPlace d)) false h) (eqb-true p (firstPlace d)) (λ z. absurd (false≢true z)) in
             record { steps = 0; live = one (transfer d e); path = refl; move = tt; writes = (w, q) }
         found p false w h = absurd (false≢true h)
 

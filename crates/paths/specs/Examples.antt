@@ -1,4 +1,4 @@
--- Short texts with a test and an output, worked out by the definitions: 0 0 accepted, else the number and the place.
+-- Short texts with a test and an output, worked out by the definitions: 0 0 where it passes, else the number and the place.
 use Prim.Native.Nat.{ℕ, _*_}
 use Prim.Native.String.{String}
 use mathlib.Core.Path.{_≡_, refl}
@@ -42,13 +42,13 @@ use Rattle.laws_grammar.specs.Answers.{descriptionOf, check, runs}
 use Rattle.laws_grammar.specs.Cited.Rows.{lookup, too-deep, judge as judge-Rows, run as run-Rows, recognise}
 use Rattle.laws_grammar.specs.Grammar.Reading.{find, split, put, act, read}
 use native.Mathlib.Decide.{decLt}
-use Rattle.paths.specs.Paths.{storageOf, Answer, refused}
-use Rattle.paths.specs.Paths.{accepted as fine}
+use Rattle.rules.specs.Paths.{storageOf, Profile, fails}
+use Rattle.rules.specs.Paths.{passes}
 use Rattle.paths.specs.Early.{early, earlyI, earlyAlts, bodyEarly, earlyPlaces, lowest, profile, answer}
 
-abbrev pub numbers : Answer → List ℕ
-numbers fine = 0 ∷ 0 ∷ []
-numbers (refused m p) = m ∷ p ∷ []
+abbrev pub numbers : Profile → List ℕ
+numbers passes = 0 ∷ 0 ∷ []
+numbers (fails m p) = m ∷ p ∷ []
 
 pub record Case : Type 0 where
   pub test : String

@@ -10,7 +10,7 @@ use Rattle.rules.specs.Steps.Actions.{Act, Ins}
 use Rattle.rules.specs.Steps.Control.{Live, one, seqL, both, left, right, labL, loopL, callL, start}
 use Rattle.rules.specs.Steps.Control.{Sig, ends, goes, leaves, restarts, stops, faults, Mv, work, seqS, bothL, bothR, leftS, rightS, labS, loopS, callS}
 use Rattle.rules.specs.Steps.Runs.{bodyAct}
-use Rattle.paths.specs.Paths.{at, May, around, isEnd, endsTest, Writes}
+use Rattle.rules.specs.Paths.{at, May, around, isEnd, endsTest, Writes}
 
 -- an action around what is left of a part of it
 pub data Frame : Type 0 where

@@ -6,7 +6,7 @@ use mathlib.Core.List.{List, map}
 use Rattle.rules.specs.Grammar.Precedence.{Expr}
 use Rattle.rules.specs.Values.{Value, cut}
 use Rattle.rules.specs.Declarations.{Name, Table}
-use Rattle.rules.specs.Steps.Actions.{Access}
+use Rattle.rules.specs.Steps.Actions.{Access, firstPlace}
 use Rattle.rules.specs.Steps.Evaluation.{Carriers, Outcome, gives, faulty, then, Field, storeAll, evaluate, evaluateAccesses, transferred}
 use Rattle.rules.specs.Steps.Control.{Live, callL, start, Work, moves, tests, nothing, Sig, ends, goes, leaves, restarts, stops, faults, Mv, work, nextI, next}
 use Rattle.rules.specs.Steps.Runs.{Conf, running, finished, stopped, fault, Worked, worked, moved, tested, perform, told, after, bodyAct, step, Steps, begin}
@@ -16,7 +16,7 @@ use Rattle.laws_orders.specs.Orders.Tests.{or-neither}
 use Rattle.laws_orders.specs.Orders.Owners.{ownerAt}
 use Rattle.laws_orders.specs.Orders.Fields.{word, stores-keep}
 use Rattle.laws_orders.specs.Orders.Reading.{wordsIn, then-gave, accesses-land}
-use Rattle.paths.specs.Paths.{at, May, around, endsTest, Spot, spot, Path, outset, Writes, placeOf, TooEarly, endsBy, testEnded}
+use Rattle.rules.specs.Paths.{at, May, around, endsTest, Spot, spot, Path, outset, Writes, TooEarly, endsBy, testEnded}
 use Rattle.paths.specs.Runs.{no-early-store}
 
 abbrev pub carriersIn : Conf → Carriers
@@ -62,7 +62,7 @@ module _ (ds : Table) (test : Name) (output : ℕ) where
         ap (λ c. word c i) (moved-carriers s (transferred ds s d e)) ∙ transfer-by d e s (transferred ds s d e) refl (by (member output (stores ds d)) refl)
       where
         by : (b : Bool) → member output (stores ds d) ≡ b → member output (stores ds d) ≡ false
-        by true h = absurd (f (placeOf d) (h, refl))
+        by true h = absurd (f (firstPlace d) (h, refl))
         by false h = h
     work-keeps (tests e) s f = ap (λ c. word c i) (tested-carriers s (evaluate ds s e))
     work-keeps nothing s f = refl

@@ -6,7 +6,7 @@ use mathlib.Core.List.{List, [], _∷_, _++_}
 use native.Mathlib.Omega.{arith}
 use lib.Dec.{ltb}
 use borrow.Author.Tests.{lt-ltb, le-ltb}
-use Rattle.paths.specs.Paths.{Answer, accepted, refused}
+use Rattle.rules.specs.Paths.{Profile, passes, fails}
 use Rattle.paths.specs.Early.{lowest, verdict}
 
 module _ (M : ℕ) where
@@ -31,9 +31,9 @@ module _ (M : ℕ) where
   Under [] = Unit {0}
   Under (p ∷ ps) = (p < M) × Under ps
 
-  pub verdict-is : (ps : List ℕ) → Under ps → verdict ps ≡ cond (ltb (least ps) M) (refused 92 (least ps)) accepted
-  verdict-is [] h = ap (λ b. cond b (refused 92 M) accepted) (sym (le-ltb M M (omega arith)))
+  pub verdict-is : (ps : List ℕ) → Under ps → verdict ps ≡ cond (ltb (least ps) M) (fails 92 (least ps)) passes
+  verdict-is [] h = ap (λ b. cond b (fails 92 M) passes) (sym (le-ltb M M (omega arith)))
   verdict-is (p ∷ ps) h =
       let q : p < M = h .0 in
       let l : ℕ = min p (least ps) in
-      ap (refused 92) (lowest-is p ps (omega arith)) ∙ ap (λ b. cond b (refused 92 l) accepted) (sym (lt-ltb l M (omega arith)))
+      ap (fails 92) (lowest-is p ps (omega arith)) ∙ ap (λ b. cond b (fails 92 l) passes) (sym (lt-ltb l M (omega arith)))

@@ -14,10 +14,10 @@ use Rattle.rules.specs.Steps.Runs.{running, Steps, step, begin}
 use Rattle.rules.specs.Whole.Sets.{member}
 use Rattle.laws_orders.specs.Orders.Orderly.{Orderly}
 use Rattle.rules.specs.Faults.Whole.{mainName}
-use Rattle.rules.specs.Answers.{Checks, accepted as passes}
+use Rattle.rules.specs.Answers.{Checks, accepted}
 use Rattle.laws_orders.specs.Orders.Owners.{ownerAt}
 use Rattle.laws_orders.specs.Orders.Fields.{word}
-use Rattle.paths.specs.Paths.{spot, Path, outset, Writes, TooEarly, storageOf, Answer, accepted, Profiles, testEnded, Answers}
+use Rattle.rules.specs.Paths.{spot, Path, outset, Writes, TooEarly, storageOf, Profile, passes, Profiles, testEnded, ProfileAnswers}
 use Rattle.paths.specs.Early.{earlyPlaces, profile, answer}
 use Rattle.paths.specs.Sound as sound
 use Rattle.paths.specs.Exact as exact
@@ -35,7 +35,7 @@ listed-exactly ds test output o p = (exact.exact ds test output p, sound.sound d
 pub profile-right : (ds : Table) (test output : Name) → Orderly ds → Profiles ds test output (profile ds test output)
 profile-right = verdict.right
 
-pub one-answer : (ds : Table) (test output : Name) {x y : Answer} → Profiles ds test output x → Profiles ds test output y → x ≡ y
+pub one-answer : (ds : Table) (test output : Name) {x y : Profile} → Profiles ds test output x → Profiles ds test output y → x ≡ y
 one-answer = verdict.one-answer
 
 -- RUNS: any single steps of any members, from any carriers, are a path, and an activation of the test has ended on it if it has in them.
@@ -44,8 +44,8 @@ pub runs-are-paths :
     → Path ds test n (outset ds (mainName ds)) (spot r (testEnded ds test n (begin ds (mainName ds) s) (running r t) q))
 runs-are-paths = runs.runs-are-paths
 
--- Of an accepted profile, whatever steps have been taken in a run (q) and whichever member steps next (m):
-module _ (ds : Table) (test output : Name) (accepts : Profiles ds test output accepted) (o : ℕ) (its : storageOf ds output ≡ some o) where
+-- Of a profile that passes, whatever steps have been taken in a run (q) and whichever member steps next (m):
+module _ (ds : Table) (test output : Name) (accepts : Profiles ds test output passes) (o : ℕ) (its : storageOf ds output ≡ some o) where
   in-no-path : (p : ℕ) → ¬ TooEarly ds test o p
   in-no-path p w = verdict.accepted-none ds test output accepts o its p w
 
@@ -59,11 +59,11 @@ module _ (ds : Table) (test output : Name) (accepts : Profiles ds test output ac
     output-unchanged h i own = kept.kept-through ds test o in-no-path s i own n r t q h m
 
 -- TEXTS: a description that is accepted is orderly; and a text with two names has exactly one answer, which is computed.
-pub accepted-is-orderly : (text : List ℕ) (n w : ℕ) → Checks text (passes n w) → (d : Description) → flatten d ≡ scan text .tokens → Orderly (declarations d)
+pub accepted-is-orderly : (text : List ℕ) (n w : ℕ) → Checks text (accepted n w) → (d : Description) → flatten d ≡ scan text .tokens → Orderly (declarations d)
 accepted-is-orderly = texts.accepted-is-orderly
 
-pub answered : (text test output : List ℕ) → Answers text test output (answer text test output)
+pub answered : (text test output : List ℕ) → ProfileAnswers text test output (answer text test output)
 answered = texts.answered
 
-pub only-answer : (text test output : List ℕ) {x y : Answer} → Answers text test output x → Answers text test output y → x ≡ y
+pub only-answer : (text test output : List ℕ) {x y : Profile} → ProfileAnswers text test output x → ProfileAnswers text test output y → x ≡ y
 only-answer = texts.only-answer

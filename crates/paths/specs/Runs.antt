@@ -13,7 +13,7 @@ use Rattle.rules.specs.Steps.Control.{Sig, ends, goes, leaves, restarts, stops,
 use Rattle.rules.specs.Steps.Control.{seqS, bothL, bothR, leftS, rightS, labS, loopS, callS}
 use Rattle.rules.specs.Steps.Runs.{Conf, running, finished, stopped, fault, Worked, perform, told, after, bodyAct, step, Steps, begin}
 use Rattle.rules.specs.Faults.Whole.{mainName}
-use Rattle.paths.specs.Paths.{at, OneOf, May, around, endsTest, Spot, spot, Path, outset, Writes, TooEarly, endsBy, testEnded}
+use Rattle.rules.specs.Paths.{at, OneOf, May, around, endsTest, Spot, spot, Path, outset, Writes, TooEarly, endsBy, testEnded}
 
 abbrev isGoing : Sig → Type 0
 isGoing ends = ⊥

@@ -14,7 +14,7 @@ use Rattle.rules.specs.Grammar.Trees.{Action}
 use Rattle.rules.specs.Whole.Sets.{member}
 use Rattle.laws_orders.specs.Orders.Orderly.{Orderly}
 use Rattle.laws_orders.specs.Orders.Tests.{or-either, or-left, or-right}
-use Rattle.paths.specs.Paths.{TooEarly, storageOf, Answer, accepted, refused, Profiles, no-body, no-storage, early, in-time}
+use Rattle.rules.specs.Paths.{TooEarly, storageOf, Profile, passes, fails, Profiles, no-body, no-storage, early, in-time}
 use Rattle.paths.specs.Early.{earlyPlaces, lowest, verdict, onStorage, onBody, profile}
 use Rattle.paths.specs.Sound.{sound}
 use Rattle.paths.specs.Exact.{exact}
@@ -107,7 +107,7 @@ module _ (ds : Table) (test output : Name) where
   same-number : (o u : ℕ) → storageOf ds output ≡ some o → storageOf ds output ≡ some u → o ≡ u
   same-number o u e f = Option·some-injective o u (sym e ∙ f)
 
-  pub one-answer : {x y : Answer} → Profiles ds test output x → Profiles ds test output y → x ≡ y
+  pub one-answer : {x y : Profile} → Profiles ds test output x → Profiles ds test output y → x ≡ y
   one-answer (no-body a) (no-body b) = refl
   one-answer (no-body a) (no-storage n b) = absurd (n a)
   one-answer (no-body a) (early o p n e w l) = absurd (n a)
@@ -122,12 +122,12 @@ module _ (ds : Table) (test output : Name) where
       let s = same-number o u e f in
       let a : p ≤ q = l q (subst (λ z. TooEarly ds test z q) (sym s) v) in
       let b : q ≤ p = g p (subst (λ z. TooEarly ds test z p) s w) in
-      ap (refused 92) (omega arith)
+      ap (fails 92) (omega arith)
   one-answer (early o p n e w l) (in-time u k f g) = absurd (g p (subst (λ z. TooEarly ds test z p) (same-number o u e f) w))
   one-answer (in-time o n e l) (no-body b) = absurd (n b)
   one-answer (in-time o n e l) (no-storage k b) = no-number o b e
   one-answer (in-time o n e l) (early u q k f v g) = absurd (l q (subst (λ z. TooEarly ds test z q) (sym (same-number o u e f)) v))
   one-answer (in-time o n e l) (in-time u k f g) = refl
 
-  pub accepted-none : Profiles ds test output accepted → (o : ℕ) → storageOf ds output ≡ some o → (p : ℕ) → ¬ TooEarly ds test o p
+  pub accepted-none : Profiles ds test output passes → (o : ℕ) → storageOf ds output ≡ some o → (p : ℕ) → ¬ TooEarly ds test o p
   accepted-none (in-time u n f l) o e p w = l p (subst (λ z. TooEarly ds test z p) (same-number o u e f) w)

@@ -27,6 +27,27 @@ fn is_elsewhere(number: u32) -> bool
     if number == 61 {
         return true;
     }
+    if number == 62 {
+        return true;
+    }
+    if number == 63 {
+        return true;
+    }
+    if number == 64 {
+        return true;
+    }
+    if number == 81 {
+        return true;
+    }
+    if number == 90 {
+        return true;
+    }
+    if number == 91 {
+        return true;
+    }
+    if number == 110 {
+        return true;
+    }
     false
 }
 

@@ -1,3 +1,6 @@
 pub mod Memory
 pub mod Check
 pub mod Run
+pub mod Keep
+pub mod Profile
+pub mod Bound

@@ -12,9 +12,9 @@ use Rattle.rules.specs.Text.Scan.{scan, scanFrom, lexeme, lexemeBy, word
 use Rattle.rules.specs.Grammar.Trees.{all-bits, exact, masked, single, to}
 use Rattle.rules.specs.Grammar.Precedence.{Expr, leaf, node, number, cell, no-index, index}
 use Rattle.rules.specs.Values.{value, opBits, opNumber, operate, bitwise, notNumber, inverse, field, withField, total, cut}
-use Rattle.rules.specs.Selectors.{Item, pattern, between, itemOf, matches, agree, anyMatches, takes}
+use Rattle.rules.specs.Selectors.{numbered, otherwise, Item, pattern, between, itemOf, matches, agree, anyMatches, takes}
 use Rattle.rules.specs.Declarations.{Table, Declared, carrierWith, bodyWith, mappingOn, these, names, howMany, fromLeft, fromRight, bitCount, numberFrom, numberOf, storageWords, totalWords, firstWord, reachStorage, lowBit, reachOn, reachUnder, reachOf, reachNumber, reach, bodyNumber, bodyOf, accessLow, accessBits}
-use Rattle.rules.specs.Steps.Actions.{Access, Act, seq, par, label, ins, iff, repeat, leave, transfer}
+use Rattle.rules.specs.Steps.Actions.{Access, Act, seq, par, label, ins, iff, decode, repeat, leave, restart, call, stop, noop, transfer, end, alt}
 use Rattle.rules.specs.Steps.Evaluation.{gives, then, wordOr70, wordOf, fieldIn, fieldOf, evaluate, evaluateFactor, evaluateIndex, evaluateAccess, evaluateAccesses, storeAll, transferred}
 use Rattle.rules.specs.Steps.Control.{start, leftmost, workI, nextI, choose}
 use Rattle.rules.specs.Steps.Runs.{Conf, running, finished, Run, ran, done, paused, faulted, runFrom, bodyAct}
@@ -22,6 +22,10 @@ use Rattle.rules.specs.Whole.Sets.{Sets, owner, readsOf, factorReads, in
 use Rattle.rules.specs.Positions.{position, behind, after, positionAt, positionOf}
 use Rattle.rules.specs.Faults.Fault.{Fault, fault, byPlace, byNumber, least, leastFrom}
 use Rattle.rules.specs.Faults.Bodies.{patternsMeet, reaches, itemsMeet}
+use Rattle.rules.specs.Answers.{bytesOf, littleEndian}
+use Rattle.rules.specs.Images.{weighed, frontOf, checkOf, blocksFor, allZero, isFormed}
+use Rattle.rules.specs.Bound.{cost, inside, dearest, turns, turnsIn, anyTurns, boundIf, bound, no-bound}
+use lib.ListN.{take}
 
 -- the classes on both sides of each boundary
 abbrev boundaries : List ℕ
@@ -166,3 +170,40 @@ positions = refl
 position-by-number : map (λ number. positionOf three-lines number 5) (10 ∷ 53 ∷ 60 ∷ 61 ∷ 70 ∷ []) ≡ position 2 2 ∷ position 2 2 ∷ position 1 1 ∷ position 1 1 ∷ position 2 2 ∷ []
 unfolding positionOf member after behind
 position-by-number = refl
+
+-- the check of three bytes, the front of a block, the blocks of 504, 505 and no bytes, and a front whose padding is not zero
+weighed-sum : checkOf (3 ∷ 1 ∷ 2 ∷ []) ≡ 11
+unfolding weighed
+weighed-sum = refl
+
+front : take 8 (frontOf 1 (5 ∷ 6 ∷ [])) ≡ 1 ∷ 1 ∷ 2 ∷ 0 ∷ 5 ∷ 6 ∷ 0 ∷ 0 ∷ []
+unfolding frontOf bytesOf
+front = refl
+
+blocks : map blocksFor (0 ∷ 8 ∷ 504 ∷ 505 ∷ 32768 ∷ []) ≡ 0 ∷ 1 ∷ 1 ∷ 2 ∷ 66 ∷ []
+unfolding blocksFor
+blocks = refl
+
+padded : map (isFormed 1 2) ((1 ∷ 1 ∷ 2 ∷ 0 ∷ 5 ∷ 6 ∷ 0 ∷ []) ∷ (1 ∷ 1 ∷ 2 ∷ 0 ∷ 5 ∷ 6 ∷ 7 ∷ []) ∷ (1 ∷ 1 ∷ 1 ∷ 0 ∷ 5 ∷ 0 ∷ 0 ∷ []) ∷ []) ≡ true ∷ false ∷ false ∷ []
+unfolding isFormed allZero littleEndian
+padded = refl
+
+-- the longest run: an IF over a DECODE of 1 and 3 steps; beside each other, the activation of a body of 7 steps and a labelled LEAVE
+abbrev longest : Act
+longest =
+    seq (ins (iff (constantly 1 1) (ins (decode 0 (constantly 1 1)
+    (alt (numbered 0) (ins noop) (alt otherwise (par (ins noop) (seq (ins stop) (ins noop))) end))))))
+    (par (ins (call (bytes "P"))) (label (bytes "L") (ins (leave (bytes "L")))))
+
+longest-costs : cost (λ p. 7) longest ≡ 14
+unfolding cost inside dearest
+longest-costs = refl
+
+turning : map (turns (λ p. false)) (longest ∷ ins (restart (bytes "L")) ∷ ins (decode 0 (constantly 1 1) (alt otherwise (ins (repeat (ins noop))) end)) ∷ [])
+    ≡ false ∷ true ∷ true ∷ []
+unfolding turns turnsIn anyTurns
+turning = refl
+
+turning-below : turns (λ p. true) longest ≡ true
+unfolding turns turnsIn anyTurns
+turning-below = refl

@@ -9,6 +9,11 @@ pub mod Whole
 pub mod Faults
 pub mod Positions
 pub mod Answers
+pub mod Images
+pub mod Keeping
+pub mod Paths
+pub mod Stores
+pub mod Bound
 pub mod Calls
 pub mod Agreement
 pub mod Examples

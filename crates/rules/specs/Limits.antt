@@ -39,3 +39,7 @@ mostAlternatives = 64
 -- 51: bodies in a chain of activations
 abbrev pub longestChain : ℕ
 longestChain = 16
+
+-- steps that a budget can hold
+abbrev pub mostSteps : ℕ
+mostSteps = 4294967295

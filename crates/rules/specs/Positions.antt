@@ -32,9 +32,10 @@ after p (b ∷ text) (suc n) = after (behind b p) text n
 abbrev pub positionAt : List ℕ → ℕ → Position
 positionAt text n = after origin text n
 
--- "Where the place is no offset in the text (as 1, 2, 60, 61), line and column are 1"
+-- "Where the place is no offset in the text (as 1, 2, 60, 61), line and column are 1": places in carriers or an image (60 to 64), in a list of turns (81) or of
+-- entries (110), and none (90, 91)
 abbrev pub elsewhere : List ℕ
-elsewhere = 1 ∷ 2 ∷ 60 ∷ 61 ∷ []
+elsewhere = 1 ∷ 2 ∷ 60 ∷ 61 ∷ 62 ∷ 63 ∷ 64 ∷ 81 ∷ 90 ∷ 91 ∷ 110 ∷ []
 
 -- line and column of a refusal or fault, by its number and place
 unfoldable pub positionOf : List ℕ → ℕ → ℕ → Position

@@ -7,8 +7,8 @@ use Rattle.rules.specs.Limits.{longestText}
 use Rattle.rules.specs.Grammar.Trees.{Tokens, Description}
 use Rattle.rules.specs.Declarations.{Table, declarations}
 use Rattle.table.specs.Ready.{Ready}
-use Rattle.images.specs.Images.{imageOf, imageSize, heldIn}
-use Rattle.images.specs.Keeping.{Kept, refusal, kept, refusedOr, fault61, Keeps, keptIn}
+use Rattle.rules.specs.Images.{imageOf, imageSize, heldIn}
+use Rattle.rules.specs.Keeping.{Kept, declined, kept, refusedOr, fault61, Keeps, keptIn}
 use Rattle.storing.specs.declared.endings.Ending.{Ending}
 use Rattle.storing.specs.declared.endings.Ending.the-variants.{Refused, Declined, Done}
 
@@ -24,8 +24,8 @@ tableOf v = declarations (v .description)
 
 -- an ending, with the bytes that are left
 abbrev pub keptOf : Ending → List ℕ → Kept
-keptOf (Refused m p) left = refusal m p
-keptOf (Declined m p) left = refusal m p
+keptOf (Refused m p) left = declined m p
+keptOf (Declined m p) left = declined m p
 keptOf Done left = kept left
 
 -- numbers and places are small: a text's place lies in it, and a buffer's number is of the 60s

@@ -13,8 +13,8 @@ ghost use lib.ListN.{length};
 ghost use Rattle.rules.specs.Limits.{longestText};
 ghost use Rattle.rules.specs.Declarations.{totalWords};
 ghost use Rattle.starts.specs.Starts.{Starts};
-ghost use Rattle.images.specs.Images.{imageSize, heldIn};
-ghost use Rattle.images.specs.Keeping.{carriersSize, loading};
+ghost use Rattle.rules.specs.Images.{imageSize, heldIn};
+ghost use Rattle.rules.specs.Keeping.{carriersSize, loading};
 ghost use Rattle.storing.specs.Kept.{Stands, tableOf, Keeping, Taken, Answered};
 
 // Whether the carriers that an image holds can start a run. They are unpacked into a buffer of their size.

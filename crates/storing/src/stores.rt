@@ -8,7 +8,7 @@ use starts::start;
 ghost use Prim.Native.Nat.{_≤_};
 ghost use lib.ListN.{length};
 ghost use Rattle.rules.specs.Limits.{longestText};
-ghost use Rattle.images.specs.Keeping.{storing};
+ghost use Rattle.rules.specs.Keeping.{storing};
 ghost use Rattle.storing.specs.Kept.{Stands, tableOf, Keeping, Written, Answered};
 
 // Writes the image of carriers, unless its length is wrong.

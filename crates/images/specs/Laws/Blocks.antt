@@ -14,7 +14,7 @@ use lib.Seq.{length-take-le, take-all, take-append-le, drop-append-le, take-at, 
 use Rattle.rules.specs.Answers.{littleEndian, bytesOf}
 use Rattle.laws_accepted.specs.Accepted.Named.{and-both}
 use Rattle.starts.specs.Laws.Buffers.{bytes-back}
-use Rattle.images.specs.Images.{payloadSize, headSize, checkedSize, blockSize, edition, checkOf, frontOf, blockOf, isChecked, allZero, isFormed, faultBy, blockFault}
+use Rattle.rules.specs.Images.{payloadSize, headSize, checkedSize, blockSize, edition, checkOf, frontOf, blockOf, isChecked, allZero, isFormed, faultBy, blockFault}
 use Rattle.images.specs.Laws.Sums.{Bytes, length-bytes, number-front, check-bounded, check-changed, number-changed}
 
 -- bytes, part by part

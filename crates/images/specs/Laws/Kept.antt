@@ -14,8 +14,8 @@ use Rattle.rules.specs.Grammar.Trees.{Description, flatten}
 use Rattle.rules.specs.Declarations.{Table, declarations, totalWords}
 use Rattle.rules.specs.Faults.Fault.{Fault, fault}
 use Rattle.rules.specs.Answers.{accepted, refused, Checks}
-use Rattle.images.specs.Images.{blockSize, blocksFor, imageSize, imageOf, imageFault, heldIn}
-use Rattle.images.specs.Keeping.{Kept, refusal, kept, refusedOr, faultUnless, carriersSize, fault60, fault61, fault62, storing, loading, Keeps, not-accepted, kept-by}
+use Rattle.rules.specs.Images.{blockSize, blocksFor, imageSize, imageOf, imageFault, heldIn}
+use Rattle.rules.specs.Keeping.{Kept, declined, kept, refusedOr, faultUnless, carriersSize, fault60, fault61, fault62, storing, loading, Keeps, not-accepted, kept-by}
 use Rattle.laws_grammar.specs.Answers.{one-verdict, accepted-iff-lawful, descriptionOf, description-of}
 use Rattle.laws_accepted.specs.Accepted.Declared.{accepted-declares, few-words}
 use Rattle.images.specs.Laws.Sums.{Bytes}
@@ -115,7 +115,7 @@ module _ (ds : Table) where
       ∙ ap (λ x. refusedOr x rest) sound ∙ ap (λ c. refusedOr (fault61 ds c) (kept c)) held ∙ ap (λ x. refusedOr x (kept carriers)) fine
 
   changed-refused : (image target : List ℕ) (j v : ℕ) → length image ≡ imageSize (carriersSize ds) → imageFault (carriersSize ds) image ≡ none → length target ≡ carriersSize ds
-      → Bytes image → j < length image → v < 256 → (v ≡ getD image j 0 → ⊥) → loading (set image j v) target ds ≡ refusal 63 (blockSize * (j / blockSize))
+      → Bytes image → j < length image → v < 256 → (v ≡ getD image j 0 → ⊥) → loading (set image j v) target ds ≡ declined 63 (blockSize * (j / blockSize))
   unfolding loading
   changed-refused image target j v l sound t each h small new =
       let other = set image j v in
@@ -156,7 +156,7 @@ module _ (text image target got : List ℕ) (each : Bytes image) (k : Keeps text
       ap imageOf (is .is) ∙ image-of-held (carriersSize ds) image (is .sized) each (is .sound)
 
   pub changed-byte : (target′ : List ℕ) (j v : ℕ) → j < length image → v < 256 → (v ≡ getD image j 0 → ⊥) → length target′ ≡ length target
-      → Keeps text (loading (set image j v) target′) (refusal 63 (blockSize * (j / blockSize)))
+      → Keeps text (loading (set image j v) target′) (declined 63 (blockSize * (j / blockSize)))
   changed-byte target′ j v h small new same =
       let r = read-by k refl in
       let ds = declarations (r .description) in

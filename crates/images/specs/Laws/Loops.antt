@@ -11,7 +11,7 @@ use borrow.Author.Fill.{fill-none, fill-more}
 use lib.Dec.{eqb}
 use lib.ListN.{length, getD, take, drop, set, replicate, length-set, drop-of-length-le}
 use lib.Seq.{drop-cons, drop-length, paste, paste-zero, paste-suc}
-use Rattle.images.specs.Images.{checkedSize, weighed, checkOf, allZero}
+use Rattle.rules.specs.Images.{checkedSize, weighed, checkOf, allZero}
 
 -- i bytes are copied
 pub record Copied (before : List ℕ) (at : ℕ) (from now : List ℕ) (i : ℕ) : Type 0 where

@@ -14,7 +14,7 @@ use Rattle.cells.specs.Cells.{leAt, putAt, cell, putCell}
 use Rattle.rules.specs.Answers.{littleEndian, bytesOf}
 use Rattle.starts.specs.Laws.Buffers.{number-at}
 use Rattle.lent.specs.Laws.Bytes.{put-behind, byte-step}
-use Rattle.images.specs.Images.{payloadSize, headSize, checkedSize, blockSize, edition, frontOf, blockOf, checkOf, isFormed, allZero}
+use Rattle.rules.specs.Images.{payloadSize, headSize, checkedSize, blockSize, edition, frontOf, blockOf, checkOf, isFormed, allZero}
 use Rattle.images.specs.Laws.Sums.{length-bytes}
 use Rattle.images.specs.Laws.Blocks.{length-front}
 

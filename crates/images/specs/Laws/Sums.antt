@@ -9,7 +9,7 @@ use lib.ListN.{length, getD, take, drop, set, length-set}
 use lib.Seq.{take-all, getD-set-same}
 use Rattle.rules.specs.Answers.{littleEndian, bytesOf}
 use Rattle.starts.specs.Laws.Buffers.{bytes-back}
-use Rattle.images.specs.Images.{weighed, checkOf}
+use Rattle.rules.specs.Images.{weighed, checkOf}
 
 -- every element is a byte
 abbrev pub Bytes : List ℕ → Type 0

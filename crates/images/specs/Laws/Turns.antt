@@ -11,7 +11,7 @@ use borrow.Rule.Slice.PartMut.{putMid, postOf, same-len-mid}
 use lib.ListN.{length, take, drop, length-append, length-take, length-drop, drop-of-length-le, take-append-drop}
 use lib.Seq.{length-take-le, take-all, take-at, drop-drop, take-length, paste, take-paste, length-paste}
 use Rattle.rules.specs.Faults.Fault.{Fault, fault}
-use Rattle.images.specs.Images.{payloadSize, headSize, checkedSize, blockSize, blockOf, blocksFrom, blocksFor, imageSize, imageOf, isChecked, isFormed, faultBy, blockFault, orFault, blocksFault, imageFault, heldFrom, heldIn}
+use Rattle.rules.specs.Images.{payloadSize, headSize, checkedSize, blockSize, blockOf, blocksFrom, blocksFor, imageSize, imageOf, isChecked, isFormed, faultBy, blockFault, orFault, blocksFault, imageFault, heldFrom, heldIn}
 use Rattle.images.specs.Laws.Blocks.{length-block}
 
 -- so many blocks of an image, i of them passed

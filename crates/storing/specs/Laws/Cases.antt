@@ -16,8 +16,8 @@ use Rattle.rules.specs.Faults.Fault.{Fault, fault}
 use Rattle.rules.specs.Faults.Whole.{mainName}
 use Rattle.rules.specs.Answers.{Result, ended, resultOf, startOr61, runOn, wordsFrom, wordLengths, longWord}
 use Rattle.rules.specs.Answers.{refusal as not-run}
-use Rattle.images.specs.Images.{imageSize, imageOf, blocksFor, imageFault, heldIn}
-use Rattle.images.specs.Keeping.{Kept, refusal, kept, refusedOr, faultUnless, at61, carriersSize, fault60, fault61, fault62, storing, loading, Keeps, not-accepted, kept-by, keptIn}
+use Rattle.rules.specs.Images.{imageSize, imageOf, blocksFor, imageFault, heldIn}
+use Rattle.rules.specs.Keeping.{Kept, declined, kept, refusedOr, faultUnless, at61, carriersSize, fault60, fault61, fault62, storing, loading, Keeps, not-accepted, kept-by, keptIn}
 use Rattle.starts.specs.Starts.{Starts, begins, declines, Begins, Declines}
 use Rattle.reader.specs.Parsed.{Refuses}
 use Rattle.reader.specs.Judged.{Judges, refuses, accepts, Accepts}
@@ -35,7 +35,7 @@ use Rattle.storing.specs.declared.endings.Ending.{Ending}
 use Rattle.storing.specs.declared.endings.Ending.the-variants.{Refused, Declined, Done}
 
 -- a refusal, and bytes that are written
-declined-as : (x : Kept) (target : List ℕ) (m p : ℕ) → x ≡ refusal m p → OfBuffer m p → Keeping x target target (Declined m p)
+declined-as : (x : Kept) (target : List ℕ) (m p : ℕ) → x ≡ declined m p → OfBuffer m p → Keeping x target target (Declined m p)
 declined-as x target m p e near = record { is = sym e; left-is = sym (ap (keptIn target) e); near = near }
 
 done-as : (x : Kept) (target left : List ℕ) → x ≡ kept left → Keeping x target left Done
@@ -53,21 +53,21 @@ module _ (ds : Table) (carriers : List ℕ) where
   result = resultOf (run ds (mainName ds) 0 (wordsFrom (totalWords ds) carriers))
 
   run-refused : {m p : ℕ} → Declines ds carriers m p → (k : Kept)
-      → (refusedOr (fault60 ds carriers) (refusedOr (fault61 ds carriers) k) ≡ refusal m p) × OfBuffer m p
+      → (refusedOr (fault60 ds carriers) (refusedOr (fault61 ds carriers) k) ≡ declined m p) × OfBuffer m p
   unfolding runOn fault60 fault61
   run-refused {m} {p} d k = by (eqb (length carriers) (8 * totalWords ds)) long (d .refuses 0)
     where
       by : (t : Bool) (o : Option ℕ) → elim t [ false ↦ not-run 60 0 | true ↦ startOr61 o result ] ≡ not-run m p
-          → (refusedOr (faultUnless t 60 0) (refusedOr (at61 o) k) ≡ refusal m p) × OfBuffer m p
+          → (refusedOr (faultUnless t 60 0) (refusedOr (at61 o) k) ≡ declined m p) × OfBuffer m p
       by false o e =
           let x : 60 ≡ m = cc in
           let y : 0 ≡ p = cc in
-          (ap₂ refusal x y, record { least = omega arith; most = omega arith; near = omega arith })
+          (ap₂ declined x y, record { least = omega arith; most = omega arith; near = omega arith })
       by true none e = let z : _≡_ {A = ℕ} 0 1 = cc in absurd (omega arith)
       by true (some o) e =
           let x : 61 ≡ m = cc in
           let y : o ≡ p = cc in
-          (ap₂ refusal x y, record { least = omega arith; most = omega arith; near = omega (arith, d .near) })
+          (ap₂ declined x y, record { least = omega arith; most = omega arith; near = omega (arith, d .near) })
 
   run-begun : Begins ds carriers → (fault60 ds carriers ≡ none) × (fault61 ds carriers ≡ none)
   unfolding runOn fault60 fault61
@@ -180,7 +180,7 @@ module _ (ds : Table) (image carriers : List ℕ) where
 -- the whole
 pub refused-answer : {text : List ℕ} {call : Table → Kept} {target : List ℕ} {m p : ℕ} → Refuses text m p → Answered text call target target (Refused m p)
 refused-answer {target = target} {m} {p} r = record {
-  result = refusal m p;
+  result = declined m p;
   keeps = not-accepted (r .checks);
   keeping = record { is = refl; left-is = refl; near = r .near };
 }

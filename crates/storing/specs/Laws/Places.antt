@@ -8,7 +8,7 @@ use mathlib.Core.Option.{Option, none, some}
 use native.Mathlib.Omega.{arith}
 use lib.ListN.{take, drop}
 use Rattle.rules.specs.Faults.Fault.{Fault, fault}
-use Rattle.images.specs.Images.{payloadSize, blockSize, checkedSize, isChecked, isFormed, faultBy, orFault, blocksFault}
+use Rattle.rules.specs.Images.{payloadSize, blockSize, checkedSize, isChecked, isFormed, faultBy, orFault, blocksFault}
 
 pub record OfBlock (end : ℕ) (f : Fault) : Type 0 where
   pub least : 63 ≤ f .number

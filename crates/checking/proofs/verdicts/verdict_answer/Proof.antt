@@ -8,7 +8,7 @@ use Rattle.checking.proofs.verdicts.verdict_answer.Statement.{statement
 use Rattle.checking.proofs.verdicts.verdict_answer.Tie as tie
 
 refusal-requires : tie.Need-refusal-requires
-refusal-requires c κs = refused-near (c .before .before .before .before .pre) (c .before .v .given .1)
+refusal-requires c κs = omega (arith, refused-near (c .before .before .before .before .pre) (c .before .v .given .1))
 
 cast-t8 : tie.Need-cast-t8
 cast-t8 c = omega (arith, accepted-near (c .before .before .before .before .pre) (c .before .v2 .given .1) .0)

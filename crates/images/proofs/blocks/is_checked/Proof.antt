@@ -5,7 +5,7 @@ use mathlib.Core.Path.{sym, ap₂}
 use native.Mathlib.Omega.{arith}
 use lib.Dec.{eqb}
 use lib.Seq.{length-take-le}
-use Rattle.images.specs.Images.{isChecked}
+use Rattle.rules.specs.Images.{isChecked}
 use Rattle.images.proofs.blocks.is_checked.Statement.{statement}
 use Rattle.images.proofs.blocks.is_checked.Tie as tie
 

@@ -2,7 +2,7 @@
 -- Assumes nothing.
 use borrow.Author.Needs.{needs}
 use mathlib.Core.Path.{refl}
-use Rattle.images.specs.Images.{blocksFor}
+use Rattle.rules.specs.Images.{blocksFor}
 use Rattle.images.proofs.images.blocks_for.Statement.{statement}
 use Rattle.images.proofs.images.blocks_for.Tie as tie
 

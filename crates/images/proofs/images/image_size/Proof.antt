@@ -2,7 +2,7 @@
 -- Assumes nothing.
 use borrow.Author.Needs.{needs}
 use native.Mathlib.Omega.{arith}
-use Rattle.images.specs.Images.{blocksFor}
+use Rattle.rules.specs.Images.{blocksFor}
 use Rattle.images.proofs.images.image_size.Statement.{statement}
 use Rattle.images.proofs.images.image_size.Tie as tie
 

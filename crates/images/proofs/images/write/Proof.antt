@@ -3,7 +3,7 @@
 use borrow.Author.Needs.{needs}
 use Prim.Native.Nat.{ℕ, _-_, _*_}
 use mathlib.Core.Path.{sym, ap, _∙_}
-use Rattle.images.specs.Images.{blockSize}
+use Rattle.rules.specs.Images.{blockSize}
 use native.Mathlib.Omega.{arith}
 use Rattle.images.specs.Laws.Turns.{Writing, none-written, block-whole, part-short, more-written, all-written}
 use Rattle.images.proofs.images.write.Statement.{statement}

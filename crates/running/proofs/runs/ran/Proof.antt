@@ -1,5 +1,6 @@
 -- `running::runs::ran` meets its contract: the text's refusal, or what becomes of the carriers.
 -- Assumes nothing.
+use native.Mathlib.Omega.{arith}
 use borrow.Author.Needs.{needs}
 use Rattle.reader.specs.Laws.Cases.{refuses-by, accepts-by}
 use Rattle.running.specs.Laws.Outcome.{refused-text}
@@ -7,7 +8,7 @@ use Rattle.running.proofs.runs.ran.Statement.{statement}
 use Rattle.running.proofs.runs.ran.Tie as tie
 
 refusal-requires : tie.Need-refusal-requires
-refusal-requires c κs = refuses-by (c .before .before .before .before .before .before .before .before .before .before .check .ensures) (c .before .number .given .1) .near
+refusal-requires c κs = omega (arith, refuses-by (c .before .before .before .before .before .before .before .before .before .before .check .ensures) (c .before .number .given .1) .near)
 
 run-accepted-requires : tie.Need-run-accepted-requires
 run-accepted-requires c κs = (accepts-by (c .before .before .before .before .before .before .before .before .before .before .before .before .before .before .before .check .ensures) (c .before .before .before .before .before .before .m .given .1), search needs)

@@ -1,5 +1,6 @@
 -- `running::runs::run_accepted` meets its contract: the carriers' refusal, or the run.
 -- Assumes nothing.
+use native.Mathlib.Omega.{arith}
 use borrow.Author.Needs.{needs}
 use Rattle.starts.specs.Laws.Cases.{declines-by, begins-by}
 use Rattle.running.specs.Laws.Outcome.{refused-carriers}
@@ -10,7 +11,7 @@ refusal-requires : tie.Need-refusal-requires
 refusal-requires c κs =
     let s = c .before .before .before in
     let v = s .before .before .before .before .before .before .before .before .before .before .pre .0 .1 in
-    declines-by (s .start .ensures _ _ _ (v .lawful .declares .ready)) (c .before .number .given .1) .near
+    omega (arith, declines-by (s .start .ensures _ _ _ (v .lawful .declares .ready)) (c .before .number .given .1) .near)
 
 run-started-requires : tie.Need-run-started-requires
 run-started-requires c κs =

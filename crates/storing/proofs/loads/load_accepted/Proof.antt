@@ -4,7 +4,7 @@ use borrow.Author.Needs.{needs}
 use native.Mathlib.Omega.{arith}
 use Prim.Native.Nat.{ℕ, _*_}
 use mathlib.Core.Path.{sym, ap, _∙_}
-use Rattle.images.specs.Images.{imageSize}
+use Rattle.rules.specs.Images.{imageSize}
 use Rattle.storing.specs.Kept.{tableOf}
 use Rattle.storing.specs.Laws.Cases.{load-60, load-62, load-block, load-sound, judged-refused, judged-fine}
 use Rattle.storing.proofs.loads.load_accepted.Statement.{statement}

@@ -5,7 +5,7 @@ use native.Mathlib.Omega.{arith}
 use mathlib.Core.Path.{sym, ap, _∙_}
 use lib.ListN.{length}
 use lib.Seq.{length-take-le}
-use Rattle.images.specs.Images.{imageSize}
+use Rattle.rules.specs.Images.{imageSize}
 use Rattle.starts.specs.Laws.Cases.{declines-by, begins-by}
 use Rattle.storing.specs.Kept.{tableOf}
 use Rattle.storing.specs.Laws.Cases.{same-held, taken-declined, taken-done}

@@ -6,21 +6,21 @@ use mathlib.Core.List.{List, [], _∷_}
 use mathlib.Core.Option.{Option, none, some}
 use lib.Dec.{eqb}
 use lib.ListN.{length}
 use Rattle.rules.specs.Text.Scan.{scan}
 use Rattle.rules.specs.Grammar.Trees.{Description, flatten}
 use Rattle.rules.specs.Declarations.{Table, declarations, totalWords}
 use Rattle.rules.specs.Faults.Fault.{Fault, fault}
 use Rattle.rules.specs.Answers.{accepted, refused, Checks, wordsFrom, wordLengths, longWord}
-use Rattle.images.specs.Images.{imageSize, imageOf, imageFault, heldIn}
+use Rattle.rules.specs.Images.{imageSize, imageOf, imageFault, heldIn}
 
 -- refused, with a number and a place; or the bytes that the buffer to be written takes
 pub data Kept : Type 0 where
-  refusal : ℕ → ℕ → Kept
+  declined : ℕ → ℕ → Kept
   kept : List ℕ → Kept
 
 abbrev pub refusedOr : Option Fault → Kept → Kept
 refusedOr none k = k
-refusedOr (some f) k = refusal (f .number) (f .place)
+refusedOr (some f) k = declined (f .number) (f .place)
 
 abbrev pub faultUnless : Bool → ℕ → ℕ → Option Fault
 faultUnless true m p = none
@@ -62,10 +62,10 @@ loading image carriers ds =
 
 -- "Refusals: the text's own", then those of the call
 pub data Keeps (text : List ℕ) (call : Table → Kept) : Kept → Type 0 where
-  not-accepted : {m p : ℕ} → Checks text (refused m p) → Keeps text call (refusal m p)
+  not-accepted : {m p : ℕ} → Checks text (refused m p) → Keeps text call (declined m p)
   kept-by : {n w : ℕ} (d : Description) → flatten d ≡ scan text .tokens → Checks text (accepted n w) → Keeps text call (call (declarations d))
 
--- "a refusal changes neither buffer"
+-- "a declined changes neither buffer"
 abbrev pub keptIn : List ℕ → Kept → List ℕ
-keptIn target (refusal m p) = target
+keptIn target (declined m p) = target
 keptIn target (kept bytes) = bytes
