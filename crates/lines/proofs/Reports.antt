@@ -5,11 +5,12 @@ use mathlib.Core.Path.{_≡_, refl}
 use mathlib.Core.List.{List, _++_}
 use native.Mathlib.Omega.{arith}
 use borrow.Author.Tests.{eq-eqb, ne-eqb}
+use lib.Dec.{eqb}
 use Rattle.rules.specs.Text.Bytes.{bytes}
 use Rattle.cells.specs.Cells.{leAt, cell}
 use Rattle.lines.specs.Appended.{Appended}
 use Rattle.lines.specs.Endings.{labelled, endingBytes}
-use Rattle.lines.specs.Answers.{endingIn}
+use Rattle.lines.specs.Answers.{unless12}
 
 -- two cells of 16 bits are one of 32
 pub two-cells : (b : List ℕ) (i : ℕ) {x y : ℕ} → x ≡ cell 2 b (2 * i) → y ≡ cell 2 b (2 * i + 1) → x + 65536 * y ≡ cell 4 b i
@@ -19,15 +20,16 @@ two-cells b i e f =
     let high : 2 * (2 * i + 1) ≡ 4 * i + 1 + 1 = omega arith in
     omega (arith, rw low at e, rw high at f)
 
-module _ (number : ℕ) (answer : List ℕ) where
-  pub unwritten-1 : number ≡ 1 → 4 ≡ endingIn number answer
-  unwritten-1 e = rw (eq-eqb number 1 e)
+-- the refusals 1 and 2, and what is written otherwise
+module _ (number u e : ℕ) where
+  pub unwritten-1 : number ≡ 1 → u ≡ unless12 (eqb number 1) (eqb number 2) u e
+  unwritten-1 h = rw (eq-eqb number 1 h)
 
-  pub unwritten-2 : (number ≡ 1 → ⊥) → number ≡ 2 → 4 ≡ endingIn number answer
-  unwritten-2 d e = rw (ne-eqb number 1 d, eq-eqb number 2 e)
+  pub unwritten-2 : (number ≡ 1 → ⊥) → number ≡ 2 → u ≡ unless12 (eqb number 1) (eqb number 2) u e
+  unwritten-2 d h = rw (ne-eqb number 1 d, eq-eqb number 2 h)
 
-  pub written : {r : ℕ} → (number ≡ 1 → ⊥) → (number ≡ 2 → ⊥) → r ≡ cell 4 answer 0 → r ≡ endingIn number answer
-  written d f e = rw (ne-eqb number 1 d, ne-eqb number 2 f) e
+  pub written : {r : ℕ} → (number ≡ 1 → ⊥) → (number ≡ 2 → ⊥) → r ≡ e → r ≡ unless12 (eqb number 1) (eqb number 2) u e
+  written d f h = rw (ne-eqb number 1 d, ne-eqb number 2 f) h
 
 module _ (e n p s : ℕ) {before after : List ℕ} {at r : ℕ} where
   pub is-done : e ≡ 0 → Appended before after at r (labelled (bytes "done ") s) → Appended before after at r (endingBytes e n p s)

@@ -1,4 +1,4 @@
--- How a run ended, as it is written, by the numbers of its answer.
+-- How a run ended, and a refusal for people, as they are written, by the numbers of the answer.
 use Prim.Native.Nat.{ℕ, zero, suc}
 use mathlib.Core.List.{List, _++_}
 use Rattle.rules.specs.Text.Bytes.{bytes}
@@ -16,3 +16,7 @@ endingBytes (suc (suc zero)) number place steps = labelled (bytes "paused ") ste
 endingBytes (suc (suc (suc zero))) number place steps =
     labelled (bytes "fault ") number ++ (labelled (bytes " ") place ++ labelled (bytes " ") steps)
 endingBytes (suc (suc (suc (suc more)))) number place steps = labelled (bytes "refused ") number ++ labelled (bytes " ") place
+
+-- `LINE:COLUMN: refused NUMBER`, as compilers write it
+abbrev pub refusedBytes : ℕ → ℕ → ℕ → List ℕ
+refusedBytes line column number = decimalBytes line ++ (labelled (bytes ":") column ++ labelled (bytes ": refused ") number)

@@ -4,7 +4,7 @@ ghost use mathlib.Core.Path.{_≡_};
 ghost use Prim.Native.Nat.{_+_, _*_, _≤_};
 ghost use lib.ListN.{length};
 ghost use Rattle.cells.specs.Cells.{cell};
-ghost use Rattle.lines.specs.Answers.{endingIn, Reads};
+ghost use Rattle.lines.specs.Answers.{endingIn, countIn, Reads};
 
 pub const REFUSED: u64 = 4;
 
@@ -15,6 +15,8 @@ pub struct Answer {
     pub steps: u64,
     pub declarations: u64,
     pub words: u64,
+    pub line: u64,
+    pub column: u64,
 }
 
 // The number i.
@@ -38,6 +40,20 @@ fn ending_in(number: u64, answer: &[u8]) -> u64
     get32(answer, 0)
 }
 
+// The line or the column, which is the number i.
+fn count_in(number: u64, answer: &[u8], i: usize) -> u64
+    requires { ⌜ 4 * i + 4 ≤ length (now answer) ⌝ }
+    ensures { λ r. ⌜ r ≡ countIn number (now (answer .entry)) i ⌝ }
+{
+    if number == 1 {
+        return 1;
+    }
+    if number == 2 {
+        return 1;
+    }
+    get32(answer, i)
+}
+
 // What a call answers by the number that it returns and the eight that it writes.
 pub fn answer_of(number: u32, answer: &[u8]) -> Answer
     requires { ⌜ 32 ≤ length (now answer) ⌝ }
@@ -50,5 +66,7 @@ pub fn answer_of(number: u32, answer: &[u8]) -> Answer
         steps: get32(answer, 3),
         declarations: get32(answer, 4),
         words: get32(answer, 5),
+        line: count_in(number as u64, answer, 6),
+        column: count_in(number as u64, answer, 7),
     }
 }

@@ -3,3 +3,4 @@ pub mod answers;
 pub mod bytes;
 pub mod digits;
 pub mod endings;
+pub mod refusals;
