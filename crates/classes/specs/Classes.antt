@@ -5,7 +5,7 @@ use mathlib.Core.Bool.{Bool, _&&_, not}
 use mathlib.Core.List.{List}
 use lib.Dec.{eqb}
 use lib.ListN.{length, getD, drop}
-use Rattle.rules.specs.Text.Bytes.{classNo, classOf, run}
+use Rattle.rules.specs.Text.Bytes.{classNo, classOf, leading}
 
 -- a table of the class number of each byte
 pub record Classed (classes : List ℕ) : Type 0 where
@@ -17,5 +17,5 @@ among set b = not (eqb b 10) && eqb (set / 2 ^ classNo (classOf b) % 2) 1
 
 -- the run that starts at `from` ends at r
 pub record RunEnds (set : ℕ) (text : List ℕ) (from r : ℕ) : Type 0 where
-  pub ends : r ≡ from + length (run (among set) (drop from text))
+  pub ends : r ≡ from + length (leading (among set) (drop from text))
   pub within : r ≤ length text

@@ -2,14 +2,14 @@
 -- Assumes nothing.
 use Prim.Native.Nat.{ℕ, zero, suc, _+_, _-_, _<_, _≤_}
 use mathlib.Core.Path.{_≡_, refl, sym, ap, _∙_}
-use mathlib.Core.Bool.{Bool, true, false}
+use mathlib.Core.Bool.{Bool, true, false, _||_}
 use mathlib.Core.Logic.{_⊎_, inl, inr}
 use native.Mathlib.Omega.{arith}
 use native.Mathlib.Numerals.{add-one}
 use borrow.Author.Tests.{ne-eqb}
 use lib.Dec.{eqb}
 use Rattle.rules.specs.Text.Tokens.{Kind, kindNo, same, Comma, LPar, LBra, BEGIN, RPar, RBra, END}
-use Rattle.rules.specs.Grammar.Verdict.{either, opens, closes, down, counted-by, count}
+use Rattle.rules.specs.Grammar.Verdict.{opens, closes, down, counted-by, count}
 use Rattle.declare.specs.Skipping.{noneOpen, ends}
 
 abbrev Opener : ℕ → Type 0
@@ -72,7 +72,7 @@ all-shut true (suc d) h = absurd (omega arith)
 module _ (x d : ℕ) where
   pub held : 0 < d → (k : Kind) → x ≡ kindNo k → false ≡ ends d k
   unfolding ends
-  held h k e = sym (none-open (either (closes k) (same Comma k)) d h)
+  held h k e = sym (none-open (closes k || same Comma k) d h)
 
   pub ended : d ≤ 0 → Ender x → (k : Kind) → x ≡ kindNo k → true ≡ ends d k
   unfolding ends closes

@@ -1,8 +1,8 @@
 -- A declaration ends at the first `,` or END that no bracket of its own holds.
 use Prim.Native.Nat.{ℕ, zero, suc}
-use mathlib.Core.Bool.{Bool, true, false}
+use mathlib.Core.Bool.{Bool, true, false, _||_}
 use Rattle.rules.specs.Text.Tokens.{Kind, same, Comma}
-use Rattle.rules.specs.Grammar.Verdict.{either, closes}
+use Rattle.rules.specs.Grammar.Verdict.{closes}
 
 abbrev pub noneOpen : Bool → ℕ → Bool
 noneOpen false d = false
@@ -11,4 +11,4 @@ noneOpen true (suc d) = false
 
 -- a `,` or a closer, with none of d brackets open
 unfoldable pub ends : ℕ → Kind → Bool
-ends d k = noneOpen (either (closes k) (same Comma k)) d
+ends d k = noneOpen (closes k || same Comma k) d

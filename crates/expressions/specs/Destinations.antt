@@ -8,7 +8,8 @@ use Rattle.rules.specs.Text.Tokens.{Name, Equals, Info, tk}
 use Rattle.rules.specs.Grammar.Trees.{Tokens, Bits, bitsTokens, Subscript, subscriptTokens, Joined, joinedTokens}
 use Rattle.rules.specs.Declarations.{reach}
 use Rattle.rules.specs.Faults.Fault.{Fault}
-use Rattle.rules.specs.Faults.Bodies.{judgeDestination, judgeJoined, ownerOf, storedTwice}
+use Rattle.rules.specs.Faults.Bodies.{judgeDestination, judgeJoined, storedTwice}
+use Rattle.rules.specs.Whole.Sets.{ownerIn}
 use Rattle.laws_grammar.specs.Cited.Nesting.{subscriptNest, joinedNest}
 use Rattle.table.specs.Keys.{leastKey, Smalls}
 use Rattle.expressions.specs.declared.destinations.Checked.{Checked}
@@ -34,7 +35,7 @@ module _ {records values decls : List ℕ} {i depth : ℕ} (v : DestinationAt re
   abbrev pub destinationFaults : List Fault
   destinationFaults =
       judgeJoined (outerOf (v .scene)) (tableOf (v .scene)) (judgeDestination (outerOf (v .scene)) (tableOf (v .scene)) (v .name) (v .subscript) (v .bits)) (v .joined)
-      ++ storedTwice (outerOf (v .scene)) (tableOf (v .scene)) (ownerOf (outerOf (v .scene)) (tableOf (v .scene)) (reach (tableOf (v .scene)) (v .name .word))) (v .joined)
+      ++ storedTwice (outerOf (v .scene)) (tableOf (v .scene)) (ownerIn (reach (tableOf (v .scene)) (v .name .word))) (v .joined)
 
   pub record DestinationAnswer (r : Checked) : Type 0 where
     pub key : r .key ≡ leastKey destinationFaults

@@ -5,7 +5,7 @@ use mathlib.Core.List.{List, [], _∷_}
 use lib.ListN.{length}
 use Rattle.rules.specs.Text.Tokens.{Name, Info, tk}
 use Rattle.rules.specs.Declarations.{reach}
-use Rattle.rules.specs.Faults.Bodies.{ownerOf}
+use Rattle.rules.specs.Whole.Sets.{ownerIn}
 use Rattle.table.specs.Holds.{tokenAt}
 use Rattle.expressions.specs.declared.owners.Storage.{Storage}
 use Rattle.expressions.specs.declared.owners.Storage.the-variants.{Carrier, Nothing}
@@ -29,7 +29,7 @@ Numbered Nothing = Unit {0}
 
 -- as the rules have them: none or one
 abbrev pub ownersOf : {records values decls : List ℕ} {i : ℕ} → NameHere records values decls i → List ℕ
-ownersOf v = ownerOf (outerOf (v .scene)) (tableOf (v .scene)) (reach (tableOf (v .scene)) (v .name .word))
+ownersOf v = ownerIn (reach (tableOf (v .scene)) (v .name .word))
 
 pub record Owns {records values decls : List ℕ} {i : ℕ} (v : NameHere records values decls i) (r : Storage) : Type 0 where
   pub are : owners r ≡ ownersOf v

@@ -5,7 +5,7 @@ use mathlib.Core.List.{[], _++_}
 use Rattle.rules.specs.Text.Tokens.{Info, Op}
 use Rattle.rules.specs.Values.{opBits}
 use Rattle.rules.specs.Limits.{mostBits}
-use Rattle.rules.specs.Faults.Bodies.{Judged, judged, over}
+use Rattle.rules.specs.Faults.Bodies.{Judged, judgedAs, over}
 use Rattle.table.specs.Keys.{noKey, leastKey, Smalls}
 
 -- its faults have keys, its length fits, and is 0 just where it has a fault
@@ -22,4 +22,4 @@ pub record Weighs (k n : ℕ) (j : Judged) : Type 0 where
 
 -- an operator and its operands
 abbrev pub operated : Op → Info → Judged → Judged → Judged
-operated o i a b = judged (over (a .faults ++ b .faults) (opBits o (a .bits) (b .bits)) (i .place)) (opBits o (a .bits) (b .bits))
+operated o i a b = judgedAs (over (a .faults ++ b .faults) (opBits o (a .bits) (b .bits)) (i .place)) (opBits o (a .bits) (b .bits))

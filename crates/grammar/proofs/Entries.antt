@@ -1,7 +1,7 @@
 -- A table that passes one computed test holds every row, and its entries are read back as the rows' moves.
 -- Assumes nothing.
 use mathlib.Core.Path.{_≡_, refl, sym, ap, _∙_, subst}
-use mathlib.Core.Bool.{Bool, true, false, not}
+use mathlib.Core.Bool.{Bool, true, false, not, _&&_}
 use mathlib.Core.Option.{Option, none, some}
 use mathlib.Core.List.{List, [], _∷_}
 use Prim.Native.Nat.{ℕ, zero, suc, _+_, _*_, _/_, _%_, _<_}
@@ -12,7 +12,6 @@ use lib.Dec.{T, eqb, ltb, leb→le, eqb→eq}
 use lib.ListN.{length, getD, drop}
 use lib.Seq.{getD-drop}
 use Rattle.rules.specs.Text.Tokens.{Kind, Name, kinds, kindAt}
-use Rattle.rules.specs.Grammar.Verdict.{both}
 use Rattle.laws_grammar.specs.Cited.Rows.{State, Move, go, open-to, shut, Row, row, lookup}
 use Rattle.grammar.specs.Places.{place}
 use Rattle.grammar.specs.Entries.{moveNo, Says, Ruled, nextOf}
@@ -26,7 +25,7 @@ pub record Within (p : ℕ) : Type 0 where
   pub ends : p + 41 < 1137
 
 within : State → Bool
-within s = both (ltb 0 (place s)) (ltb (place s + 41) 1137)
+within s = ltb 0 (place s) && ltb (place s + 41) 1137
 
 pub place-within : (s : State) → Within (place s)
 unfolding within
@@ -42,7 +41,7 @@ says entry k (some m) = eqb entry (k + 64 * moveNo m)
 abbrev says-row : Row → ℕ → List Kind → List ℕ → Bool
 says-row r j [] es = true
 says-row r j (k ∷ ks) [] = false
-says-row r j (k ∷ ks) (e ∷ es) = both (says e j (lookup r k)) (says-row r (suc j) ks es)
+says-row r j (k ∷ ks) (e ∷ es) = says e j (lookup r k) && says-row r (suc j) ks es
 
 abbrev says-state : List ℕ → State → Bool
 says-state table s = says-row (row s) 0 kinds (drop (place s) table)

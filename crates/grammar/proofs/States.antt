@@ -1,11 +1,10 @@
 -- A test that all states pass, computed over them one by one, holds of every state.
 -- Assumes nothing.
-use mathlib.Core.Bool.{Bool, true, false}
+use mathlib.Core.Bool.{Bool, true, false, _&&_}
 use mathlib.Core.List.{List, [], _∷_}
 use Prim.Native.Nat.{ℕ, zero, suc}
 use lib.Dec.{T}
 use lib.ListN.{getD}
-use Rattle.rules.specs.Grammar.Verdict.{both}
 use Rattle.laws_grammar.specs.Cited.Rows.{Site, Use, Part, Owner, State}
 use Rattle.laws_grammar.specs.Cited.Rows.{in-block, in-counted, in-selected, in-last, test, choose, value, in-parens, in-subscript, of-expression}
 use Rattle.laws_grammar.specs.Cited.Rows.{of-destination, of-mapping, of-words, of-name, of-main, title, title-becomes, title-begin, declaration, heading-name}
@@ -15,13 +14,13 @@ use Rattle.laws_grammar.specs.Cited.Rows.{action-name, jump-target, call-open, 
 use Rattle.laws_grammar.specs.Cited.Rows.{selector-second, selector-becomes, otherwise-becomes, list-item, list-item-rest, list-item-second, list-rest, operand, access-rest, access-bits}
 use Rattle.laws_grammar.specs.Cited.Rows.{bits-first, bits-more, bits-second, bits-close, part-done}
 
-pub both-parts : (a b : Bool) → T (both a b) → T a × T b
+pub both-parts : (a b : Bool) → T (a && b) → T a × T b
 both-parts true b t = (tt, t)
 both-parts false b t = absurd t
 
 abbrev all : List Bool → Bool
 all [] = true
-all (b ∷ bs) = both b (all bs)
+all (b ∷ bs) = b && all bs
 
 nth : (bs : List Bool) (i : ℕ) → T (all bs) → T (getD bs i true)
 nth [] i t = tt

@@ -12,7 +12,7 @@ use lib.ListN.{length, getD, set, drop, length-set}
 use lib.Seq.{drop-cons, drop-length, getD-set-same, getD-set-other}
 use Rattle.rules.specs.Text.Tokens.{Token, tk, Name, kindAt}
 use Rattle.rules.specs.Grammar.Trees.{Tokens}
-use Rattle.rules.specs.Grammar.Verdict.{blank}
+use Rattle.rules.specs.Grammar.Verdict.{anyInfo}
 use Rattle.laws_grammar.specs.Cited.Answer.{Answer, accepted, refused20, refused21}
 use Rattle.rules.specs.Limits.{deepest}
 use Rattle.laws_grammar.specs.Grammar.Kinds.{kindAt-kindNo}
@@ -121,12 +121,12 @@ module _ {bytes : List ℕ} {n : ℕ} {a : List ℕ} {m i kind : ℕ} where
       let σ = inner-of turn .rest in
       subst (Judged bytes n i σ) (sym (turn .moves s (inner-of turn .placed)))
       (judged bytes n i s σ (lookup (row s) (kindAt kind)) (λ ts stands.
-      let t = getD ts i (tk Name blank) in
+      let t = getD ts i (tk Name anyInfo) in
       let ts′ = drop (suc i) ts in
       let there : i < length ts = let h = turn .more in let l = stands .count in omega arith in
       let kind-is : t .kind ≡ kindAt kind = sym (kindAt-kindNo (t .kind)) ∙ ap kindAt (sym (turn .byte ∙ stands .stand i (turn .more))) in
       turn .reached .gives ts stands
-      ∙ ap (λ l. run l i (turn .reached .stack)) (drop-cons ts i (tk Name blank) there)
+      ∙ ap (λ l. run l i (turn .reached .stack)) (drop-cons ts i (tk Name anyInfo) there)
       ∙ ap (λ γ. run (t ∷ ts′) i γ) (inner-of turn .is)
       ∙ run-judges t ts′ i s σ
       ∙ ap (λ k. judge σ i (run ts′ (suc i)) s (lookup (row s) k)) kind-is))
@@ -208,9 +208,9 @@ module _ {bytes : List ℕ} {n : ℕ} {a : List ℕ} {m i : ℕ} (reached : Reac
       ap answerOf
       (sym
       (reached .gives ts stands
-      ∙ ap (λ x. run x i (reached .stack)) (drop-cons ts i (tk Name blank) there)
-      ∙ ap (run (getD ts i (tk Name blank) ∷ drop (suc i) ts) i) (held-none (reached .held) empty)
-      ∙ run-behind (getD ts i (tk Name blank)) (drop (suc i) ts) i))
+      ∙ ap (λ x. run x i (reached .stack)) (drop-cons ts i (tk Name anyInfo) there)
+      ∙ ap (run (getD ts i (tk Name anyInfo) ∷ drop (suc i) ts) i) (held-none (reached .held) empty)
+      ∙ run-behind (getD ts i (tk Name anyInfo)) (drop (suc i) ts) i))
 
   module _ (end : n ≤ i) where
     i-is : i ≡ n

@@ -5,7 +5,7 @@ use Prim.Native.Nat.{ℕ, _*_, _≤_, _<_}
 use lib.ListN.{length, getD}
 use Rattle.rules.specs.Text.Tokens.{tk, Name, kindNo}
 use Rattle.rules.specs.Grammar.Trees.{Tokens}
-use Rattle.rules.specs.Grammar.Verdict.{blank}
+use Rattle.rules.specs.Grammar.Verdict.{anyInfo}
 use Rattle.laws_grammar.specs.Cited.Answer.{Answer, accepted, refused20, refused21}
 use Rattle.laws_grammar.specs.Cited.Rows.{recognise}
 use Rattle.grammar.specs.declared.Recognised.{Recognised}
@@ -23,7 +23,7 @@ pub record Records (bytes : List ℕ) (n : ℕ) : Type 0 where
 -- the n records are those of the tokens ts, as far as the kinds go
 pub record KindsStand (ts : Tokens) (bytes : List ℕ) (n : ℕ) : Type 0 where
   pub count : length ts ≡ n
-  pub stand : (i : ℕ) → i < n → kindByte bytes i ≡ kindNo (getD ts i (tk Name blank) .kind)
+  pub stand : (i : ℕ) → i < n → kindByte bytes i ≡ kindNo (getD ts i (tk Name anyInfo) .kind)
 
 abbrev pub answerOf : Answer → Recognised
 answerOf accepted = Accepted

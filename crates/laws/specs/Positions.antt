@@ -9,7 +9,7 @@ use native.Mathlib.Decide.{ℕ-discrete, decLt}
 use borrow.Author.Tests.{eq-eqb, ne-eqb}
 use lib.Dec.{eqb}
 use lib.ListN.{length, getD, drop, length-drop}
-use Rattle.rules.specs.Positions.{Position, position, lineEnd, origin, behind, after, positionAt, elsewhere, positionOf}
+use Rattle.rules.specs.Positions.{Position, position, lineEnd, origin, behind, further, positionAt, elsewhere, positionOf}
 use Rattle.rules.specs.Whole.Sets.{member}
 
 -- whether a number is among others, by the first of them
@@ -55,8 +55,8 @@ one-behind b p =
       | no n ↦ rw (line-goes-on b p n) (record { below = omega arith; right = λ z. refl })
     ]
 
-after-behind : (p : Position) (text : List ℕ) (n : ℕ) → n ≤ length text → Behind p (after p text n) n
-unfolding after
+after-behind : (p : Position) (text : List ℕ) (n : ℕ) → n ≤ length text → Behind p (further p text n) n
+unfolding further
 after-behind p text zero h = record { below = omega arith; right = λ e. omega arith }
 after-behind p [] (suc n) h = absurd (omega arith)
 after-behind p (b ∷ text) (suc n) h =
@@ -69,25 +69,25 @@ after-behind p (b ∷ text) (suc n) h =
     }
 
 -- an offset in two parts
-after-sum : (p : Position) (text : List ℕ) (n k : ℕ) → n + k ≤ length text → after p text (n + k) ≡ after (after p text n) (drop n text) k
-unfolding after
-after-sum p text zero k h = let same : 0 + k ≡ k = omega arith in ap (after p text) same
+after-sum : (p : Position) (text : List ℕ) (n k : ℕ) → n + k ≤ length text → further p text (n + k) ≡ further (further p text n) (drop n text) k
+unfolding further
+after-sum p text zero k h = let same : 0 + k ≡ k = omega arith in ap (further p text) same
 after-sum p [] (suc n) k h = absurd (omega arith)
 after-sum p (b ∷ text) (suc n) k h =
     let more : suc n + k ≡ suc (n + k) = omega arith in
-    ap (after p (b ∷ text)) more ∙ after-sum (behind b p) text n k (omega arith)
+    ap (further p (b ∷ text)) more ∙ after-sum (behind b p) text n k (omega arith)
 
 -- one byte more, and the end
-pub after-one : (p : Position) (text : List ℕ) (n : ℕ) → n < length text → after p text (n + 1) ≡ behind (getD text n 0) (after p text n)
-unfolding after
+pub after-one : (p : Position) (text : List ℕ) (n : ℕ) → n < length text → further p text (n + 1) ≡ behind (getD text n 0) (further p text n)
+unfolding further
 after-one p [] n h = absurd (omega arith)
 after-one p (b ∷ text) zero h = refl
 after-one p (b ∷ text) (suc n) h =
     let more : suc n + 1 ≡ suc (n + 1) = omega arith in
-    ap (after p (b ∷ text)) more ∙ after-one (behind b p) text n (omega arith)
+    ap (further p (b ∷ text)) more ∙ after-one (behind b p) text n (omega arith)
 
-pub after-end : (p : Position) (text : List ℕ) (n : ℕ) → length text ≤ n → after p text n ≡ after p text (length text)
-unfolding after
+pub after-end : (p : Position) (text : List ℕ) (n : ℕ) → length text ≤ n → further p text n ≡ further p text (length text)
+unfolding further
 after-end p [] zero h = refl
 after-end p [] (suc n) h = refl
 after-end p (b ∷ text) zero h = absurd (omega arith)
@@ -98,9 +98,9 @@ ordered : (text : List ℕ) (m n : ℕ) → m ≤ n → n ≤ length text → po
 ordered text m n l h e =
     let k = n - m in
     let here = positionAt text m in
-    let split : positionAt text n ≡ after here (drop m text) k = ap (positionAt text) (omega arith) ∙ after-sum (position 1 1) text m k (omega arith) in
+    let split : positionAt text n ≡ further here (drop m text) k = ap (positionAt text) (omega arith) ∙ after-sum (position 1 1) text m k (omega arith) in
     let apart = after-behind here (drop m text) k (omega (arith, length-drop m text)) in
-    let same : here ≡ after here (drop m text) k = e ∙ split in
+    let same : here ≡ further here (drop m text) k = e ∙ split in
     omega (arith, apart .right (ap (λ p. p .line) same), ap (λ p. p .column) same)
 
 pub one-offset : (text : List ℕ) (m n : ℕ) → m ≤ length text → n ≤ length text → positionAt text m ≡ positionAt text n → m ≡ n

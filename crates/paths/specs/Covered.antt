@@ -9,7 +9,7 @@ use borrow.Author.Tests.{eq-eqb}
 use Rattle.rules.specs.Text.Scan.{sameBytes}
 use Rattle.rules.specs.Grammar.Precedence.{Expr}
 use Rattle.rules.specs.Declarations.{Name, Table}
-use Rattle.rules.specs.Steps.Actions.{Access, Act, seq, par, label, ins, Ins, iff, decode, repeat, leave, restart, call, stop, noop, transfer, Alts, end, alt, firstPlace}
+use Rattle.rules.specs.Steps.Actions.{Access, Act, seq, par, label, ins, Ins, iff, decode, repeat, leave, restart, call, stop, noop, transfer, Alts, end, alt, transferPlace}
 use Rattle.rules.specs.Steps.Control.{Live, one, seqL, both, left, right, labL, loopL, callL, start, Work, moves, tests, nothing}
 use Rattle.rules.specs.Steps.Control.{Sig, ends, goes, leaves, restarts, stops, faults, Mv, workI, work}
 use Rattle.rules.specs.Steps.Control.{seqS, bothL, bothR, leftS, rightS, labS, loopS, lost, callS, nextI}
@@ -219,7 +219,7 @@ module _ (ds : Table) (test : Name) (output : ℕ) (known : Name → Report) whe
   ins-writes R (call q) p s w = absurd w
   ins-writes R stop p s w = absurd w
   ins-writes R noop p s w = absurd w
-  ins-writes R (transfer d e) p s w = s .places p (rw (w .0) (or-left (eqb p (firstPlace d)) false (eq-eqb p (firstPlace d) (w .1))))
+  ins-writes R (transfer d e) p s w = s .places p (rw (w .0) (or-left (eqb p (transferPlace d)) false (eq-eqb p (transferPlace d) (w .1))))
 
   pub covers-writes : (R : Report) (r : Live) (m : Mv r) (p : ℕ) → Covers R r → Writes ds output (work r m) p → member p (R .places) ≡ true
   covers-writes R (one i) m p h w = ins-writes R i p h w

@@ -9,7 +9,7 @@ use Rattle.rules.specs.Text.Scan.{sameBytes}
 use Rattle.rules.specs.Text.Scan.{scan}
 use Rattle.rules.specs.Grammar.Trees.{Action, Description}
 use Rattle.rules.specs.Declarations.{Name, Table, declarations, bodyOf}
-use Rattle.rules.specs.Steps.Actions.{Access, Act, seq, par, label, ins, Ins, iff, decode, repeat, leave, restart, call, stop, noop, transfer, Alts, end, alt, firstPlace}
+use Rattle.rules.specs.Steps.Actions.{Access, Act, seq, par, label, ins, Ins, iff, decode, repeat, leave, restart, call, stop, noop, transfer, Alts, end, alt, transferPlace}
 use Rattle.rules.specs.Steps.Runs.{bodyAct}
 use Rattle.rules.specs.Whole.Sets.{member, stores}
 use Rattle.rules.specs.Limits.{longestChain}
@@ -60,7 +60,7 @@ module _ (test : Name) where
   activation p x = report (x .places) (not (sameBytes p test) && x .ends) (λ k. false)
 
 abbrev pub written : Table → ℕ → List Access → List ℕ
-written ds output d = cond (member output (stores ds d)) (firstPlace d ∷ []) []
+written ds output d = cond (member output (stores ds d)) (transferPlace d ∷ []) []
 
 module _ (ds : Table) (test : Name) (output : ℕ) where
   -- with what is known of the bodies

@@ -9,7 +9,7 @@ use borrow.Author.Tests.{eqb-true}
 use Rattle.rules.specs.Text.Scan.{sameBytes}
 use Rattle.rules.specs.Grammar.Precedence.{Expr}
 use Rattle.rules.specs.Declarations.{Name, Table}
-use Rattle.rules.specs.Steps.Actions.{Access, Act, seq, par, label, ins, Ins, iff, decode, repeat, leave, restart, call, stop, noop, transfer, Alts, end, alt, firstPlace}
+use Rattle.rules.specs.Steps.Actions.{Access, Act, seq, par, label, ins, Ins, iff, decode, repeat, leave, restart, call, stop, noop, transfer, Alts, end, alt, transferPlace}
 use Rattle.rules.specs.Steps.Control.{Live, one, seqL, both, left, right, labL, loopL, callL, start, workI}
 use Rattle.rules.specs.Steps.Control.{Sig, ends, goes, leaves, restarts, stops, faults, lost, nextI}
 use Rattle.rules.specs.Steps.Runs.{bodyAct}
@@ -158,9 +158,9 @@ module _ (ds : Table) (test : Name) (output : ℕ) where
           places = λ p h. found p (member output (stores ds d)) refl h;
         }
       where
-        found : (p : ℕ) (b : Bool) → member output (stores ds d) ≡ b → member p (cond b (firstPlace d ∷ []) []) ≡ true → Comes ds test output (one (transfer d e)) p
+        found : (p : ℕ) (b : Bool) → member output (stores ds d) ≡ b → member p (cond b (transferPlace d ∷ []) []) ≡ true → Comes ds test output (one (transfer d e)) p
         found p true w h =
-            let q : p ≡ firstPlace d = by (or-either (eqb p (firstPlace d)) false h) (eqb-true p (firstPlace d)) (λ z. absurd (false≢true z)) in
+            let q : p ≡ transferPlace d = by (or-either (eqb p (transferPlace d)) false h) (eqb-true p (transferPlace d)) (λ z. absurd (false≢true z)) in
             record { steps = 0; live = one (transfer d e); path = refl; move = tt; writes = (w, q) }
         found p false w h = absurd (false≢true h)
 

@@ -11,7 +11,7 @@ use Rattle.rules.specs.Answers.{judgement, placeOf, littleEndian, wordsFrom, by
 use Rattle.rules.specs.Declarations.{howMany, fromLeft, fromRight, bitCount, restOf, declarations, numberFrom, numberOf, storageWords, totalWords}
 use Rattle.rules.specs.Declarations.{firstWord, reachStorage, lowBit, reachOn, reachUnder, reachOf, reachNumber, reach, bodyNumber, bodyOf}
 use Rattle.rules.specs.Declarations.{accessLow, accessBits}
-use Rattle.rules.specs.Faults.Bodies.{judgeName, judgeAccess, judge, judgeFactor, judgeIndex, faultsIn, judgeJoined, owned, storedTwice}
+use Rattle.rules.specs.Faults.Bodies.{judgeName, judgeAccess, judge, judgeFactor, judgeIndex, faultsIn, judgeJoined, storedTwice}
 use Rattle.rules.specs.Faults.Bodies.{patternsMeet, reaches, itemsMeet, meetsAny, someMeet, past, countedFaults, selectedFaults, moreFaults}
 use Rattle.rules.specs.Faults.Bodies.{alternativesFaults, labels, memberLabels, alternativeLabels, countedLabels, selectedLabels, moreLabels}
 use Rattle.rules.specs.Faults.Bodies.{labelFaults, actionFaults, membersFaults, insideFaults, insideCounted, insideSelected, insideMore}
@@ -29,12 +29,12 @@ use Rattle.rules.specs.Steps.Control.{start, leftmost, workI, choose, nextI}
 use Rattle.rules.specs.Steps.Evaluation.{then, wordOr70, wordOf, fieldIn, fieldOf, evaluate, evaluateFactor, evaluateIndex, evaluateAccess}
 use Rattle.rules.specs.Steps.Evaluation.{evaluateAccesses, storeAll, transferred}
 use Rattle.rules.specs.Steps.Runs.{bodyAct, begin, runFrom, run}
-use Rattle.rules.specs.Text.Bytes.{classIn, classOf, inName, inConstant, inComment, fold, run as run-Bytes}
+use Rattle.rules.specs.Text.Bytes.{classIn, classOf, inName, inConstant, inComment, fold, leading as run-Bytes}
 use Rattle.rules.specs.Text.Constants.{digitBits, digitValue, isDigitOf, isBasedDigit, all, any, valueFrom, freeDigit, freeFrom, bitsFrom}
 use Rattle.rules.specs.Text.Constants.{decimalBits, decimal, based}
 use Rattle.rules.specs.Text.Scan.{sameBytes, wordKind, markAt, wordLexeme, constantLexeme, markLexeme, lexemeBy, lexeme, scanFrom, scan}
 use Rattle.rules.specs.Values.{opBits, bitwise, opNumber, operate, notNumber, inverse, field, withField, total, cut}
-use Rattle.rules.specs.Whole.Sets.{owner, readsOf, factorReads, indexReads, subscriptReads, stores, setsOf, setsI, setsAlts, bodySets, touched}
+use Rattle.rules.specs.Whole.Sets.{owner, readsOf, factorReads, indexReads, subscriptReads, stores, setsOf, setsI, setsAlts, bodySets, touched, member}
 use Rattle.rules.specs.Whole.Sets.{member, meet, race, stopsIn, stopsI, stopsAlts, bodyStops, mayStop, callsIn, callsI, callsAlts, anyName}
 use Rattle.rules.specs.Whole.Sets.{chainOver}
 use Rattle.laws_orders.specs.Orders.Orderly.{without, jumpsOut, jumpsI, jumpsAlts}
@@ -103,7 +103,7 @@ all-agree (c ∷ cs) =
 pub cases-agree : T (all-agree cases)
 unfolding judgement placeOf littleEndian wordsFrom bytesOf bufferOf wordLengths longWord runOn howMany fromLeft fromRight bitCount restOf
     declarations numberFrom numberOf storageWords totalWords firstWord reachStorage lowBit reachOn reachUnder reachOf reachNumber reach bodyNumber
-    bodyOf accessLow accessBits judgeName judgeAccess judge judgeFactor judgeIndex faultsIn judgeJoined owned storedTwice patternsMeet reaches
+    bodyOf accessLow accessBits judgeName judgeAccess judge judgeFactor judgeIndex faultsIn judgeJoined storedTwice patternsMeet reaches
     itemsMeet meetsAny someMeet past countedFaults selectedFaults moreFaults alternativesFaults labels memberLabels alternativeLabels countedLabels
     selectedLabels moreLabels labelFaults actionFaults membersFaults insideFaults insideCounted insideSelected insideMore declaredNames faults40
     isKnown twice large tooMany among inside badMapping mappings faults30 leastFrom least mains mainName chains racesAny groupFaults membersOf
@@ -129,7 +129,7 @@ whole-answer t a o = numbers (answer (bytes t) (bytes a) (bytes o))
 pub any-alternative : T (sameBytes (whole-answer "N := BEGIN A<63:0>, C<>, T := BEGIN NO.OP() END, MAIN GO := BEGIN DECODE A => BEGIN \"???????????????? := T(), OTHERWISE := NO.OP() END NEXT C = '1 END END" "T" "C") (92 ∷ 140 ∷ []))
 unfolding judgement placeOf littleEndian wordsFrom bytesOf bufferOf wordLengths longWord runOn howMany fromLeft fromRight bitCount restOf
     declarations numberFrom numberOf storageWords totalWords firstWord reachStorage lowBit reachOn reachUnder reachOf reachNumber reach bodyNumber
-    bodyOf accessLow accessBits judgeName judgeAccess judge judgeFactor judgeIndex faultsIn judgeJoined owned storedTwice patternsMeet reaches
+    bodyOf accessLow accessBits judgeName judgeAccess judge judgeFactor judgeIndex faultsIn judgeJoined storedTwice patternsMeet reaches
     itemsMeet meetsAny someMeet past countedFaults selectedFaults moreFaults alternativesFaults labels memberLabels alternativeLabels countedLabels
     selectedLabels moreLabels labelFaults actionFaults membersFaults insideFaults insideCounted insideSelected insideMore declaredNames faults40
     isKnown twice large tooMany among inside badMapping mappings faults30 leastFrom least mains mainName chains racesAny groupFaults membersOf

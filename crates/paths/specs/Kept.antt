@@ -6,10 +6,10 @@ use mathlib.Core.List.{List, map}
 use Rattle.rules.specs.Grammar.Precedence.{Expr}
 use Rattle.rules.specs.Values.{Value, cut}
 use Rattle.rules.specs.Declarations.{Name, Table}
-use Rattle.rules.specs.Steps.Actions.{Access, firstPlace}
+use Rattle.rules.specs.Steps.Actions.{Access, transferPlace}
 use Rattle.rules.specs.Steps.Evaluation.{Carriers, Outcome, gives, faulty, then, Field, storeAll, evaluate, evaluateAccesses, transferred}
 use Rattle.rules.specs.Steps.Control.{Live, callL, start, Work, moves, tests, nothing, Sig, ends, goes, leaves, restarts, stops, faults, Mv, work, nextI, next}
-use Rattle.rules.specs.Steps.Runs.{Conf, running, finished, stopped, fault, Worked, worked, moved, tested, perform, told, after, bodyAct, step, Steps, begin}
+use Rattle.rules.specs.Steps.Runs.{Conf, running, finished, stopped, failed, Worked, worked, moved, tested, perform, told, after, bodyAct, step, Steps, begin}
 use Rattle.rules.specs.Whole.Sets.{member, stores}
 use Rattle.rules.specs.Faults.Whole.{mainName}
 use Rattle.laws_orders.specs.Orders.Tests.{or-neither}
@@ -23,7 +23,7 @@ abbrev pub carriersIn : Conf → Carriers
 carriersIn (running r s) = s
 carriersIn (finished s) = s
 carriersIn (stopped s) = s
-carriersIn (fault m p s) = s
+carriersIn (failed m p s) = s
 
 module _ (ds : Table) (test : Name) (output : ℕ) where
   -- a transfer that goes through keeps each word that it does not store to
@@ -62,7 +62,7 @@ module _ (ds : Table) (test : Name) (output : ℕ) where
         ap (λ c. word c i) (moved-carriers s (transferred ds s d e)) ∙ transfer-by d e s (transferred ds s d e) refl (by (member output (stores ds d)) refl)
       where
         by : (b : Bool) → member output (stores ds d) ≡ b → member output (stores ds d) ≡ false
-        by true h = absurd (f (firstPlace d) (h, refl))
+        by true h = absurd (f (transferPlace d) (h, refl))
         by false h = h
     work-keeps (tests e) s f = ap (λ c. word c i) (tested-carriers s (evaluate ds s e))
     work-keeps nothing s f = refl
@@ -95,7 +95,7 @@ module _ (ds : Table) (test : Name) (output : ℕ) where
   last zero (running r s) d q = record { live = r; carriers = s; before = refl; move = q .0; lands = q .1; quiet = λ h. refl }
   last zero (finished s) d q = absurd q
   last zero (stopped s) d q = absurd q
-  last zero (fault m p s) d q = absurd q
+  last zero (failed m p s) d q = absurd q
   last (suc n) (running r s) d q =
       let l = last n (step ds r (q .0) s) d (q .1) in
       record {
@@ -111,7 +111,7 @@ module _ (ds : Table) (test : Name) (output : ℕ) where
       }
   last (suc n) (finished s) d q = absurd q
   last (suc n) (stopped s) d q = absurd q
-  last (suc n) (fault m p s) d q = absurd q
+  last (suc n) (failed m p s) d q = absurd q
 
   module _ (none-early : (p : ℕ) → ¬ TooEarly ds test output p) (s : Carriers) (i : ℕ) (its : ownerAt ds i ≡ output) where
     abbrev outsetC : Conf

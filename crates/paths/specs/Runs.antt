@@ -11,7 +11,7 @@ use Rattle.rules.specs.Steps.Evaluation.{Carriers, Outcome, gives, faulty}
 use Rattle.rules.specs.Steps.Control.{Live, one, seqL, both, left, right, labL, loopL, callL, start, workI}
 use Rattle.rules.specs.Steps.Control.{Sig, ends, goes, leaves, restarts, stops, faults, Mv, work, choose, pickS, nextI, next}
 use Rattle.rules.specs.Steps.Control.{seqS, bothL, bothR, leftS, rightS, labS, loopS, callS}
-use Rattle.rules.specs.Steps.Runs.{Conf, running, finished, stopped, fault, Worked, perform, told, after, bodyAct, step, Steps, begin}
+use Rattle.rules.specs.Steps.Runs.{Conf, running, finished, stopped, failed, Worked, perform, told, after, bodyAct, step, Steps, begin}
 use Rattle.rules.specs.Faults.Whole.{mainName}
 use Rattle.rules.specs.Paths.{at, OneOf, May, around, endsTest, Spot, spot, Path, outset, Writes, TooEarly, endsBy, testEnded}
 
@@ -104,13 +104,13 @@ abbrev isRunning : Conf → Type 0
 isRunning (running r s) = Unit {0}
 isRunning (finished s) = ⊥
 isRunning (stopped s) = ⊥
-isRunning (fault m p s) = ⊥
+isRunning (failed m p s) = ⊥
 
 abbrev liveOr : Live → Conf → Live
 liveOr z (running r s) = r
 liveOr z (finished s) = z
 liveOr z (stopped s) = z
-liveOr z (fault m p s) = z
+liveOr z (failed m p s) = z
 
 told-runs : (s u : Carriers) (x : Sig) (t : Live) (v : Carriers) → told s u x ≡ running t v → x ≡ goes t
 told-runs s u ends t v e = absurd (subst isRunning (sym e) tt)
@@ -127,7 +127,7 @@ module _ (ds : Table) (test : Name) where
   from-running (suc n) (running t u) r s q = tt
   from-running (suc n) (finished u) r s q = q
   from-running (suc n) (stopped u) r s q = q
-  from-running (suc n) (fault m p u) r s q = q
+  from-running (suc n) (failed m p u) r s q = q
 
   module _ (r′ : Live) (s′ : Carriers) where
     -- n steps are a path, whatever was before
@@ -143,7 +143,7 @@ module _ (ds : Table) (test : Name) where
         → Path ds test (suc n) (spot r b) (spot r′ (b || (endsBy ds test r m o || testEnded ds test n c (running r′ s′) q)))
     stepped n ih r m s b o (finished u) e q = absurd (from-running n (finished u) r′ s′ q)
     stepped n ih r m s b o (stopped u) e q = absurd (from-running n (stopped u) r′ s′ q)
-    stepped n ih r m s b o (fault k p u) e q = absurd (from-running n (fault k p u) r′ s′ q)
+    stepped n ih r m s b o (failed k p u) e q = absurd (from-running n (failed k p u) r′ s′ q)
     stepped n ih r m s b (faulty k p) (running t u) e q = absurd (subst isRunning (sym e) tt)
     stepped n ih r m s b (gives w) (running t u) e q =
         let x : Sig = nextI (bodyAct ds) (at r m) (w .number) in

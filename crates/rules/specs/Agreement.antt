@@ -5,7 +5,7 @@ use mathlib.Core.List.{List}
 use lib.ListN.{drop}
 use Rattle.rules.specs.Declarations.{Table}
 use Rattle.rules.specs.Steps.Evaluation.{Carriers}
-use Rattle.rules.specs.Steps.Runs.{Conf, running, finished, stopped, fault, Ending, done, halted, paused, faulted, Run}
+use Rattle.rules.specs.Steps.Runs.{Conf, running, finished, stopped, failed, Ending, done, halted, paused, faulted, Run}
 use Rattle.rules.specs.Steps.Orders.{EveryOrder}
 use Rattle.rules.specs.Answers.{Result, refusal, ended, littleEndian, bufferOf}
 
@@ -40,13 +40,13 @@ abbrev pub codeAt : Conf → ℕ
 codeAt (running r s) = endingCode paused
 codeAt (finished s) = endingCode done
 codeAt (stopped s) = endingCode halted
-codeAt (fault m p s) = endingCode (faulted m p)
+codeAt (failed m p s) = endingCode (faulted m p)
 
 abbrev pub carriersAt : Conf → Carriers
 carriersAt (running r s) = s
 carriersAt (finished s) = s
 carriersAt (stopped s) = s
-carriersAt (fault m p s) = s
+carriersAt (failed m p s) = s
 
 -- an order of k steps that has come to c has the ending, the count and the carriers of the call
 pub record SameEnd (answer left : List ℕ) (k : ℕ) (c : Conf) : Type 0 where

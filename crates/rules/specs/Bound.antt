@@ -21,19 +21,19 @@ module _ (bodies : Name → ℕ) where
     cost (seq a b) = cost a + cost b
     cost (par a b) = cost a + cost b
     cost (label l a) = cost a
-    cost (ins i) = 1 + inside i
+    cost (ins i) = 1 + costIn i
 
     -- beside its own step
-    pub inside : Ins → ℕ
-    inside (iff e a) = cost a
-    inside (decode p e bs) = dearest bs
-    inside (repeat a) = cost a
-    inside (leave l) = 0
-    inside (restart l) = 0
-    inside (call p) = bodies p
-    inside stop = 0
-    inside noop = 0
-    inside (transfer d e) = 0
+    pub costIn : Ins → ℕ
+    costIn (iff e a) = cost a
+    costIn (decode p e bs) = dearest bs
+    costIn (repeat a) = cost a
+    costIn (leave l) = 0
+    costIn (restart l) = 0
+    costIn (call p) = bodies p
+    costIn stop = 0
+    costIn noop = 0
+    costIn (transfer d e) = 0
 
     pub dearest : Alts → ℕ
     dearest end = 0

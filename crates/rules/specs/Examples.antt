@@ -5,7 +5,7 @@ use mathlib.Core.Path.{_≡_, refl}
 use mathlib.Core.Bool.{Bool, true, false}
 use mathlib.Core.List.{List, [], _∷_, map}
 use mathlib.Core.Option.{Option, none, some}
-use Rattle.rules.specs.Text.Bytes.{bytes, Class, classIn, classOf, inName, inConstant, inComment, fold, run, forbidden, blank, exclamation, letter, digit, dot, prefix, query, mark, other}
+use Rattle.rules.specs.Text.Bytes.{bytes, Class, classIn, classOf, inName, inConstant, inComment, fold, leading, forbidden, blank, exclamation, letter, digit, dot, prefix, query, mark, other}
 use Rattle.rules.specs.Text.Tokens.{Token, Info, tk, Name, Const, Masked, At, Op, join, plus, minus, lss, eql, and, eqv, or, xor}
 use Rattle.rules.specs.Text.Constants.{all, any, isBasedDigit, isDigitOf, digitBits, digitValue, valueFrom, freeFrom, freeDigit, decimalBits, bitsFrom, decimal, based}
 use Rattle.rules.specs.Text.Scan.{scan, scanFrom, lexeme, lexemeBy, wordLexeme, constantLexeme, markLexeme, markAt, wordKind, sameBytes, End, fine, refuse, plainInfo, wordInfo, constantInfo, Scan}
@@ -17,14 +17,14 @@ use Rattle.rules.specs.Declarations.{Table, Declared, carrierWith, bodyW
 use Rattle.rules.specs.Steps.Actions.{Access, Act, seq, par, label, ins, iff, decode, repeat, leave, restart, call, stop, noop, transfer, end, alt}
 use Rattle.rules.specs.Steps.Evaluation.{gives, then, wordOr70, wordOf, fieldIn, fieldOf, evaluate, evaluateFactor, evaluateIndex, evaluateAccess, evaluateAccesses, storeAll, transferred}
 use Rattle.rules.specs.Steps.Control.{start, leftmost, workI, nextI, choose}
-use Rattle.rules.specs.Steps.Runs.{Conf, running, finished, Run, ran, done, paused, faulted, runFrom, bodyAct}
+use Rattle.rules.specs.Steps.Runs.{Conf, running, finished, Run, runWith, done, paused, faulted, runFrom, bodyAct}
 use Rattle.rules.specs.Whole.Sets.{Sets, owner, readsOf, factorReads, indexReads, subscriptReads, stores, setsOf, setsI, bodySets, touched, member, meet, race}
-use Rattle.rules.specs.Positions.{position, behind, after, positionAt, positionOf}
+use Rattle.rules.specs.Positions.{position, behind, further, positionAt, positionOf}
 use Rattle.rules.specs.Faults.Fault.{Fault, fault, byPlace, byNumber, least, leastFrom}
 use Rattle.rules.specs.Faults.Bodies.{patternsMeet, reaches, itemsMeet}
 use Rattle.rules.specs.Answers.{bytesOf, littleEndian}
 use Rattle.rules.specs.Images.{weighed, frontOf, checkOf, blocksFor, allZero, isFormed}
-use Rattle.rules.specs.Bound.{cost, inside, dearest, turns, turnsIn, anyTurns, boundIf, bound, no-bound}
+use Rattle.rules.specs.Bound.{cost, costIn, dearest, turns, turnsIn, anyTurns, boundIf, bound, no-bound}
 use lib.ListN.{take}
 
 -- the classes on both sides of each boundary
@@ -42,14 +42,14 @@ scanned : scan (bytes "Ab.1 '0?@17 !x") ≡ record {
   tokens = tk Name (wordInfo 0 (bytes "AB.1")) ∷ tk Masked (constantInfo 5 0 1 2) ∷ tk At (plainInfo 8) ∷ tk Const (constantInfo 9 17 0 5) ∷ [];
   end = fine;
 }
-unfolding scan scanFrom lexeme lexemeBy wordLexeme constantLexeme markLexeme markAt wordKind sameBytes classIn classOf inName inConstant inComment fold run all any isBasedDigit isDigitOf digitBits digitValue valueFrom freeFrom freeDigit decimalBits bitsFrom decimal based
+unfolding scan scanFrom lexeme lexemeBy wordLexeme constantLexeme markLexeme markAt wordKind sameBytes classIn classOf inName inConstant inComment fold leading all any isBasedDigit isDigitOf digitBits digitValue valueFrom freeFrom freeDigit decimalBits bitsFrom decimal based
 scanned = refl
 
 abbrev faulty-texts : List (List ℕ)
 faulty-texts = bytes "a $" ∷ bytes " '12" ∷ bytes "1?" ∷ bytes "1 ?" ∷ bytes "***" ∷ bytes "!\n  #8" ∷ bytes "A23456789012345678901234567890123" ∷ []
 
 refusals : map (λ t. (scan t) .end) faulty-texts ≡ refuse 10 2 ∷ refuse 12 1 ∷ refuse 12 0 ∷ refuse 10 2 ∷ refuse 10 2 ∷ refuse 12 4 ∷ refuse 11 0 ∷ []
-unfolding scan scanFrom lexeme lexemeBy wordLexeme constantLexeme markLexeme markAt wordKind sameBytes classIn classOf inName inConstant inComment fold run all any isBasedDigit isDigitOf digitBits digitValue valueFrom freeFrom freeDigit decimalBits bitsFrom decimal based
+unfolding scan scanFrom lexeme lexemeBy wordLexeme constantLexeme markLexeme markAt wordKind sameBytes classIn classOf inName inConstant inComment fold leading all any isBasedDigit isDigitOf digitBits digitValue valueFrom freeFrom freeDigit decimalBits bitsFrom decimal based
 refusals = refl
 
 -- operators: `'0000 - '0001` is 31, five bits; NOT '0101; '01 @ '1; the bitwise ones on 12 and 10
@@ -132,13 +132,13 @@ count =
     (ins (iff (node eql (plainInfo 0) (read (bytes "A")) (constantly 4 10)) (ins (leave (bytes "LP"))))))))
 
 counted : map (λ b. runFrom table b 0 (running (start count) (0 ∷ 0 ∷ 0 ∷ 0 ∷ 0 ∷ []))) (31 ∷ 30 ∷ 0 ∷ [])
-    ≡ ran done 31 (10 ∷ 0 ∷ 0 ∷ 0 ∷ 0 ∷ []) ∷ ran paused 30 (10 ∷ 0 ∷ 0 ∷ 0 ∷ 0 ∷ []) ∷ ran paused 0 (0 ∷ 0 ∷ 0 ∷ 0 ∷ 0 ∷ []) ∷ []
+    ≡ runWith done 31 (10 ∷ 0 ∷ 0 ∷ 0 ∷ 0 ∷ []) ∷ runWith paused 30 (10 ∷ 0 ∷ 0 ∷ 0 ∷ 0 ∷ []) ∷ runWith paused 0 (0 ∷ 0 ∷ 0 ∷ 0 ∷ 0 ∷ []) ∷ []
 unfolding runFrom start leftmost workI nextI transferred evaluate evaluateFactor evaluateIndex evaluateAccess evaluateAccesses then wordOf fieldIn fieldOf storeAll withField field cut total operate opBits opNumber howMany fromRight bitCount numberFrom numberOf storageWords firstWord reachStorage reachOf reachNumber reach accessLow accessBits sameBytes bodyAct
 counted = refl
 
 -- a fault is not counted
 past-the-words : runFrom table 9 0 (running (start (seq (ins (transfer (to-name (bytes "A") ∷ []) (constantly 1 1))) (ins (transfer (to-word (constantly 3 4) ∷ []) (constantly 1 1))))) (0 ∷ []))
-    ≡ ran (faulted 70 0) 1 (1 ∷ [])
+    ≡ runWith (faulted 70 0) 1 (1 ∷ [])
 unfolding runFrom start leftmost workI nextI transferred evaluate evaluateFactor evaluateIndex evaluateAccess evaluateAccesses then wordOr70 wordOf fieldIn fieldOf storeAll withField field cut total howMany fromLeft bitCount numberFrom numberOf storageWords firstWord reachStorage reachOf reachNumber reach accessLow accessBits sameBytes bodyAct
 past-the-words = refl
 
@@ -164,11 +164,11 @@ three-lines = 97 ∷ 9 ∷ 13 ∷ 10 ∷ 33 ∷ 10 ∷ []
 
 positions : map (positionAt three-lines) (0 ∷ 1 ∷ 2 ∷ 3 ∷ 4 ∷ 5 ∷ 6 ∷ [])
     ≡ position 1 1 ∷ position 1 2 ∷ position 1 3 ∷ position 1 4 ∷ position 2 1 ∷ position 2 2 ∷ position 3 1 ∷ []
-unfolding after behind
+unfolding further behind
 positions = refl
 
 position-by-number : map (λ number. positionOf three-lines number 5) (10 ∷ 53 ∷ 60 ∷ 61 ∷ 70 ∷ []) ≡ position 2 2 ∷ position 2 2 ∷ position 1 1 ∷ position 1 1 ∷ position 2 2 ∷ []
-unfolding positionOf member after behind
+unfolding positionOf member further behind
 position-by-number = refl
 
 -- the check of three bytes, the front of a block, the blocks of 504, 505 and no bytes, and a front whose padding is not zero
@@ -196,7 +196,7 @@ longest =
     (par (ins (call (bytes "P"))) (label (bytes "L") (ins (leave (bytes "L")))))
 
 longest-costs : cost (λ p. 7) longest ≡ 14
-unfolding cost inside dearest
+unfolding cost costIn dearest
 longest-costs = refl
 
 turning : map (turns (λ p. false)) (longest ∷ ins (restart (bytes "L")) ∷ ins (decode 0 (constantly 1 1) (alt otherwise (ins (repeat (ins noop))) end)) ∷ [])

@@ -24,13 +24,13 @@ unfoldable pub behind : ℕ → Position → Position
 behind b p = elim (eqb b lineEnd) [ true ↦ position (p .line + 1) 1 | false ↦ position (p .line) (p .column + 1) ]
 
 -- an offset in bytes on; "the end of the text gets what the next byte would have"
-unfoldable pub after : Position → List ℕ → ℕ → Position
-after p text zero = p
-after p [] (suc n) = p
-after p (b ∷ text) (suc n) = after (behind b p) text n
+unfoldable pub further : Position → List ℕ → ℕ → Position
+further p text zero = p
+further p [] (suc n) = p
+further p (b ∷ text) (suc n) = further (behind b p) text n
 
 abbrev pub positionAt : List ℕ → ℕ → Position
-positionAt text n = after origin text n
+positionAt text n = further origin text n
 
 -- "Where the place is no offset in the text (as 1, 2, 60, 61), line and column are 1": places in carriers or an image (60 to 64), in a list of turns (81) or of
 -- entries (110), and none (90, 91)

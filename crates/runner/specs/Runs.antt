@@ -6,7 +6,7 @@ use mathlib.Core.Option.{some}
 use lib.ListN.{length}
 use Rattle.rules.specs.Grammar.Trees.{Tokens, Action}
 use Rattle.rules.specs.Declarations.{Name as Word, Table, bodyOf, totalWords}
-use Rattle.rules.specs.Steps.Runs.{Ending, ran, done, halted, paused, faulted, run}
+use Rattle.rules.specs.Steps.Runs.{Ending, runWith, done, halted, paused, faulted, run}
 use Rattle.laws_orders.specs.Cited.Flat.{Code}
 use Rattle.promise.specs.Promise.{Promise}
 use Rattle.operands.specs.Scene.{carrierWords}
@@ -41,4 +41,4 @@ stepsOf (Broken m p n) = n
 
 pub record RunAnswer {records values decls carriers : List ℕ} {start : ℕ} (v : RunAt records values decls carriers start) (budget : ℕ) (after : List ℕ) (r : Ended) : Type 0 where
   pub same : run (v .table) (v .main) budget (carrierWords (totalWords (v .table)) carriers)
-      ≡ ran (endingOf r) (stepsOf r) (carrierWords (totalWords (v .table)) after)
+      ≡ runWith (endingOf r) (stepsOf r) (carrierWords (totalWords (v .table)) after)

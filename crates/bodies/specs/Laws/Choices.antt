@@ -8,7 +8,7 @@ use native.Mathlib.Omega.{arith}
 use lib.ListN.{length, getD, drop}
 use lib.Seq.{getD-drop, drop-drop}
 use Rattle.rules.specs.Grammar.Trees.{Action, stop, Counted, counted-end, counted-more, Selected, select, otherwise, SelectedMore, selected-end, selected-more}
-use Rattle.rules.specs.Grammar.Verdict.{blank}
+use Rattle.rules.specs.Grammar.Verdict.{anyInfo}
 use Rattle.rules.specs.Declarations.{Name as Word, Table}
 use Rattle.rules.specs.Selectors.{Item, between, selectorItems}
 use Rattle.rules.specs.Faults.Fault.{Fault}
@@ -42,7 +42,7 @@ countedChoices a (counted-more c b more) = choice [] (firstPlace a) a ∷ counte
 -- BY THEIR NUMBERS
 module _ (all : List Choice) where
   abbrev pub choiceAt : ℕ → Choice
-  choiceAt k = getD all k (choice [] 0 (stop blank blank blank))
+  choiceAt k = getD all k (choice [] 0 (stop anyInfo anyInfo anyInfo))
 
   abbrev pub itemsIn : ℕ → List Item
   itemsIn k = choiceAt k .items
@@ -57,7 +57,7 @@ module _ (all : List Choice) where
   module _ (k : ℕ) (c : Choice) (cs : List Choice) (e : drop k all ≡ c ∷ cs) where
     pub choice-now : choiceAt k ≡ c
     choice-now =
-        ap choiceAt (omega arith) ∙ sym (getD-drop k all 0 (choice [] 0 (stop blank blank blank))) ∙ ap (λ l. getD l 0 (choice [] 0 (stop blank blank blank))) e
+        ap choiceAt (omega arith) ∙ sym (getD-drop k all 0 (choice [] 0 (stop anyInfo anyInfo anyInfo))) ∙ ap (λ l. getD l 0 (choice [] 0 (stop anyInfo anyInfo anyInfo))) e
 
     pub choice-next : drop (k + 1) all ≡ cs
     choice-next = sym (drop-drop 1 k all) ∙ ap (drop 1) e

@@ -18,8 +18,9 @@ use Rattle.rules.specs.Limits.{mostBits, longestText}
 use Rattle.rules.specs.Declarations.{Name as Word, Names, BitNames, Declared, Table, numberOf, namesOf, reach}
 use Rattle.rules.specs.Faults.Fault.{Fault, fault, when}
 use Rattle.rules.specs.Faults.Declared.{inside, declaredAt}
-use Rattle.rules.specs.Faults.Bodies.{Judged, judged, isSound, over, subscripted, accessJudged, judgeName, judgeAccess, judge, judgeFactor, judgeIndex, faultsIn}
-use Rattle.rules.specs.Faults.Bodies.{judgeDestination, judgeJoined, ownerOf, ownedTwice, storedTwice}
+use Rattle.rules.specs.Faults.Bodies.{Judged, judgedAs, isSound, over, subscripted, accessJudged, judgeName, judgeAccess, judge, judgeFactor, judgeIndex, faultsIn}
+use Rattle.rules.specs.Faults.Bodies.{judgeDestination, judgeJoined, ownedTwice, storedTwice}
+use Rattle.rules.specs.Whole.Sets.{ownerIn}
 use Rattle.laws_grammar.specs.Grammar.Positions.{Writes, bits-writes, operand-writes, subscript-writes}
 use Rattle.table.specs.Keys.{Smalls, none-small, also-small}
 use Rattle.table.specs.Laws.Keys.{smalls-append}
@@ -164,7 +165,7 @@ module _ (outer : Word) (ds : Table) where
   joined-small j alone ts s h = s
   joined-small j (joined a n x b more) ts s h =
       let k = judgeDestination outer ds n x b in
-      joined-small (judged (over (j .faults ++ k .faults) (j .bits + k .bits) (a .place)) (j .bits + k .bits)) more ts
+      joined-small (judgedAs (over (j .faults ++ k .faults) (j .bits + k .bits) (a .place)) (j .bits + k .bits)) more ts
       (over-small (j .faults ++ k .faults) (j .bits + k .bits) (a .place) (smalls-append s (destination-small n x b (bitsTokens b (joinedTokens more ts)) (h .1 .0) (h .1 .1))) (h .0))
       (inside-behind (bitsTokens b) (bits-writes b) (joinedTokens more ts) (inside-behind (subscriptTokens x) (subscript-writes x) (bitsTokens b (joinedTokens more ts)) (h .1 .1)))
 
@@ -172,15 +173,15 @@ module _ (outer : Word) (ds : Table) where
   unfolding storedTwice
   stored-small so-far alone ts h = none-small
   stored-small so-far (joined a n x b more) ts h =
-      let o = ownerOf outer ds (reach ds (n .word)) in
+      let o = ownerIn (reach ds (n .word)) in
       smalls-append (when-small (ownedTwice outer ds so-far o) 46 (n .place) (omega arith) (h .1 .0))
       (stored-small (o ++ so-far) more ts
       (inside-behind (bitsTokens b) (bits-writes b) (joinedTokens more ts) (inside-behind (subscriptTokens x) (subscript-writes x) (bitsTokens b (joinedTokens more ts)) (h .1 .1))))
 
   pub destinations-small : (n : Info) (s : Subscript) (b : Bits) (j : Joined) (ts : Tokens) → Inside n → AllInside (subscriptTokens s (bitsTokens b (joinedTokens j ts)))
-      → Smalls (judgeJoined outer ds (judgeDestination outer ds n s b) j) × Smalls (storedTwice outer ds (ownerOf outer ds (reach ds (n .word))) j)
+      → Smalls (judgeJoined outer ds (judgeDestination outer ds n s b) j) × Smalls (storedTwice outer ds (ownerIn (reach ds (n .word))) j)
   destinations-small n s b j ts p h =
       let others = inside-behind (bitsTokens b) (bits-writes b) (joinedTokens j ts) (inside-behind (subscriptTokens s) (subscript-writes s) (bitsTokens b (joinedTokens j ts)) h) in (
         joined-small (judgeDestination outer ds n s b) j ts (destination-small n s b (bitsTokens b (joinedTokens j ts)) p h) others,
-        stored-small (ownerOf outer ds (reach ds (n .word))) j ts others,
+        stored-small (ownerIn (reach ds (n .word))) j ts others,
       )

@@ -15,7 +15,8 @@ use Rattle.rules.specs.Grammar.Precedence.{exprOf}
 use Rattle.rules.specs.Declarations.{declaredOf, reach}
 use Rattle.rules.specs.Faults.Fault.{fault, when}
 use Rattle.rules.specs.Faults.Declared.{isKnown}
-use Rattle.rules.specs.Faults.Bodies.{faultsIn, judge, judgeJoined, judgeDestination, ownerOf, storedTwice, actionFaults}
+use Rattle.rules.specs.Faults.Bodies.{faultsIn, judge, judgeJoined, judgeDestination, storedTwice, actionFaults}
+use Rattle.rules.specs.Whole.Sets.{ownerIn}
 use Rattle.table.specs.Holds.{tokenAt, placeCell, insideCell}
 use Rattle.table.specs.Keys.{key, noKey, leastBy, leastKey}
 use Rattle.table.specs.Laws.Keys.{least-append}
@@ -170,7 +171,7 @@ module _ {records values decls : List ℕ} {i depth : ℕ} (v : TransferView rec
           let ds = tableOf (v .stage) in
           let inside = judge outer ds (exprOf (v .first) (v .tail)) .faults in
           let together = judgeJoined outer ds (judgeDestination outer ds (v .name) (v .subscript) (v .bits)) (v .joined) in
-          let twice = storedTwice outer ds (ownerOf outer ds (reach ds (v .name .word))) (v .joined) in
+          let twice = storedTwice outer ds (ownerIn (reach ds (v .name .word))) (v .joined) in
           k ∙ ap₂ min (d .key) (e .weighs .key) ∙ sym (least-append key (together ++ twice) inside) ∙ ap leastKey (append-assoc together twice inside);
       past = let p = d .past in let q = e .past in omega arith;
       behind = e .behind;

@@ -11,7 +11,7 @@ use lib.Dec.{T, eqb, ltb, leb, eqb→eq}
 use lib.ListN.{length, getD, take, drop, drop-of-length-le, replicate}
 use lib.Seq.{drop-cons, slice, take-nil}
 use Rattle.rules.specs.Text.Constants.{all}
-use Rattle.rules.specs.Text.Bytes.{Class, Range, ranges, classNo, classOf, classIn, isClass, run, inName, inConstant, inComment, forbidden, blank, exclamation, letter, digit, dot, prefix, query, mark, other}
+use Rattle.rules.specs.Text.Bytes.{Class, Span, ranges, classNo, classOf, classIn, isClass, leading, inName, inConstant, inComment, forbidden, blank, exclamation, letter, digit, dot, prefix, query, mark, other}
 use Rattle.classes.specs.Classes.{Classed, among, RunEnds}
 use Rattle.classes.specs.Laws.Tests.{at, every}
 
@@ -31,12 +31,12 @@ pub classed : (l : List ℕ) → length l ≡ 256 → T (every right 0 l) → Cl
 unfolding right
 classed l size t = record { each = λ b h. eqb→eq (getD l b 0) (classNo (classOf b)) (at right l t b (rw size h)) }
 
-low : List Range → Bool
+low : List Span → Bool
 low [] = true
 low (r ∷ rs) = ltb (r .last) 256 && low rs
 
 -- past the table every byte is forbidden
-above : (rs : List Range) (b : ℕ) → low rs ≡ true → 256 ≤ b → classIn rs b ≡ forbidden
+above : (rs : List Span) (b : ℕ) → low rs ≡ true → 256 ≤ b → classIn rs b ≡ forbidden
 unfolding classIn low
 above [] b h l = refl
 above (r ∷ rs) b h l =
@@ -125,48 +125,48 @@ comment-set b =
 
 -- how a run goes on
 module _ (p : ℕ → Bool) where
-  pub run-more : (b : ℕ) (bs : List ℕ) → p b ≡ true → run p (b ∷ bs) ≡ b ∷ run p bs
-  unfolding run
-  run-more b bs h = rw (h, run)
+  pub run-more : (b : ℕ) (bs : List ℕ) → p b ≡ true → leading p (b ∷ bs) ≡ b ∷ leading p bs
+  unfolding leading
+  run-more b bs h = rw (h, leading)
 
-  pub run-ends : (b : ℕ) (bs : List ℕ) → p b ≡ false → run p (b ∷ bs) ≡ []
-  unfolding run
-  run-ends b bs h = rw (h, run)
+  pub run-ends : (b : ℕ) (bs : List ℕ) → p b ≡ false → leading p (b ∷ bs) ≡ []
+  unfolding leading
+  run-ends b bs h = rw (h, leading)
 
-  pub length-run : (l : List ℕ) → length (run p l) ≤ length l
-  unfolding run
+  pub length-run : (l : List ℕ) → length (leading p l) ≤ length l
+  unfolding leading
   length-run [] = omega arith
   length-run (b ∷ bs) = go (p b) refl (length-run bs)
     where
-      go : (r : Bool) → p b ≡ r → length (run p bs) ≤ length bs → length (run p (b ∷ bs)) ≤ length (b ∷ bs)
+      go : (r : Bool) → p b ≡ r → length (leading p bs) ≤ length bs → length (leading p (b ∷ bs)) ≤ length (b ∷ bs)
       go true h rest = rw (run-more b bs h) (omega arith)
       go false h rest = rw (run-ends b bs h) (omega arith)
 
-  pub take-run : (l : List ℕ) → take (length (run p l)) l ≡ run p l
-  unfolding run
+  pub take-run : (l : List ℕ) → take (length (leading p l)) l ≡ leading p l
+  unfolding leading
   take-run [] = refl
   take-run (b ∷ bs) = go (p b) refl (take-run bs)
     where
-      go : (r : Bool) → p b ≡ r → take (length (run p bs)) bs ≡ run p bs → take (length (run p (b ∷ bs))) (b ∷ bs) ≡ run p (b ∷ bs)
+      go : (r : Bool) → p b ≡ r → take (length (leading p bs)) bs ≡ leading p bs → take (length (leading p (b ∷ bs))) (b ∷ bs) ≡ leading p (b ∷ bs)
       go true h rest = rw (run-more b bs h) (ap (λ (t : List ℕ). b ∷ t) rest)
       go false h rest = rw (run-ends b bs h)
 
-  pub all-run : (l : List ℕ) → all p (run p l) ≡ true
-  unfolding run all
+  pub all-run : (l : List ℕ) → all p (leading p l) ≡ true
+  unfolding leading all
   all-run [] = refl
   all-run (b ∷ bs) = go (p b) refl (all-run bs)
     where
-      go : (r : Bool) → p b ≡ r → all p (run p bs) ≡ true → all p (run p (b ∷ bs)) ≡ true
+      go : (r : Bool) → p b ≡ r → all p (leading p bs) ≡ true → all p (leading p (b ∷ bs)) ≡ true
       go true h rest = rw (run-more b bs h, h) rest
       go false h rest = rw (run-ends b bs h)
 
 -- two tests that agree have the same runs
-pub run-same : (p q : ℕ → Bool) → ((b : ℕ) → p b ≡ q b) → (l : List ℕ) → run p l ≡ run q l
-unfolding run
+pub run-same : (p q : ℕ → Bool) → ((b : ℕ) → p b ≡ q b) → (l : List ℕ) → leading p l ≡ leading q l
+unfolding leading
 run-same p q h [] = refl
 run-same p q h (b ∷ bs) = go (q b) refl (run-same p q h bs)
   where
-    go : (r : Bool) → q b ≡ r → run p bs ≡ run q bs → run p (b ∷ bs) ≡ run q (b ∷ bs)
+    go : (r : Bool) → q b ≡ r → leading p bs ≡ leading q bs → leading p (b ∷ bs) ≡ leading q (b ∷ bs)
     go true e rest = run-more p b bs (h b ∙ e) ∙ ap (λ (t : List ℕ). b ∷ t) rest ∙ sym (run-more q b bs e)
     go false e rest = run-ends p b bs (h b ∙ e) ∙ sym (run-ends q b bs e)
 
@@ -176,14 +176,14 @@ drop-from text i h = rw add-one (drop-cons text i 0 h)
 
 -- a run from i on in a text
 module _ (p : ℕ → Bool) (text : List ℕ) (i : ℕ) (h : i < length text) where
-  pub run-step : p (getD text i 0) ≡ true → run p (drop i text) ≡ getD text i 0 ∷ run p (drop (i + 1) text)
+  pub run-step : p (getD text i 0) ≡ true → leading p (drop i text) ≡ getD text i 0 ∷ leading p (drop (i + 1) text)
   run-step e = rw (drop-from text i h) (run-more p _ _ e)
 
-  pub run-stop : p (getD text i 0) ≡ false → run p (drop i text) ≡ []
+  pub run-stop : p (getD text i 0) ≡ false → leading p (drop i text) ≡ []
   run-stop e = rw (drop-from text i h) (run-ends p _ _ e)
 
-pub run-over : (p : ℕ → Bool) (text : List ℕ) (i : ℕ) → length text ≤ i → run p (drop i text) ≡ []
-unfolding run
+pub run-over : (p : ℕ → Bool) (text : List ℕ) (i : ℕ) → length text ≤ i → leading p (drop i text) ≡ []
+unfolding leading
 run-over p text i h = rw (drop-of-length-le text h)
 
 slice-take : (f n : ℕ) (l : List ℕ) → slice f (f + n) l ≡ take n (drop f l)
@@ -193,14 +193,14 @@ slice-take (suc f) n (x ∷ l) = rw suc-add (slice-take f n l)
 
 -- the run of a test from `from` to `end`
 pub record Run (p : ℕ → Bool) (text : List ℕ) (from end : ℕ) : Type 0 where
-  pub ends : end ≡ from + length (run p (drop from text))
-  pub part : slice from end text ≡ run p (drop from text)
+  pub ends : end ≡ from + length (leading p (drop from text))
+  pub part : slice from end text ≡ leading p (drop from text)
 
 module _ (p : ℕ → Bool) (text : List ℕ) where
-  parted : (from end : ℕ) → end ≡ from + length (run p (drop from text)) → Run p text from end
+  parted : (from end : ℕ) → end ≡ from + length (leading p (drop from text)) → Run p text from end
   parted from end e = record {
     ends = e;
-    part = ap (λ (n : ℕ). slice from n text) e ∙ slice-take from (length (run p (drop from text))) text ∙ take-run p (drop from text);
+    part = ap (λ (n : ℕ). slice from n text) e ∙ slice-take from (length (leading p (drop from text))) text ∙ take-run p (drop from text);
   }
 
   -- what `run_end` finds, by a set of classes that is the test

@@ -13,7 +13,8 @@ use Rattle.rules.specs.Values.{opBits}
 use Rattle.rules.specs.Grammar.Trees.{Tokens, Bits, bitsTokens, Subscript, subscriptTokens, Joined, alone, joined, joinedTokens}
 use Rattle.rules.specs.Declarations.{Name as Word, Table, reach}
 use Rattle.rules.specs.Faults.Fault.{Fault, when}
-use Rattle.rules.specs.Faults.Bodies.{Judged, judgeDestination, judgeJoined, ownerOf, owned, ownedTwice, storedTwice}
+use Rattle.rules.specs.Faults.Bodies.{Judged, judgeDestination, judgeJoined, ownedTwice, storedTwice}
+use Rattle.rules.specs.Whole.Sets.{ownerIn, member}
 use Rattle.laws_grammar.specs.Cited.Nesting.{subscriptNest, joinedNest}
 use Rattle.table.specs.Holds.{kindByte, placeCell}
 use Rattle.table.specs.Keys.{key, noKey, leastKey, Smalls, none-small, also-small}
@@ -32,16 +33,16 @@ use Rattle.expressions.specs.Destinations.{stored, repeats, DestinationA
 
 pub record Stores (outer : Word) (ds : Table) (w xs : List ℕ) : Type 0 where
   pub long : length w ≡ 4
-  pub each : (j : ℕ) → holds w j ≡ owned outer ds j xs
+  pub each : (j : ℕ) → holds w j ≡ member j xs
 
 module _ (outer : Word) (ds : Table) where
   pub stores-none : Stores outer ds (replicate 4 0) []
-  unfolding owned
+  unfolding member
   stores-none = record { long = refl; each = none-held }
 
   module _ {w xs : List ℕ} (s : Stores outer ds w xs) where
     pub stores-more : (t : Storage) → Numbered t → Stores outer ds (stored w t) (owners t ++ xs)
-    unfolding owned
+    unfolding member
     stores-more Nothing h = s
     stores-more (Carrier k) h = record {
       long = added-long w k (s .long) h;
@@ -113,7 +114,7 @@ module _ {records values decls : List ℕ} {i depth : ℕ} (v : DestinationAt re
     pub reads : drop p (v .scene .tokens) ≡ joinedTokens left (tk Equals (v .equals) ∷ v .rest)
     pub shallow : joinedNest left ≤ depth
     pub all-joined : judgeJoined outer ds value left ≡ judgeJoined outer ds (judgeDestination outer ds (v .name) (v .subscript) (v .bits)) (v .joined)
-    pub all-repeated : repeated ++ storedTwice outer ds stored-to left ≡ storedTwice outer ds (ownerOf outer ds (reach ds (v .name .word))) (v .joined)
+    pub all-repeated : repeated ++ storedTwice outer ds stored-to left ≡ storedTwice outer ds (ownerIn (reach ds (v .name .word))) (v .joined)
 
   pub joining-begun : {r : Answer} → AccessAnswer first-part r → (t : Storage) → Owns (access-name first-part) t
       → Joining (r .key) (r .bits) (stored (replicate 4 0) t) noKey (r .next)
@@ -177,7 +178,7 @@ module _ {records values decls : List ℕ} {i depth : ℕ} (v : DestinationAt re
         let z = no-other e h in
         let js : judgeJoined outer ds (judgeDestination outer ds (v .name) (v .subscript) (v .bits)) (v .joined) ≡ g .value .faults
         = sym (g .all-joined) ∙ ap (judgeJoined outer ds (g .value)) z in
-        let ts : storedTwice outer ds (ownerOf outer ds (reach ds (v .name .word))) (v .joined) ≡ g .repeated
+        let ts : storedTwice outer ds (ownerIn (reach ds (v .name .word))) (v .joined) ≡ g .repeated
         = sym (g .all-repeated) ∙ ap (λ j. g .repeated ++ storedTwice outer ds (g .stored-to) j) z ∙ append-nil (g .repeated) in
         record {
           key = m ∙ ap₂ min (g .weighs .key) (g .least) ∙ sym (least-append key (g .value .faults) (g .repeated)) ∙ sym (ap₂ (λ a b. leastKey (a ++ b)) js ts);

@@ -12,7 +12,7 @@ use Rattle.rules.specs.Grammar.Trees.{bit, upto, Bits, all-bits, bits}
 use Rattle.rules.specs.Declarations.{Names as Span-of, names, howMany, BitNames, one-unnamed, these, bitCount, mainNames}
 use Rattle.rules.specs.Faults.Fault.{when}
 use Rattle.rules.specs.Faults.Declared.{among, inside, largeBits, farNames}
-use Rattle.rules.specs.Faults.Bodies.{judged, bitsJudged}
+use Rattle.rules.specs.Faults.Bodies.{judgedAs, bitsJudged}
 use Rattle.table.specs.Bits.{accessBits}
 use Rattle.table.specs.Shown.{shownBits}
 use Rattle.table.specs.declared.views.Names.{Names}
@@ -47,18 +47,18 @@ inside-fewer s t e =
 
 -- 42 where the length is 0
 named-judged : (p : ℕ) (b : BitNames) (s : Span-of)
-    → judged (when (not (inside b s)) 42 p) (howMany s)
-    ≡ judged (when (eqb (partLength (shownBits (some b)) (s .left) (s .right)) 0) 42 p) (partLength (shownBits (some b)) (s .left) (s .right))
+    → judgedAs (when (not (inside b s)) 42 p) (howMany s)
+    ≡ judgedAs (when (eqb (partLength (shownBits (some b)) (s .left) (s .right)) 0) 42 p) (partLength (shownBits (some b)) (s .left) (s .right))
 unfolding inside
 named-judged p one-unnamed s = refl
 named-judged p (these b) s = go (inside (these b) s)
   where
-    go : (t : Bool) → judged (when (not t) 42 p) (howMany s) ≡ judged (when (eqb (pick t (howMany s) 0) 0) 42 p) (pick t (howMany s) 0)
+    go : (t : Bool) → judgedAs (when (not t) 42 p) (howMany s) ≡ judgedAs (when (eqb (pick t (howMany s) 0) 0) 42 p) (pick t (howMany s) 0)
     go true = rw (ne-eqb (howMany s) 0 (λ z. omega (arith, howMany-some s)))
     go false = refl
 
 pub bits-judged : (p : ℕ) (b : BitNames) (x : Bits) → let n = accessLength (shownBits (some b)) (shownBits (mainNames (accessBits x))) in
-    bitsJudged p b x ≡ judged (when (eqb n 0) 42 p) n
+    bitsJudged p b x ≡ judgedAs (when (eqb n 0) 42 p) n
 unfolding bitCount
 bits-judged p one-unnamed all-bits = refl
 bits-judged p (these s) all-bits = rw (ne-eqb (howMany s) 0 (λ z. omega (arith, howMany-some s)))

@@ -15,7 +15,7 @@ use Rattle.rules.specs.Grammar.Trees.{Tokens, bit, upto, Bits, all-bits, bits, 
 use Rattle.rules.specs.Grammar.Precedence.{Index, no-index, index}
 use Rattle.rules.specs.Declarations.{Names as Span-of, BitNames, one-unnamed, these, mainNames, declaredOf, numberOf}
 use Rattle.rules.specs.Faults.Fault.{fault, when}
-use Rattle.rules.specs.Faults.Bodies.{Judged, judged, soundBits, accessJudged, subscripted, judgeName, judgeAccess}
+use Rattle.rules.specs.Faults.Bodies.{Judged, judgedAs, soundBits, accessJudged, subscripted, judgeName, judgeAccess}
 use Rattle.table.specs.Holds.{tokenAt, placeCell, insideCell}
 use Rattle.table.specs.Keys.{key, noKey, leastBy, Small, none-small, also-small}
 use Rattle.table.specs.Meaning.{meaningBy, outerOnly, unknownName}
@@ -43,12 +43,12 @@ fits-words (some s) (index l e r) = refl
 one-small : (n p : ℕ) → n < 128 → p ≤ longestText → Small (fault n p)
 one-small n p h l = record { number = h; place = l }
 
-pub weighs-one : (n p m : ℕ) → n < 128 → p ≤ longestText → Weighs (key (fault n p)) 0 (judged (fault n p ∷ []) m)
+pub weighs-one : (n p m : ℕ) → n < 128 → p ≤ longestText → Weighs (key (fault n p)) 0 (judgedAs (fault n p ∷ []) m)
 unfolding leastBy
 weighs-one n p m h l =
     weighs-fault (fault n p ∷ []) m _ (also-small (one-small n p h l) none-small) (omega arith) (omega arith)
 
-weighs-first : (p m : ℕ) (b : Bool) → p ≤ longestText → Weighs (key (fault 41 p)) 0 (judged (fault 41 p ∷ when b 42 p) m)
+weighs-first : (p m : ℕ) (b : Bool) → p ≤ longestText → Weighs (key (fault 41 p)) 0 (judgedAs (fault 41 p ∷ when b 42 p) m)
 unfolding leastBy
 weighs-first p m false l = weighs-one 41 p m (omega arith) l
 weighs-first p m true l =
@@ -66,7 +66,7 @@ present-bits (some c) e = (c, refl)
 
 with-bits : (p : ℕ) (words own given : Names) (t : Bool) (w : Option Span-of) (c : BitNames) (x : Index) (g : Bits)
     → fitsWords words t ≡ subscripted w x → own ≡ shownBits (some c) → given ≡ shownBits (mainNames (accessBits g)) → let n = accessLength own given in
-    accessJudged p w (some c) x g ≡ judged (when (not (fitsWords words t)) 41 p ++ when (eqb n 0) 42 p) (soundBits (when (eqb n 0) 42 p) n)
+    accessJudged p w (some c) x g ≡ judgedAs (when (not (fitsWords words t)) 41 p ++ when (eqb n 0) 42 p) (soundBits (when (eqb n 0) 42 p) n)
 with-bits p words own given t w c x g f o h = rw (f, o, h, bits-judged p c g)
 
 module _ (p : ℕ) {words own given : Names} {t : Bool} {w : Option Span-of} {b : Option BitNames} {x : Index} {g : Bits} (s : Shows words own given t w b x g) where
@@ -81,7 +81,7 @@ module _ (p : ℕ) {words own given : Names} {t : Bool} {w : Option Span-of} {b 
     fits = ap (λ n. fitsWords n t) (s .words-shown) ∙ ap (fitsWords (shownWords w)) (s .index-shown) ∙ fits-words w x
 
     by-length : let n = accessLength own given in
-        accessJudged p w b x g ≡ judged (when (not (fitsWords words t)) 41 p ++ when (eqb n 0) 42 p) (soundBits (when (eqb n 0) 42 p) n)
+        accessJudged p w b x g ≡ judgedAs (when (not (fitsWords words t)) 41 p ++ when (eqb n 0) 42 p) (soundBits (when (eqb n 0) 42 p) n)
     by-length =
         ap (λ b. accessJudged p w b x g) (bits-are .1)
         ∙ with-bits p words own given t w (bits-are .0) x g fits (s .own-shown ∙ ap shownBits (bits-are .1)) (s .given-shown)
@@ -114,7 +114,7 @@ module _ {records values decls : List ℕ} {i p : ℕ} (v : NamedAt records valu
 
   -- 40 and 41: not declared, and not the outer name, or only that
   undeclared-judged : (o : Bool) → insideCell records i ≡ meaningBy none o
-      → named ≡ judged (when (not o) 40 (v .name .place) ++ when o 41 (v .name .place)) 0
+      → named ≡ judgedAs (when (not o) 40 (v .name .place) ++ when o 41 (v .name .place)) 0
   unfolding judgeAccess judgeName
   undeclared-judged o e =
       let q = undeclared (v .scene) i (v .name) (v .within) (v .here) o e in

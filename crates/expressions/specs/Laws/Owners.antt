@@ -11,7 +11,7 @@ use lib.ListN.{getElem?}
 use Rattle.rules.specs.Text.Scan.{sameBytes}
 use Rattle.rules.specs.Declarations.{Names as Span-of, BitNames, Target, Declared, Table, Name as Word, declaredOf, numberOf, reach, reachNumber, reachOf, reachStorage, reachUnder, reachOn}
 use Rattle.rules.specs.Faults.Declared.{declaredAt, goodTarget, fits, badMapping}
-use Rattle.rules.specs.Faults.Bodies.{ownerOf}
+use Rattle.rules.specs.Whole.Sets.{ownerIn}
 use Rattle.table.specs.Holds.{insideCell}
 use Rattle.table.specs.Meaning.{outerOnly}
 use Rattle.expressions.specs.Laws.Tests.{either-false}
@@ -62,14 +62,14 @@ module _ (outer : Word) (ds : Table) (d : Declared) (t : Target) where
       by-number (some k) n z = by-declared k (getElem? ds k) n refl z
 
   -- so a mapping reaches the carrier under it
-  reach-storage : (s : OnStorage ds d t) (k : ℕ) → ownerOf outer ds (reachOf ds k d (some t)) ≡ s .number ∷ []
+  reach-storage : (s : OnStorage ds d t) (k : ℕ) → ownerIn (reachOf ds k d (some t)) ≡ s .number ∷ []
   unfolding reachOf reachUnder reachOn
   reach-storage s k =
-      ap (λ (b : Option BitNames). ownerOf outer ds (elim b [ none ↦ none | some b ↦ reachUnder ds b (t .bits) (numberOf ds (t .name .word)) ])) (s .has-own)
-      ∙ ap (λ n. ownerOf outer ds (reachUnder ds (s .own) (t .bits) n)) (s .numbers)
-      ∙ ap (λ (u : Option Declared). ownerOf outer ds (elim u [ none ↦ none | some u ↦ reachOn ds (s .own) (t .bits) (s .number) (u .target) (u .bits) ])) (s .listed)
-      ∙ ap (λ g. ownerOf outer ds (reachOn ds (s .own) (t .bits) (s .number) g (s .under .bits))) (s .plain)
-      ∙ ap (λ b. ownerOf outer ds (reachOn ds (s .own) (t .bits) (s .number) none b)) (s .has-bits)
+      ap (λ (b : Option BitNames). ownerIn (elim b [ none ↦ none | some b ↦ reachUnder ds b (t .bits) (numberOf ds (t .name .word)) ])) (s .has-own)
+      ∙ ap (λ n. ownerIn (reachUnder ds (s .own) (t .bits) n)) (s .numbers)
+      ∙ ap (λ (u : Option Declared). ownerIn (elim u [ none ↦ none | some u ↦ reachOn ds (s .own) (t .bits) (s .number) (u .target) (u .bits) ])) (s .listed)
+      ∙ ap (λ g. ownerIn (reachOn ds (s .own) (t .bits) (s .number) g (s .under .bits))) (s .plain)
+      ∙ ap (λ b. ownerIn (reachOn ds (s .own) (t .bits) (s .number) none b)) (s .has-bits)
 
 -- by what the name's cell says, and by the declaration of that number
 module _ {records values decls : List ℕ} {i : ℕ} (v : NameHere records values decls i) where
@@ -87,11 +87,11 @@ module _ {records values decls : List ℕ} {i : ℕ} (v : NameHere records value
     abbrev own : Declared
     own = declaredOf (owner-found .declaration)
 
-    reached : ownersOf v ≡ ownerOf (outerOf (v .scene)) (tableOf (v .scene)) (reachOf (tableOf (v .scene)) k own (own .target))
+    reached : ownersOf v ≡ ownerIn (reachOf (tableOf (v .scene)) k own (own .target))
     unfolding reach reachNumber
     reached =
-        ap (λ n. ownerOf outer ds (reachNumber ds n)) (known .0)
-        ∙ ap (λ (o : Option Declared). ownerOf outer ds (elim o [ none ↦ none | some d ↦ reachOf ds k d (d .target) ])) (owner-found .listed)
+        ap (λ n. ownerIn (reachNumber ds n)) (known .0)
+        ∙ ap (λ (o : Option Declared). ownerIn (elim o [ none ↦ none | some d ↦ reachOf ds k d (d .target) ])) (owner-found .listed)
       where
         outer : Word
         outer = outerOf (v .scene)
@@ -115,5 +115,5 @@ module _ {records values decls : List ℕ} {i : ℕ} (v : NameHere records value
 
       pub owner-under : owner-storage .number ∷ [] ≡ ownersOf v
       owner-under =
-          sym (reached ∙ ap (λ g. ownerOf (outerOf (v .scene)) (tableOf (v .scene)) (reachOf (tableOf (v .scene)) k own g)) q
+          sym (reached ∙ ap (λ g. ownerIn (reachOf (tableOf (v .scene)) k own g)) q
           ∙ reach-storage (outerOf (v .scene)) (tableOf (v .scene)) own t owner-storage k)

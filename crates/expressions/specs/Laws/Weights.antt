@@ -10,7 +10,7 @@ use Rattle.rules.specs.Text.Tokens.{Info, Op}
 use Rattle.rules.specs.Values.{opBits}
 use Rattle.rules.specs.Limits.{mostBits, longestText}
 use Rattle.rules.specs.Faults.Fault.{Fault, fault}
-use Rattle.rules.specs.Faults.Bodies.{Judged, judged, soundBits, over}
+use Rattle.rules.specs.Faults.Bodies.{Judged, judgedAs, soundBits, over}
 use Rattle.values.specs.Laws.Results.{result-some}
 use Rattle.table.specs.Keys.{key, noKey, leastBy, leastKey, Smalls, none-small, also-small}
 use Rattle.table.specs.Laws.Keys.{by-place, smalls-append, least-bounded, least-append, no-fault}
@@ -43,7 +43,7 @@ unsound-bits n [] h = absurd (omega arith)
 unsound-bits n (f ∷ fs) h = refl
 
 -- a judged thing with a fault, and one without
-pub weighs-fault : (fs : List Fault) (n k : ℕ) → Smalls fs → k ≡ leastKey fs → k < noKey → Weighs k 0 (judged fs n)
+pub weighs-fault : (fs : List Fault) (n k : ℕ) → Smalls fs → k ≡ leastKey fs → k < noKey → Weighs k 0 (judgedAs fs n)
 weighs-fault fs n k s e h =
     let z : soundBits fs n ≡ 0 = unsound-bits n fs (omega arith) in
     record {
@@ -52,16 +52,16 @@ weighs-fault fs n k s e h =
       fine = record { smalls = s; few = omega arith; some = λ q. absurd (omega (arith, none-least q)); empty = λ q. z };
     }
 
-pub weighs-sound : {fs : List Fault} (n : ℕ) → fs ≡ [] → 0 < n → n ≤ mostBits → Weighs noKey n (judged fs n)
+pub weighs-sound : {fs : List Fault} (n : ℕ) → fs ≡ [] → 0 < n → n ≤ mostBits → Weighs noKey n (judgedAs fs n)
 unfolding leastBy
 weighs-sound n e l h =
     rw e (record { key = refl; bits = refl; fine = record { smalls = none-small; few = h; some = λ _. l; empty = λ q. absurd (omega arith) } })
 
 -- a sound length is kept
-pub weighs-again : {k n : ℕ} {j : Judged} → Weighs k n j → Weighs k n (judged (j .faults) (j .bits))
+pub weighs-again : {k n : ℕ} {j : Judged} → Weighs k n j → Weighs k n (judgedAs (j .faults) (j .bits))
 weighs-again {k} {n} {j} w = go (decLt k noKey)
   where
-    go : Dec (k < noKey) → Weighs k n (judged (j .faults) (j .bits))
+    go : Dec (k < noKey) → Weighs k n (judgedAs (j .faults) (j .bits))
     go (yes l) = rw (w .bits ∙ w .fine .empty (rw (w .key) at l)) (weighs-fault (j .faults) (j .bits) k (w .fine .smalls) (w .key) l)
     go (no l) =
         let e = no-faults (w .fine .smalls) (omega (arith, w .key)) in
@@ -79,10 +79,10 @@ module _ {a b : Judged} {k m l n : ℕ} (x : Weighs k m a) (y : Weighs l n b) wh
   both-sound h = no-faults both-smalls (omega (arith, both-key))
 
   -- the faults of the first count, but not its length: a subscript
-  pub beside-unsound : min k l < noKey → Weighs (min k l) 0 (judged (a .faults ++ b .faults) (b .bits))
+  pub beside-unsound : min k l < noKey → Weighs (min k l) 0 (judgedAs (a .faults ++ b .faults) (b .bits))
   beside-unsound h = weighs-fault (a .faults ++ b .faults) _ _ both-smalls both-key h
 
-  pub beside-sound : noKey ≤ min k l → Weighs (min k l) n (judged (a .faults ++ b .faults) (b .bits))
+  pub beside-sound : noKey ≤ min k l → Weighs (min k l) n (judgedAs (a .faults ++ b .faults) (b .bits))
   beside-sound h =
       let e = both-sound h in
       rw (both-key ∙ none-least e, y .bits) (weighs-sound (b .bits) e (y .fine .some (append-eq-nil-iff {p = a .faults} .0 e .1)) (y .fine .few))

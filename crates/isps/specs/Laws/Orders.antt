@@ -13,7 +13,7 @@ use Rattle.rules.specs.Limits.{longestText}
 use Rattle.rules.specs.Grammar.Trees.{Description, flatten}
 use Rattle.rules.specs.Declarations.{Table, declarations, totalWords}
 use Rattle.rules.specs.Steps.Runs as steps
-use Rattle.rules.specs.Steps.Runs.{Conf, running, finished, stopped, fault, Run, Ending, done, halted, paused, faulted, step, Steps, begin}
+use Rattle.rules.specs.Steps.Runs.{Conf, running, finished, stopped, failed, Run, Ending, done, halted, paused, faulted, step, Steps, begin}
 use Rattle.rules.specs.Steps.Evaluation.{Carriers}
 use Rattle.rules.specs.Steps.Orders.{Ended, Well, endAs, endOf, NoStep}
 use Rattle.rules.specs.Faults.Whole.{mainName}
@@ -104,7 +104,7 @@ no-more ds zero c d h e = (refl, e)
 no-more ds (suc j) (running r s) d h e = absurd (h (step ds r (e .0) s) (e .0, refl))
 no-more ds (suc j) (finished s) d h e = absurd e
 no-more ds (suc j) (stopped s) d h e = absurd e
-no-more ds (suc j) (fault m p s) d h e = absurd e
+no-more ds (suc j) (failed m p s) d h e = absurd e
 
 -- the end of a run that ended well, as a place where an order has come to
 end-code : (e : Ending) (s : Carriers) → Well e → codeAt (endAs e s) ≡ endingCode e

@@ -16,11 +16,11 @@ use Rattle.rules.specs.Values.{opBits}
 use Rattle.rules.specs.Selectors.{Item, between, selectorItems}
 use Rattle.rules.specs.Declarations.{Name, Names, BitNames, Declared, Table, numberOf, namesOf, wordsOf, reach}
 use Rattle.rules.specs.Steps.Actions.{actOf}
-use Rattle.rules.specs.Whole.Sets.{Sets, touched, mayStop}
+use Rattle.rules.specs.Whole.Sets.{Sets, touched, mayStop, ownerIn}
 use Rattle.rules.specs.Faults.Fault.{Fault, fault, when, leastFrom, least}
 use Rattle.rules.specs.Faults.Declared.{isKnown, twice, largeBits, largeWords, large, tooMany, inside, badMapping, mappings, faults30, declaredAt}
-use Rattle.rules.specs.Faults.Bodies.{Judged, judged, isSound, over, subscripted, undeclared, bitsJudged, accessJudged, judgeName, judgeAccess, judge, judgeFactor, judgeIndex, faultsIn, judgeDestination, judgeJoined}
-use Rattle.rules.specs.Faults.Bodies.{ownerOf, ownedTwice, storedTwice, activated, past, someMeet, selectorPlace, firstPlace, alternative, countedFaults, selectedFaults, moreFaults, alternativesFaults, labels, labelFaults}
+use Rattle.rules.specs.Faults.Bodies.{Judged, judgedAs, isSound, over, subscripted, undeclared, bitsJudged, accessJudged, judgeName, judgeAccess, judge, judgeFactor, judgeIndex, faultsIn, judgeDestination, judgeJoined}
+use Rattle.rules.specs.Faults.Bodies.{ownedTwice, storedTwice, activated, past, someMeet, selectorPlace, firstPlace, alternative, countedFaults, selectedFaults, moreFaults, alternativesFaults, labels, labelFaults}
 use Rattle.rules.specs.Faults.Bodies.{actionFaults, membersFaults, insideFaults, insideCounted, insideSelected, insideMore, declaredNames, bodyFaults, faults40}
 use Rattle.rules.specs.Faults.Whole.{mains, beginsChain, chains, Scope, labelled-in, aimsOut, hasMore, racesAny, memberFaults, memberScope, groupFaults, membersOf, alternativesGroups, countedGroups, selectedGroups, moreGroups, bodyGroups, groupsFaults, faults50}
 
@@ -144,13 +144,13 @@ module _ (outer : Name) (ds : Table) where
       let k = judgeDestination outer ds n s b in
       let sum = j .bits + k .bits in
       let so-far = over (j .faults ++ k .faults) sum (a .place) in
-      joined-from (judged so-far sum) more (over-from (j .faults ++ k .faults) sum (a .place) (both h (factor-from (cell n (indexOf s) b))))
+      joined-from (judgedAs so-far sum) more (over-from (j .faults ++ k .faults) sum (a .place) (both h (factor-from (cell n (indexOf s) b))))
 
   stored-from : (so-far : List ℕ) (j : Joined) → From 40 (storedTwice outer ds so-far j)
   unfolding storedTwice
   stored-from so-far alone = none-of
   stored-from so-far (joined a n s b more) =
-      let o = ownerOf outer ds (reach ds (n .word)) in
+      let o = ownerIn (reach ds (n .word)) in
       both (tested (ownedTwice outer ds so-far o) 46 (n .place) (omega arith)) (stored-from (o ++ so-far) more)
 
   activated-from : (n : Info) (o : Option Declared) → From 40 (activated outer ds n o)
@@ -208,7 +208,7 @@ module _ (outer : Name) (ds : Table) where
     action-from ls (no-op i l r) = none-of
     action-from ls (transfer n s b j e o t) =
         both (joined-from outer ds (judgeDestination outer ds n s b) j (factor-from outer ds (cell n (indexOf s) b)))
-        (both (stored-from outer ds (ownerOf outer ds (reach ds (n .word))) j) (in-from outer ds o t))
+        (both (stored-from outer ds (ownerIn (reach ds (n .word))) j) (in-from outer ds o t))
 
     members-from : (ls : List Name) (m : Members) → From 40 (membersFaults outer ds ls m)
     members-from ls (end e) = none-of

@@ -11,7 +11,7 @@ use Rattle.rules.specs.Limits.{mostBits}
 use Rattle.rules.specs.Declarations.{Name, Table}
 use Rattle.rules.specs.Steps.Actions.{Access, access, joinedAccesses}
 use Rattle.rules.specs.Steps.Evaluation.{Carriers, gives, then, Field, fieldOf, evaluateIndex, evaluateAccess, evaluateAccesses}
-use Rattle.rules.specs.Faults.Bodies.{Judged, judged, over, judgeDestination, judgeJoined}
+use Rattle.rules.specs.Faults.Bodies.{Judged, judgedAs, over, judgeDestination, judgeJoined}
 use Rattle.laws_grammar.specs.Grammar.Positions.{bits-writes, subscript-writes, joined-writes}
 use Rattle.laws_accepted.specs.Accepted.Faultless.{both-empty}
 use Rattle.laws_accepted.specs.Cited.Declared.{Declares}
@@ -66,7 +66,7 @@ module _ {outer : Name} {ds : Table} (h : Declares outer ds) where
       let k = judgeDestination outer ds i s b in
       let sum = so-far .bits + k .bits in
       let fs = over (so-far .faults ++ k .faults) sum (a .place) in
-      let r = joined-sized more (judged fs sum) (c .1) e in
+      let r = joined-sized more (judgedAs fs sum) (c .1) e in
       let v = not-over (so-far .faults ++ k .faults) sum (a .place) (r .0) in
       let w = both-empty (so-far .faults) (k .faults) (v .0) in
       let rest : sum ≤ mostBits → sum + allBits outer ds (joinedAccesses more) ≤ mostBits

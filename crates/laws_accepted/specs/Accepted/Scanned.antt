@@ -12,12 +12,12 @@ use lib.Dec.{eqb, leb, ltb}
 use lib.ListN.{length, take, getD}
 use lib.Pow.{pow-pos, pow-add}
 use borrow.Author.Tests.{ltb-true, leb-true, eqb-true}
-use Rattle.rules.specs.Text.Bytes.{Class, classOf, run, fold, inName, inConstant}
+use Rattle.rules.specs.Text.Bytes.{Class, classOf, leading, fold, inName, inConstant}
 use Rattle.rules.specs.Text.Bytes.{forbidden, blank, exclamation, letter, digit, dot, prefix, query, mark, other}
 use Rattle.rules.specs.Text.Tokens.{Kind, Const, Token, tk, Spelling, keywords, marks, same, kindNo}
 use Rattle.rules.specs.Text.Constants.{Constant, malformed, constant, isQuery, isDigitOf, isBasedDigit, all, any, digitBits, digitValue, valueFrom, freeDigit, freeFrom, bitsFrom, decimalBits, decimal, based}
 use Rattle.rules.specs.Limits.{longestName, mostTokens}
-use Rattle.rules.specs.Text.Scan.{Lexeme, nothing, token, refused, wordKind, markAt, wordLexeme, constantLexeme, maskedKind, markLexeme, lexemeBy, lexeme, Scan, scanFrom, scan, sameBytes, wordInfo, after, ended, refuse}
+use Rattle.rules.specs.Text.Scan.{Lexeme, no-lexeme, token, bad-lexeme, wordKind, markAt, wordLexeme, constantLexeme, maskedKind, markLexeme, lexemeBy, lexeme, Scan, scanFrom, scan, sameBytes, wordInfo, followed, scanEnd, refuse}
 use Rattle.rules.specs.Grammar.Trees.{Tokens}
 use Rattle.laws_orders.specs.Orders.Tests.{impossible, or-neither, or-either}
 use Rattle.laws_accepted.specs.Accepted.Named.{and-both}
@@ -154,9 +154,9 @@ TokensOk [] = Unit {0}
 TokensOk (t ∷ ts) = TokenOk t × TokensOk ts
 
 abbrev LexemeOk : Lexeme → Type 0
-LexemeOk (nothing n) = Unit {0}
+LexemeOk (no-lexeme n) = Unit {0}
 LexemeOk (token n t) = TokenOk t
-LexemeOk (refused m) = Unit {0}
+LexemeOk (bad-lexeme m) = Unit {0}
 
 word-kind : (ss : List Spelling) (w : List ℕ) → anyConst ss ≡ false → wordKind ss w ≡ Const → ⊥
 unfolding wordKind
@@ -174,7 +174,7 @@ word-ok p bs = by (leb (length bs) longestName)
   where
     by :
         (b : Bool)
-        → LexemeOk (elim b [ true ↦ token (length bs - 1) (tk (wordKind keywords (map fold bs)) (wordInfo p (map fold bs))) | false ↦ refused 11 ])
+        → LexemeOk (elim b [ true ↦ token (length bs - 1) (tk (wordKind keywords (map fold bs)) (wordInfo p (map fold bs))) | false ↦ bad-lexeme 11 ])
     by true = λ e. absurd (word-kind keywords (map fold bs) refl e)
     by false = tt
 
@@ -199,12 +199,12 @@ unfolding lexemeBy
 lexeme-ok forbidden p b bs = tt
 lexeme-ok blank p b bs = tt
 lexeme-ok exclamation p b bs = tt
-lexeme-ok letter p b bs = word-ok p (run inName (b ∷ bs))
+lexeme-ok letter p b bs = word-ok p (leading inName (b ∷ bs))
 lexeme-ok digit p b bs =
-    let ds = run inConstant (b ∷ bs) in constant-ok p (length (run inConstant bs)) Const (decimal ds) (decimal-sound ds) (λ e. decimal-fixed ds)
+    let ds = leading inConstant (b ∷ bs) in constant-ok p (length (leading inConstant bs)) Const (decimal ds) (decimal-sound ds) (λ e. decimal-fixed ds)
 lexeme-ok dot p b bs = tt
 lexeme-ok prefix p b bs =
-    let ds = run inConstant bs in
+    let ds = leading inConstant bs in
     constant-ok p (length ds) (maskedKind (any isQuery ds)) (based (digitBits b) ds) (based-sound (digitBits b) ds (some-digit-bits b))
     (based-fixed (digitBits b) ds)
 lexeme-ok query p b bs = tt
@@ -219,7 +219,7 @@ scan-from-ok (b ∷ bs) p k zero = by (lexeme p b bs) (lexeme-ok (classOf b) p b
   where
     taken :
         (c : Bool) (n : ℕ) (t : Token) → TokenOk t → TokensOk (scanFrom (p + 1) (k - 1) n bs .tokens)
-        → TokensOk ((elim c as (λ x. Scan) [ true ↦ after t (scanFrom (p + 1) (k - 1) n bs) | false ↦ ended (refuse 13 p) ]) .tokens)
+        → TokensOk ((elim c as (λ x. Scan) [ true ↦ followed t (scanFrom (p + 1) (k - 1) n bs) | false ↦ scanEnd (refuse 13 p) ]) .tokens)
     taken true n t q r = (q, r)
     taken false n t q r = tt
 
@@ -227,13 +227,13 @@ scan-from-ok (b ∷ bs) p k zero = by (lexeme p b bs) (lexeme-ok (classOf b) p b
         (l : Lexeme) → LexemeOk l → ((k n : ℕ) → TokensOk (scanFrom (p + 1) k n bs .tokens))
         → TokensOk (
         (elim l as (λ x. Scan) [
-          | nothing n ↦ scanFrom (p + 1) k n bs
-          | token n t ↦ elim (ltb 0 k) [ true ↦ after t (scanFrom (p + 1) (k - 1) n bs) | false ↦ ended (refuse 13 p) ]
-          | refused m ↦ ended (refuse m p)
+          | no-lexeme n ↦ scanFrom (p + 1) k n bs
+          | token n t ↦ elim (ltb 0 k) [ true ↦ followed t (scanFrom (p + 1) (k - 1) n bs) | false ↦ scanEnd (refuse 13 p) ]
+          | bad-lexeme m ↦ scanEnd (refuse m p)
         ]) .tokens)
-    by (nothing n) q r = r k n
+    by (no-lexeme n) q r = r k n
     by (token n t) q r = taken (ltb 0 k) n t q (r (k - 1) n)
-    by (refused m) q r = tt
+    by (bad-lexeme m) q r = tt
 
 constants-ok : (ts : Tokens) → TokensOk ts → ConstantsOk ts
 constants-ok [] h = tt

@@ -13,10 +13,11 @@ use Rattle.rules.specs.Grammar.Trees.{Selected, select, otherwise, selectedToke
 use Rattle.rules.specs.Grammar.Precedence.{exprOf}
 use Rattle.rules.specs.Grammar.Trees.{body, mapped, carrier, given, words, with-bits, bare-body, Declaration, plain, main, declarationTokens, Declarations, declared-all, declared-also, declarationsTokens, Description, description, flatten}
 use Rattle.rules.specs.Declarations.{Name, Table, declaredOf, restOf, declarations, outerName}
-use Rattle.rules.specs.Faults.Bodies.{judge, faultsIn, judgeDestination, judgeJoined, ownerOf, storedTwice, alternativesFaults, actionFaults, membersFaults, insideFaults, insideCounted, insideSelected, insideMore}
+use Rattle.rules.specs.Faults.Bodies.{judge, faultsIn, judgeDestination, judgeJoined, storedTwice, alternativesFaults, actionFaults, membersFaults, insideFaults, insideCounted, insideSelected, insideMore}
 use Rattle.rules.specs.Faults.Bodies.{labels, labelFaults, declaredNames, bodyFaults, faults40}
 use Rattle.rules.specs.Declarations.{reach}
 use Rattle.rules.specs.Answers.{accepted, judgement}
+use Rattle.rules.specs.Whole.Sets.{ownerIn}
 use Rattle.laws_grammar.specs.Grammar.Positions.{selector-writes, action-writes, own-bits-writes, main-bits-writes, declaration-writes, heading-writes}
 use Rattle.laws_orders.specs.Cited.Flat.{Link, exit, Instr, ifI, decodeI, goI, callI, stopI, moveI, Labels, outer, bind}
 use Rattle.laws_accepted.specs.Accepted.Faultless.{both-empty, no-faults}
@@ -104,7 +105,7 @@ module _ {out : Name} {ds : Table} (h : Declares out ds) where
     code-sized (no-op x l r) ρ i k ls ts e c = (tt, tt)
     code-sized (transfer n s b j q o t) ρ i k ls ts e c =
         let more = tk Equals q ∷ operandTokens o (tailTokens t ts) in
-        let twice = storedTwice out ds (ownerOf out ds (reach ds (n .word))) j in
+        let twice = storedTwice out ds (ownerIn (reach ds (n .word))) j in
         let f = both-empty (judgeJoined out ds (judgeDestination out ds n s b) j) (twice ++ faultsIn out ds o t) e in
         let g = both-empty twice (faultsIn out ds o t) (f .1) in (
           (

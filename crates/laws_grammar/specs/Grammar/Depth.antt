@@ -1,6 +1,6 @@
 -- How many brackets are open, counted on the tokens; and that the stack has one state for each.
 use mathlib.Core.Path.{_≡_, refl, sym, ap, _∙_, subst}
-use mathlib.Core.Bool.{Bool, true, false, not, cond}
+use mathlib.Core.Bool.{Bool, true, false, not, cond, _&&_}
 use mathlib.Core.Logic.{_⊎_, inl, inr}
 use mathlib.Core.Option.{Option, none, some, Option·none-ne-some, Option·some-injective}
 use mathlib.Core.List.{List, [], _∷_, _++_}
@@ -11,7 +11,7 @@ use lib.ListN.{length}
 use Rattle.rules.specs.Text.Tokens.{Kind, Token, same, BEGIN, END, LPar, RPar, LBra, RBra}
 use Rattle.laws_grammar.specs.Grammar.Kinds.{same-eq}
 use Rattle.rules.specs.Grammar.Trees.{Tokens}
-use Rattle.rules.specs.Grammar.Verdict.{either, both, opens, closes, down, counted-by, count, opened}
+use Rattle.rules.specs.Grammar.Verdict.{opens, closes, down, counted-by, count, opened}
 use Rattle.laws_grammar.specs.Cited.Rows.{Rule, Row, row, lookup, first, too-deep}
 use Rattle.laws_grammar.specs.Cited.Rows.{Site, in-block, in-counted, in-selected, in-last, Use, test, choose, value, in-parens, in-subscript}
 use Rattle.laws_grammar.specs.Cited.Rows.{Part, of-expression, of-destination, of-mapping, Owner, of-words, of-name, of-main}
@@ -23,11 +23,11 @@ use Rattle.laws_grammar.specs.Cited.Rows.{selector-rest, selector-second
 use Rattle.laws_grammar.specs.Cited.Rows.{operand, access-rest, access-bits, bits-first, bits-more, bits-second, bits-close, part-done}
 use Rattle.laws_grammar.specs.Cited.Rows.{Move, go, open-to, shut, Stack, after}
 
-pub both-0 : (a b : Bool) → T (both a b) → T a
+pub both-0 : (a b : Bool) → T (a && b) → T a
 both-0 true b t = tt
 both-0 false b t = absurd t
 
-pub both-1 : (a b : Bool) → T (both a b) → T b
+pub both-1 : (a b : Bool) → T (a && b) → T b
 both-1 true b t = t
 both-1 false b t = absurd t
 
@@ -95,19 +95,19 @@ inside (part-done q) = true
 
 -- A rule fits if its move opens where its kind does, and closes where it does. h: the state is inside.
 fits-go : Bool → Bool → Bool → Bool → Bool
-fits-go true c h i = both (not h) i
+fits-go true c h i = not h && i
 fits-go false true h i = false
 fits-go false false true i = i
 fits-go false false false i = not i
 
 fits : Bool → Bool → Bool → Move → Bool
 fits o c h (go a) = fits-go o c h (inside a)
-fits o c h (open-to a b) = both o (both h (both (inside a) (inside b)))
-fits o c h shut = both (not o) (both c h)
+fits o c h (open-to a b) = o && (h && (inside a && inside b))
+fits o c h shut = not o && (c && h)
 
 all-fit : Bool → Row → Bool
 all-fit h [] = true
-all-fit h (r ∷ rs) = both (fits (opens (r .on)) (closes (r .on)) h (r .move)) (all-fit h rs)
+all-fit h (r ∷ rs) = fits (opens (r .on)) (closes (r .on)) h (r .move) && all-fit h rs
 
 row-fits : (s : State) → T (all-fit (inside s) (row s))
 unfolding all-fit fits fits-go inside opens closes
@@ -260,7 +260,7 @@ step-go false false true s a σ d e (inr q) f = inr ((f, q .0 .1), q .1)
 step-go false false false s a σ d e (inl q) f = inl (outer-go s a σ (q .0) f, q .1)
 step-go false false false s a σ d e (inr q) f = absurd (not-both (inside s) (q .0 .0) (subst (λ b. T (not b)) (sym e) tt))
 
-step-open : (o c h : Bool) (s a b : State) (σ : Stack) (d : ℕ) → inside s ≡ h → Deep (s ∷ σ) d → T (both o (both h (both (inside a) (inside b))))
+step-open : (o c h : Bool) (s a b : State) (σ : Stack) (d : ℕ) → inside s ≡ h → Deep (s ∷ σ) d → T (o && (h && (inside a && inside b)))
     → Deep (a ∷ b ∷ σ) (counted-by o c d)
 unfolding counted-by
 step-open true c true s a b σ d e (inl q) f = absurd (not-both (inside s) (subst T (sym e) tt) (outer-state s σ (q .0)))
@@ -269,7 +269,7 @@ step-open true c true s a b σ d e (inr q) f =
 step-open true c false s a b σ d e p f = absurd f
 step-open false c h s a b σ d e p f = absurd f
 
-step-shut : (o c h : Bool) (s : State) (σ : Stack) (d : ℕ) → inside s ≡ h → Deep (s ∷ σ) d → T (both (not o) (both c h)) → Deep σ (counted-by o c d)
+step-shut : (o c h : Bool) (s : State) (σ : Stack) (d : ℕ) → inside s ≡ h → Deep (s ∷ σ) d → T (not o && (c && h)) → Deep σ (counted-by o c d)
 unfolding counted-by
 step-shut true c h s σ d e p f = absurd f
 step-shut false false h s σ d e p f = absurd f
@@ -291,12 +291,12 @@ unfolding too-deep fits
 too-deep-full s σ k (go a) d p q r = absurd (subst T (sym r) tt)
 too-deep-full s σ k (open-to a b) d p (inl q) r =
     let f = lookup-fits (inside s) (row s) (row-fits s) k (open-to a b) p in
-    absurd (not-both (inside s) (both-0 (inside s) (both (inside a) (inside b)) (both-1 (opens k) (both (inside s) (both (inside a) (inside b))) f)) (outer-state s σ (q .0)))
+    absurd (not-both (inside s) (both-0 (inside s) (inside a && inside b) (both-1 (opens k) (inside s && (inside a && inside b)) f)) (outer-state s σ (q .0)))
 too-deep-full s σ k (open-to a b) d p (inr q) r =
     let f = lookup-fits (inside s) (row s) (row-fits s) k (open-to a b) p in
     let l : 32 ≤ suc (length σ) = leb→le 32 (suc (length σ)) (subst T (sym r) tt) in
     let e : d ≡ suc (length σ) = q .1 in
-    (both-0 (opens k) (both (inside s) (both (inside a) (inside b))) f, omega arith)
+    (both-0 (opens k) (inside s && (inside a && inside b)) f, omega arith)
 too-deep-full s σ k shut d p q r = absurd (subst T (sym r) tt)
 
 full-go : (o c h i : Bool) → T o → T (fits-go o c h i) → T (not h)
@@ -305,7 +305,7 @@ full-go true c true i t f = absurd f
 full-go true c false i t f = tt
 full-go false c h i t f = absurd t
 
-full-shut : (o : Bool) (b : Bool) → T o → T (both (not o) b) → ⊥
+full-shut : (o : Bool) (b : Bool) → T o → T (not o && b) → ⊥
 full-shut true b t f = f
 full-shut false b t f = t
 
@@ -320,4 +320,4 @@ full-too-deep s σ k (open-to a b) d p (inr q) o l =
     let e : d ≡ suc (length σ) = q .1 in
     le→leb 32 (suc (length σ)) (omega arith)
 full-too-deep s σ k shut d p q o l =
-    absurd (full-shut (opens k) (both (closes k) (inside s)) o (lookup-fits (inside s) (row s) (row-fits s) k shut p))
+    absurd (full-shut (opens k) (closes k && inside s) o (lookup-fits (inside s) (row s) (row-fits s) k shut p))

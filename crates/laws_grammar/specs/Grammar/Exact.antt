@@ -16,7 +16,7 @@ use Rattle.laws_grammar.specs.Grammar.Meanings.{stackL}
 use Rattle.laws_grammar.specs.Grammar.Reading.{read, sound}
 use Rattle.laws_grammar.specs.Grammar.Complete.{complete}
 use Rattle.laws_grammar.specs.Grammar.Follow.{trail, follow, onward, follow-append, follow-of-read, read-of-follow, cons-not-nil, no-empty-some}
-use Rattle.rules.specs.Grammar.Verdict.{blank}
+use Rattle.rules.specs.Grammar.Verdict.{anyInfo}
 use Rattle.laws_grammar.specs.Grammar.Samples.{samples}
 use Rattle.rules.specs.Grammar.Verdict.{opens, count, opened}
 use Rattle.laws_grammar.specs.Grammar.Depth.{opened-append, opened-one, Deep, deep-title, step-deep, too-deep-full, full-too-deep}
@@ -84,8 +84,8 @@ module _ (all : Tokens) where
   length-snoc : (ps : Tokens) (t : Token) (i : ℕ) → i ≡ length ps → suc i ≡ length (ps ++ (t ∷ []))
   length-snoc ps t i e = omega (arith, length-append ps (t ∷ []))
 
-  token-here : (ps ts : Tokens) (t : Token) (i : ℕ) → ps ++ (t ∷ ts) ≡ all → i ≡ length ps → getD all i (tk Name blank) ≡ t
-  token-here ps ts t i p e = ap (λ n. getD all n (tk Name blank)) e ∙ ap (λ l. getD l (length ps) (tk Name blank)) (sym p) ∙ getD-append-seam ps t ts (tk Name blank)
+  token-here : (ps ts : Tokens) (t : Token) (i : ℕ) → ps ++ (t ∷ ts) ≡ all → i ≡ length ps → getD all i (tk Name anyInfo) ≡ t
+  token-here ps ts t i p e = ap (λ n. getD all n (tk Name anyInfo)) e ∙ ap (λ l. getD l (length ps) (tk Name anyInfo)) (sym p) ∙ getD-append-seam ps t ts (tk Name anyInfo)
 
   length-here : (ps ts : Tokens) (i : ℕ) → ps ++ ts ≡ all → i ≡ length ps → length all ≡ i + length ts
   length-here ps ts i p e = omega (arith, length-append ps ts, ap length p)

@@ -12,7 +12,7 @@ use Rattle.rules.specs.Text.Tokens.{Kind, Info, tk, Op, opKind, join, plus, min
 use Rattle.rules.specs.Grammar.Trees.{Tokens, BitsEnd, bit, upto, bitsEndTokens, Bits, all-bits, bits, bitsTokens, Operand, constant, access, parens, negated, operandTokens, Tail, no-more, with-op, tailTokens, Subscript, no-subscript, subscript, subscriptTokens, Joined, alone, joined, joinedTokens, Literal, exact, masked, literalTokens, Range, single, to, rangeTokens, Items, close, item, itemsTokens, Selector, one-of, any-of, selectorTokens, Action, block, labelled, if-then, decode, repeat, leave, restart, activate, stop, no-op, transfer, actionTokens, Members, end, also, next, membersTokens, Alternatives, counted, selected, alternativesTokens, Counted, counted-end, counted-more, countedTokens, Selected, select, otherwise, selectedTokens, SelectedMore, selected-end, selected-more, selectedMoreTokens, OwnBits, unnamed, named, ownBitsTokens, Meaning, body, mapped, meaningTokens, Given, carrier, given, givenTokens, Form, words, with-bits, bare-body, formTokens, MainBits, bitless, main-bits, mainBitsTokens, Declaration, plain, main, declarationTokens, Heading, no-heading, heading, headingTokens, Declarations, declared-all, declared-also, declarationsTokens, Description, description, descriptionTokens, flatten}
 use Rattle.laws_grammar.specs.Cited.Rows.{recognise}
 use Rattle.laws_grammar.specs.Cited.Answer.{accepted}
-use Rattle.rules.specs.Grammar.Verdict.{blank, opens, closes, down, counted-by, count, opened, Crowded}
+use Rattle.rules.specs.Grammar.Verdict.{anyInfo, opens, closes, down, counted-by, count, opened, Crowded}
 use Rattle.laws_grammar.specs.Grammar.Exact.{accepted-right, accepted-of}
 use Rattle.laws_grammar.specs.Cited.Nesting.{operandNest, subscriptNest, tailNest, joinedNest, selectorNest, actionNest, membersNest, alternativesNest, countedNest, selectedNest, selectedMoreNest, meaningNest, givenNest, formNest, declarationNest, declarationsNest, nest}
 
@@ -290,7 +290,7 @@ count-small false true d h n = omega (arith, down-le d)
 count-small false false d h n = h
 
 under-of-shallow : (d : ℕ) (ts : Tokens) → d ≤ 32
-    → ((j : ℕ) → j < length ts → T (opens ((getD ts j (tk Name blank)) .kind)) → 32 ≤ opened d (take j ts) → ⊥) → Under 32 d ts
+    → ((j : ℕ) → j < length ts → T (opens ((getD ts j (tk Name anyInfo)) .kind)) → 32 ≤ opened d (take j ts) → ⊥) → Under 32 d ts
 unfolding opened count
 under-of-shallow d [] h n = h
 under-of-shallow d (t ∷ ts) h n = (
@@ -304,7 +304,7 @@ unfolding counted-by
 count-opener true c d t = refl
 count-opener false c d t = absurd t
 
-shallow-of-under : (d : ℕ) (ts : Tokens) (j : ℕ) → Under 32 d ts → j < length ts → T (opens ((getD ts j (tk Name blank)) .kind)) → 32 ≤ opened d (take j ts) → ⊥
+shallow-of-under : (d : ℕ) (ts : Tokens) (j : ℕ) → Under 32 d ts → j < length ts → T (opens ((getD ts j (tk Name anyInfo)) .kind)) → 32 ≤ opened d (take j ts) → ⊥
 unfolding opened count
 shallow-of-under d [] j u l o f = not-suc-le-zero l
 shallow-of-under d (t ∷ ts) zero u l o f =

@@ -22,100 +22,100 @@ use Rattle.laws_grammar.specs.Cited.Rows.{action, action-name, jump-targ
 use Rattle.laws_grammar.specs.Cited.Rows.{selector-rest, selector-second, selector-becomes, otherwise-becomes, list-item, list-item-rest, list-item-second, list-rest}
 use Rattle.laws_grammar.specs.Cited.Rows.{operand, access-rest, access-bits, bits-first, bits-more, bits-second, bits-close, part-done}
 use Rattle.laws_grammar.specs.Cited.Rows.{Move, go, open-to, shut, Stack, after}
-use Rattle.rules.specs.Grammar.Verdict.{blank}
+use Rattle.rules.specs.Grammar.Verdict.{anyInfo}
 use Rattle.laws_grammar.specs.Grammar.Meanings.{Lang, meaning, stackL, doneL, useL, partL, ownerL, bodyL, becomesL, n-call}
 
 an-action : Action
-an-action = stop blank blank blank
+an-action = stop anyInfo anyInfo anyInfo
 
 a-body : bodyL .tree
-a-body = (blank, (an-action, (end blank, declared-all blank)))
+a-body = (anyInfo, (an-action, (end anyInfo, declared-all anyInfo)))
 
 a-becomes : becomesL .tree
-a-becomes = (blank, (an-action, selected-end blank))
+a-becomes = (anyInfo, (an-action, selected-end anyInfo))
 
 a-form : Form
-a-form = with-bits blank (unnamed blank) carrier
+a-form = with-bits anyInfo (unnamed anyInfo) carrier
 
 a-declaration : Declaration
-a-declaration = plain blank a-form
+a-declaration = plain anyInfo a-form
 
 sample-done : (c : Site) → (doneL c) .tree
-sample-done in-block = end blank
-sample-done in-counted = counted-end blank
-sample-done in-selected = selected-end blank
-sample-done in-last = blank
+sample-done in-block = end anyInfo
+sample-done in-counted = counted-end anyInfo
+sample-done in-selected = selected-end anyInfo
+sample-done in-last = anyInfo
 
 some-alternatives : Alternatives
-some-alternatives = counted an-action (counted-end blank)
+some-alternatives = counted an-action (counted-end anyInfo)
 
 sample-use : (u : Use) → (useL u) .tree
-sample-use (test c) = (blank, (an-action, sample-done c))
-sample-use (choose c) = (blank, (blank, (some-alternatives, sample-done c)))
+sample-use (test c) = (anyInfo, (an-action, sample-done c))
+sample-use (choose c) = (anyInfo, (anyInfo, (some-alternatives, sample-done c)))
 sample-use (value c) = sample-done c
-sample-use in-parens = blank
-sample-use in-subscript = blank
+sample-use in-parens = anyInfo
+sample-use in-subscript = anyInfo
 
 sample-part : (q : Part) → (partL q) .tree
 sample-part (of-expression u) = (no-more, sample-use u)
-sample-part (of-destination c) = (alone, (blank, (constant blank, (no-more, sample-done c))))
-sample-part of-mapping = declared-all blank
+sample-part (of-destination c) = (alone, (anyInfo, (constant anyInfo, (no-more, sample-done c))))
+sample-part of-mapping = declared-all anyInfo
 
 sample-owner : (w : Owner) → (ownerL w) .tree
-sample-owner of-words = declared-all blank
-sample-owner of-name = (carrier, declared-all blank)
-sample-owner of-main = (blank, a-body)
+sample-owner of-words = declared-all anyInfo
+sample-owner of-name = (carrier, declared-all anyInfo)
+sample-owner of-main = (anyInfo, a-body)
 
 pub sample : (s : State) → (meaning s) .tree
-sample title = description blank blank blank no-heading a-declaration (declared-all blank)
-sample title-becomes = (blank, (blank, (no-heading, (a-declaration, declared-all blank))))
-sample title-begin = (blank, (no-heading, (a-declaration, declared-all blank)))
-sample declaration = (no-heading, (a-declaration, declared-all blank))
-sample heading-name = (blank, (blank, (a-declaration, declared-all blank)))
-sample heading-close = (blank, (a-declaration, declared-all blank))
-sample declarator = (a-declaration, declared-all blank)
-sample declarator-rest = (a-form, declared-all blank)
-sample first-word = (blank, (blank, (blank, blank)))
-sample word-colon = (blank, (blank, blank))
-sample second-word = (blank, blank)
-sample words-close = blank
-sample words-bits = (blank, (unnamed blank, declared-all blank))
-sample (own-bits w) = (unnamed blank, sample-owner w)
-sample (own-bits-more w) = (bit blank, sample-owner w)
-sample (own-bits-second w) = (blank, (blank, sample-owner w))
-sample (own-bits-close w) = (blank, sample-owner w)
+sample title = description anyInfo anyInfo anyInfo no-heading a-declaration (declared-all anyInfo)
+sample title-becomes = (anyInfo, (anyInfo, (no-heading, (a-declaration, declared-all anyInfo))))
+sample title-begin = (anyInfo, (no-heading, (a-declaration, declared-all anyInfo)))
+sample declaration = (no-heading, (a-declaration, declared-all anyInfo))
+sample heading-name = (anyInfo, (anyInfo, (a-declaration, declared-all anyInfo)))
+sample heading-close = (anyInfo, (a-declaration, declared-all anyInfo))
+sample declarator = (a-declaration, declared-all anyInfo)
+sample declarator-rest = (a-form, declared-all anyInfo)
+sample first-word = (anyInfo, (anyInfo, (anyInfo, anyInfo)))
+sample word-colon = (anyInfo, (anyInfo, anyInfo))
+sample second-word = (anyInfo, anyInfo)
+sample words-close = anyInfo
+sample words-bits = (anyInfo, (unnamed anyInfo, declared-all anyInfo))
+sample (own-bits w) = (unnamed anyInfo, sample-owner w)
+sample (own-bits-more w) = (bit anyInfo, sample-owner w)
+sample (own-bits-second w) = (anyInfo, (anyInfo, sample-owner w))
+sample (own-bits-close w) = (anyInfo, sample-owner w)
 sample (own-bits-done w) = sample-owner w
-sample body-or-mapping = (mapped blank blank blank (bit blank), declared-all blank)
+sample body-or-mapping = (mapped anyInfo anyInfo anyInfo (bit anyInfo), declared-all anyInfo)
 sample body-begin = a-body
-sample mapping-bits = (blank, (blank, (bit blank, declared-all blank)))
-sample main-name = (blank, (bitless, (blank, a-body)))
-sample main-rest = (bitless, (blank, a-body))
-sample declaration-done = declared-all blank
+sample mapping-bits = (anyInfo, (anyInfo, (bit anyInfo, declared-all anyInfo)))
+sample main-name = (anyInfo, (bitless, (anyInfo, a-body)))
+sample main-rest = (bitless, (anyInfo, a-body))
+sample declaration-done = declared-all anyInfo
 sample (action c) = (an-action, sample-done c)
-sample (action-name c) = (n-call blank blank, sample-done c)
-sample (jump-target c) = (blank, sample-done c)
-sample (call-open c) = (blank, (blank, sample-done c))
-sample (destination c) = (blank, (no-subscript, (all-bits, sample-part (of-destination c))))
+sample (action-name c) = (n-call anyInfo anyInfo, sample-done c)
+sample (jump-target c) = (anyInfo, sample-done c)
+sample (call-open c) = (anyInfo, (anyInfo, sample-done c))
+sample (destination c) = (anyInfo, (no-subscript, (all-bits, sample-part (of-destination c))))
 sample (action-done c) = sample-done c
-sample (alternatives-begin c) = (blank, (some-alternatives, sample-done c))
-sample call-close = blank
+sample (alternatives-begin c) = (anyInfo, (some-alternatives, sample-done c))
+sample call-close = anyInfo
 sample first-alternative = some-alternatives
-sample selector = otherwise blank blank an-action blank
+sample selector = otherwise anyInfo anyInfo an-action anyInfo
 sample selector-rest = (single, a-becomes)
-sample selector-second = (exact blank, a-becomes)
+sample selector-second = (exact anyInfo, a-becomes)
 sample selector-becomes = a-becomes
-sample otherwise-becomes = (blank, (an-action, blank))
-sample list-item = (exact blank, (single, close blank))
-sample list-item-rest = (single, close blank)
-sample list-item-second = (exact blank, close blank)
-sample list-rest = close blank
-sample (operand u) = (constant blank, (no-more, sample-use u))
+sample otherwise-becomes = (anyInfo, (an-action, anyInfo))
+sample list-item = (exact anyInfo, (single, close anyInfo))
+sample list-item-rest = (single, close anyInfo)
+sample list-item-second = (exact anyInfo, close anyInfo)
+sample list-rest = close anyInfo
+sample (operand u) = (constant anyInfo, (no-more, sample-use u))
 sample (access-rest q) = (no-subscript, (all-bits, sample-part q))
 sample (access-bits q) = (all-bits, sample-part q)
-sample (bits-first q) = (blank, (bit blank, sample-part q))
-sample (bits-more q) = (bit blank, sample-part q)
-sample (bits-second q) = (blank, (blank, sample-part q))
-sample (bits-close q) = (blank, sample-part q)
+sample (bits-first q) = (anyInfo, (bit anyInfo, sample-part q))
+sample (bits-more q) = (bit anyInfo, sample-part q)
+sample (bits-second q) = (anyInfo, (anyInfo, sample-part q))
+sample (bits-close q) = (anyInfo, sample-part q)
 sample (part-done q) = sample-part q
 
 pub samples : (γ : List State) → (stackL γ) .tree

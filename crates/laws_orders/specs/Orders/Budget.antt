@@ -6,8 +6,8 @@ use lib.ListN.{length}
 use Rattle.rules.specs.Declarations.{Name, Table}
 use Rattle.rules.specs.Steps.Evaluation.{Carriers, Outcome, gives, faulty}
 use Rattle.rules.specs.Steps.Control.{Live, callL, start, Sig, ends, goes, leaves, restarts, stops, faults, Mv, leftmost, work, next}
-use Rattle.rules.specs.Steps.Runs.{Conf, running, finished, stopped, fault, Worked, perform, told, after, bodyAct, step, begin}
-use Rattle.rules.specs.Steps.Runs.{done, halted, paused, faulted, Run, ran, runFrom, run}
+use Rattle.rules.specs.Steps.Runs.{Conf, running, finished, stopped, failed, Worked, perform, told, after, bodyAct, step, begin}
+use Rattle.rules.specs.Steps.Runs.{done, halted, paused, faulted, Run, runWith, runFrom, run}
 use Rattle.laws_orders.specs.Orders.Effect.{work-length}
 use Rattle.rules.specs.Steps.Orders.{Ended, EndsWell, endOf}
 use Rattle.laws_orders.specs.Orders.Descent.{LeftSteps, allowed, fault-stuck}
@@ -17,7 +17,7 @@ abbrev carriersOf : Conf → Carriers
 carriersOf (running r s) = s
 carriersOf (finished s) = s
 carriersOf (stopped s) = s
-carriersOf (fault m p s) = s
+carriersOf (failed m p s) = s
 
 -- A run from some carriers: it keeps to its budget, pauses only when that is used up, and keeps the number of words.
 pub record Bounded (budget : ℕ) (s : Carriers) (r : Run) : Type 0 where
@@ -46,9 +46,9 @@ module _ (ds : Table) where
   onward b n c =
       elim c [
         | running t u ↦ runFrom ds b (suc n) (running t u)
-        | finished u ↦ ran done (suc n) u
-        | stopped u ↦ ran halted (suc n) u
-        | fault m p u ↦ ran (faulted m p) n u
+        | finished u ↦ runWith done (suc n) u
+        | stopped u ↦ runWith halted (suc n) u
+        | failed m p u ↦ runWith (faulted m p) n u
       ]
 
   bounded : (b n : ℕ) (r : Live) (s : Carriers) → Bounded (n + b) s (runFrom ds b n (running r s))
@@ -64,7 +64,7 @@ module _ (ds : Table) where
           record { short = omega (arith, h .short); pausing = λ p. omega (arith, h .pausing p); same-length = h .same-length ∙ e }
       by ih (finished u) e = record { short = omega arith; pausing = λ p. cc; same-length = e }
       by ih (stopped u) e = record { short = omega arith; pausing = λ p. cc; same-length = e }
-      by ih (fault m q u) e = record { short = omega arith; pausing = λ p. cc; same-length = e }
+      by ih (failed m q u) e = record { short = omega arith; pausing = λ p. cc; same-length = e }
 
   pub run-bounded : (n : Name) (b : ℕ) (s : Carriers) → Bounded b s (run ds n b s)
   unfolding run begin
@@ -94,7 +94,7 @@ module _ (ds : Table) where
           }
       by ih (finished u) e w = record { count = 1; counted = omega arith; left = e }
       by ih (stopped u) e w = record { count = 1; counted = omega arith; left = e }
-      by ih (fault m p u) e w = absurd w
+      by ih (failed m p u) e w = absurd w
 
   -- where left to right ends within the budget, the run ends well
   pub ends-well :
@@ -110,4 +110,4 @@ module _ (ds : Table) where
       by (running t u) ih z = ih t u z
       by (finished u) ih z = tt
       by (stopped u) ih z = tt
-      by (fault m p u) ih z = absurd (fault-stuck ds k (fault m p u) d h (allowed ds k (fault m p u) d z) tt)
+      by (failed m p u) ih z = absurd (fault-stuck ds k (failed m p u) d h (allowed ds k (failed m p u) d z) tt)

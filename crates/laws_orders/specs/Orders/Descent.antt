@@ -6,7 +6,7 @@ use native.Mathlib.Omega.{arith}
 use Rattle.rules.specs.Declarations.{Table}
 use Rattle.rules.specs.Steps.Evaluation.{Carriers, Outcome, gives, faulty}
 use Rattle.rules.specs.Steps.Control.{Live, Sig, ends, goes, leaves, restarts, stops, faults, Mv, leftmost, work, next}
-use Rattle.rules.specs.Steps.Runs.{Conf, running, finished, stopped, fault, Worked, perform, told, after, bodyAct, step, Steps}
+use Rattle.rules.specs.Steps.Runs.{Conf, running, finished, stopped, failed, Worked, perform, told, after, bodyAct, step, Steps}
 use Rattle.laws_orders.specs.Orders.Foot.{Prints}
 use Rattle.laws_orders.specs.Orders.Ok.{Env, OkL, OkS, BodiesOk, next-ok}
 use Rattle.laws_orders.specs.Orders.Diamond.{Free, diamond}
@@ -21,7 +21,7 @@ module _ (ds : Table) where
   LeftSteps (suc n) (running r s) d = LeftSteps n (step ds r (leftmost r) s) d
   LeftSteps (suc n) (finished s) d = ⊥
   LeftSteps (suc n) (stopped s) d = ⊥
-  LeftSteps (suc n) (fault m p s) d = ⊥
+  LeftSteps (suc n) (failed m p s) d = ⊥
 
   -- they are allowed
   pub allowed : (n : ℕ) (c d : Conf) → LeftSteps n c d → Steps ds n c d
@@ -29,24 +29,24 @@ module _ (ds : Table) where
   allowed (suc n) (running r s) d e = (leftmost r, allowed n (step ds r (leftmost r) s) d e)
   allowed (suc n) (finished s) d e = e
   allowed (suc n) (stopped s) d e = e
-  allowed (suc n) (fault m p s) d e = e
+  allowed (suc n) (failed m p s) d e = e
 
   -- a fault never comes to an end
   pub fault-stuck : (n : ℕ) (c d : Conf) → Ended d → Steps ds n c d → Faulted c → ⊥
   fault-stuck zero (running r s) d h e q = q
   fault-stuck zero (finished s) d h e q = q
   fault-stuck zero (stopped s) d h e q = q
-  fault-stuck zero (fault m p s) d h e q = subst Ended (sym e) h
+  fault-stuck zero (failed m p s) d h e q = subst Ended (sym e) h
   fault-stuck (suc n) (running r s) d h e q = q
   fault-stuck (suc n) (finished s) d h e q = q
   fault-stuck (suc n) (stopped s) d h e q = q
-  fault-stuck (suc n) (fault m p s) d h e q = e
+  fault-stuck (suc n) (failed m p s) d h e q = e
 
   abbrev pub OkC : Prints → Env → Conf → Type 0
   OkC P E (running r s) = OkL P E r
   OkC P E (finished s) = Unit {0}
   OkC P E (stopped s) = Unit {0}
-  OkC P E (fault m p s) = Unit {0}
+  OkC P E (failed m p s) = Unit {0}
 
   told-ok : (P : Prints) (E : Env) (s u : Carriers) (x : Sig) → OkS P E x → OkC P E (told s u x)
   told-ok P E s u ends h = tt
@@ -112,7 +112,7 @@ module _ (ds : Table) where
           (i .0, omega arith, i .2)
       every (suc k) n (finished s) c′ o e q = absurd q
       every (suc k) n (stopped s) c′ o e q = absurd q
-      every (suc k) n (fault m p s) c′ o e q = absurd q
+      every (suc k) n (failed m p s) c′ o e q = absurd q
 
       -- The leftmost order comes to that end too.
       pub leftward : (n : ℕ) (c : Conf) → OkC P E c → Steps ds n c d → LeftSteps n c d
@@ -120,4 +120,4 @@ module _ (ds : Table) where
       leftward (suc n) (running r s) o e = leftward n (step ds r (leftmost r) s) (step-ok r (leftmost r) s o) (descend n r s o e (leftmost r))
       leftward (suc n) (finished s) o e = e
       leftward (suc n) (stopped s) o e = e
-      leftward (suc n) (fault m p s) o e = e
+      leftward (suc n) (failed m p s) o e = e

@@ -6,8 +6,8 @@ use Rattle.rules.specs.Declarations.{Name, Table}
 use Rattle.rules.specs.Steps.Evaluation.{Carriers, Outcome, gives, faulty}
 use Rattle.rules.specs.Steps.Control.{Live, callL, start, leftmost}
 use Rattle.rules.specs.Steps.Control.{Sig, ends, goes, leaves, restarts, stops, faults, next}
-use Rattle.rules.specs.Steps.Runs.{Conf, running, finished, stopped, fault, Worked, perform, told, after, bodyAct, step, begin}
-use Rattle.rules.specs.Steps.Runs.{Run, ran, done, halted, faulted, runFrom, run}
+use Rattle.rules.specs.Steps.Runs.{Conf, running, finished, stopped, failed, Worked, perform, told, after, bodyAct, step, begin}
+use Rattle.rules.specs.Steps.Runs.{Run, runWith, done, halted, faulted, runFrom, run}
 use Rattle.laws_orders.specs.Orders.Budget.{onward}
 use Rattle.laws_orders.specs.Cited.Flat.{exit, Code, At, workM, nextM}
 use Rattle.laws_orders.specs.Cited.Flat.{Machine, runs, ended, stood, broke, put, putAfter, stepM, outer, leaveTo, restartTo}
@@ -21,7 +21,7 @@ module _ (C : Code) where
   Same (running r s) m = (n : ℕ) × (σ : List ℕ) × (m ≡ runs n σ s) × Stands C outer exit [] r n σ
   Same (finished s) m = m ≡ ended s
   Same (stopped s) m = m ≡ stood s
-  Same (fault x p s) m = m ≡ broke x p s
+  Same (failed x p s) m = m ≡ broke x p s
 
   told-same : (s u : Carriers) (x : Sig) (m : At) → Says C outer exit [] x m → Same (told s u x) (put s u m)
   unfolding leaveTo restartTo
@@ -50,9 +50,9 @@ module _ (C : Code) where
     onwardM b k m =
         elim m [
           | runs n σ u ↦ runM ds C b (suc k) n σ u
-          | ended u ↦ ran done (suc k) u
-          | stood u ↦ ran halted (suc k) u
-          | broke x p u ↦ ran (faulted x p) k u
+          | ended u ↦ runWith done (suc k) u
+          | stood u ↦ runWith halted (suc k) u
+          | broke x p u ↦ runWith (faulted x p) k u
         ]
 
     from-agrees :
@@ -69,7 +69,7 @@ module _ (C : Code) where
         by (running t u) m ih q = rw (q .2) (ih t u (q .0) (q .1) (q .3))
         by (finished u) m ih q = rw q
         by (stopped u) m ih q = rw q
-        by (fault x p u) m ih q = rw q
+        by (failed x p u) m ih q = rw q
 
     -- A code that holds the bodies does, from the first instruction of a body and with an empty stack, just what the run of that body does.
     pub machine-agrees : (n : Name) (b : ℕ) (s : Carriers) → runM ds C b 0 (C .first n) [] s ≡ run ds n b s

@@ -7,7 +7,7 @@ use native.Mathlib.Omega.{arith}
 use Rattle.rules.specs.Declarations.{Name, Table}
 use Rattle.rules.specs.Steps.Evaluation.{Carriers}
 use Rattle.rules.specs.Steps.Control.{Live, callL, start}
-use Rattle.rules.specs.Steps.Runs.{Conf, running, finished, stopped, fault, Steps, bodyAct, begin, Run, run}
+use Rattle.rules.specs.Steps.Runs.{Conf, running, finished, stopped, failed, Steps, bodyAct, begin, Run, run}
 use Rattle.laws_orders.specs.Orders.Foot.{Prints, Sub·refl}
 use Rattle.laws_orders.specs.Orders.Ok.{Env, OkL, BodiesOk, call-ok}
 use Rattle.laws_orders.specs.Orders.Effect.{Frames}
@@ -22,7 +22,7 @@ ended-still ds zero c d h e = (refl, e)
 ended-still ds (suc j) (running r s) d h e = absurd h
 ended-still ds (suc j) (finished s) d h e = absurd e
 ended-still ds (suc j) (stopped s) d h e = absurd e
-ended-still ds (suc j) (fault m p s) d h e = absurd h
+ended-still ds (suc j) (failed m p s) d h e = absurd h
 
 module _ {ds : Table} {P : Prints} (M : Frames ds P) (bodies : BodiesOk P (bodyAct ds)) (n : Name) (b : ℕ) (s : Carriers) where
   abbrev first : Live

@@ -19,9 +19,9 @@ use Rattle.rules.specs.Declarations.{Name as Word, Declared, Table, numberOf, r
 use Rattle.rules.specs.Faults.Fault.{Fault, fault, when}
 use Rattle.rules.specs.Faults.Declared.{declaredAt}
 use Rattle.rules.specs.Limits.{mostDeclarations, deepest}
-use Rattle.rules.specs.Faults.Bodies.{judge, faultsIn, judgeDestination, judgeJoined, storedTwice, ownerOf, activated, alternativesFaults, actionFaults, membersFaults, insideFaults, insideCounted, insideSelected, insideMore}
+use Rattle.rules.specs.Faults.Bodies.{judge, faultsIn, judgeDestination, judgeJoined, storedTwice, activated, alternativesFaults, actionFaults, membersFaults, insideFaults, insideCounted, insideSelected, insideMore}
 use Rattle.rules.specs.Steps.Actions.{access, joinedAccesses}
-use Rattle.rules.specs.Whole.Sets.{member}
+use Rattle.rules.specs.Whole.Sets.{member, ownerIn}
 use Rattle.laws_grammar.specs.Grammar.Positions.{action-writes, selector-writes}
 use Rattle.laws_grammar.specs.Cited.Heads.{headKind}
 use Rattle.laws_grammar.specs.Grammar.Heads.{action-head}
@@ -476,7 +476,7 @@ module _ (text records values : List ℕ) (ts : Tokens) (holds : Holds text reco
           let v = drop-past (destination-writes s b j) ts (suc i) _ (next-drop i _ _ r) in
           let w : drop (insideCell records i) ts ≡ tk Equals e ∷ operandTokens o (tailTokens y (t ∷ rest))
           = subst (λ q. drop q ts ≡ tk Equals e ∷ operandTokens o (tailTokens y (t ∷ rest))) (sym equals-at) v in
-          let twice = storedTwice out ds (ownerOf out ds (reach ds (x .word))) j in
+          let twice = storedTwice out ds (ownerIn (reach ds (x .word))) j in
           let fs = both-empty (judgeJoined out ds (judgeDestination out ds x s b) j) (twice ++ faultsIn out ds o y) f in
           let gs = both-empty twice (faultsIn out ds o y) (fs .1) in
           let stored : DestinationStands ts out ds i (insideCell records i) (access x s b ∷ joinedAccesses j) = record {

@@ -6,7 +6,7 @@ use mathlib.Core.List.{List}
 use native.Mathlib.Omega.{arith}
 use native.Mathlib.Decide.{ℕ-discrete}
 use lib.ListN.{length, getD}
-use Rattle.rules.specs.Positions.{Position, lineEnd, behind, after, origin, positionAt}
+use Rattle.rules.specs.Positions.{Position, lineEnd, behind, further, origin, positionAt}
 use Rattle.positions.specs.Cursors.{cursor, positionHere, onward, Near}
 use Rattle.laws.specs.Positions.{line-ended, line-goes-on, after-one}
 use Rattle.positions.specs.declared.cursors.Cursor.{Cursor}
@@ -21,7 +21,7 @@ pub walk-near : {text : List ℕ} {c : Cursor} → Walked text c → c .offset <
 walk-near w l = record { offset = l; line = w .line; column = w .column }
 
 pub walk-starts : (text : List ℕ) {c : Cursor} → c ≡ cursor 0 origin → Walked text c
-unfolding after
+unfolding further
 walk-starts text e = rw e (record { here = refl; line = omega arith; column = omega arith })
 
 -- behind a byte no number grows by more than 1

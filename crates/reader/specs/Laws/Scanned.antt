@@ -11,10 +11,10 @@ use lib.Dec.{leb, ltb}
 use lib.ListN.{length, getD, take, drop, length-map, length-drop}
 use lib.Pow.{pow-mono}
 use lib.Seq.{drop-drop}
-use Rattle.rules.specs.Text.Bytes.{Class, classOf, run, fold, inName, inConstant, forbidden, blank, exclamation, letter, digit, dot, prefix, query, mark, other}
+use Rattle.rules.specs.Text.Bytes.{Class, classOf, leading, fold, inName, inConstant, forbidden, blank, exclamation, letter, digit, dot, prefix, query, mark, other}
 use Rattle.rules.specs.Text.Tokens.{Kind, kindNo, Name, Const, Info, Token, Spelling, keywords, marks}
 use Rattle.rules.specs.Text.Constants.{Constant, malformed, constant, decimal, decimalBits, based, all, any, isQuery, isDigitOf, isBasedDigit, valueFrom, digitBits, bitsFrom}
-use Rattle.rules.specs.Text.Scan.{Lexeme, nothing, token, refused, sameBytes, wordKind, wordLexeme, wordInfo, constantLexeme, constantInfo, maskedKind, markAt, markLexeme, lexemeBy, lexeme, scanFrom, scan}
+use Rattle.rules.specs.Text.Scan.{Lexeme, no-lexeme, token, bad-lexeme, sameBytes, wordKind, wordLexeme, wordInfo, constantLexeme, constantInfo, maskedKind, markAt, markLexeme, lexemeBy, lexeme, scanFrom, scan}
 use Rattle.rules.specs.Limits.{mostTokens}
 use Rattle.classes.specs.Laws.Runs.{length-run, take-run, and-left, and-right}
 use Rattle.lexemes.specs.Laws.Constants.{bits-some}
@@ -36,9 +36,9 @@ pub record Meant (text : List ℕ) (t : Token) : Type 0 where
   pub masked : kindNo (t .kind) ≡ 2 → Numbered (t .info)
 
 abbrev pub MeantBy : List ℕ → Lexeme → Type 0
-MeantBy text (nothing n) = Unit
+MeantBy text (no-lexeme n) = Unit
 MeantBy text (token n t) = Meant text t
-MeantBy text (refused m) = Unit
+MeantBy text (bad-lexeme m) = Unit
 
 -- keywords and names are no constants, and marks are no words either
 aside : ℕ → List Spelling → Bool
@@ -67,12 +67,12 @@ module _ (text : List ℕ) (p b : ℕ) (bs : List ℕ) (here : drop p text ≡ b
   room : p + length (b ∷ bs) ≤ length text
   room = omega (arith, ap length here, length-drop p text)
 
-  word-meant : MeantBy text (wordLexeme p (run inName (b ∷ bs)))
+  word-meant : MeantBy text (wordLexeme p (leading inName (b ∷ bs)))
   unfolding wordLexeme
   word-meant = go (leb (length w) 32) refl
     where
       w : List ℕ
-      w = run inName (b ∷ bs)
+      w = leading inName (b ∷ bs)
 
       held : WordHolds text (wordInfo p (map fold w))
       held =
@@ -195,11 +195,11 @@ module _ (text : List ℕ) (p b : ℕ) (bs : List ℕ) (here : drop p text ≡ b
   meant-by exclamation = tt
   meant-by letter = word-meant text p b bs here
   meant-by digit =
-      constant-meant text p (length (run inConstant bs)) Const (decimal (run inConstant (b ∷ bs))) (no-name false) (decimal-made (run inConstant (b ∷ bs)))
+      constant-meant text p (length (leading inConstant bs)) Const (decimal (leading inConstant (b ∷ bs))) (no-name false) (decimal-made (leading inConstant (b ∷ bs)))
   meant-by dot = tt
   meant-by prefix =
-      constant-meant text p (length (run inConstant bs)) (maskedKind (any isQuery (run inConstant bs))) (based (digitBits b) (run inConstant bs))
-      (no-name (any isQuery (run inConstant bs))) (based-made b (run inConstant bs))
+      constant-meant text p (length (leading inConstant bs)) (maskedKind (any isQuery (leading inConstant bs))) (based (digitBits b) (leading inConstant bs))
+      (no-name (any isQuery (leading inConstant bs))) (based-made b (leading inConstant bs))
   meant-by query = tt
   meant-by mark = mark-meant text p (markAt marks (b ∷ bs)) (mark-aside marks (b ∷ bs) refl)
   meant-by other = tt
@@ -220,8 +220,8 @@ module _ (text : List ℕ) where
   step : (p k b : ℕ) (bs : List ℕ) → ((j n : ℕ) → AllMeant text (scanFrom (p + 1) j n bs .tokens)) → (l : Lexeme) → lexeme p b bs ≡ l → MeantBy text l
       → AllMeant text (scanFrom p k 0 (b ∷ bs) .tokens)
   unfolding scanFrom
-  step p k b bs more (nothing n) e is = rw (scanFrom, e) (more k n)
-  step p k b bs more (refused m) e is = rw (scanFrom, e) tt
+  step p k b bs more (no-lexeme n) e is = rw (scanFrom, e) (more k n)
+  step p k b bs more (bad-lexeme m) e is = rw (scanFrom, e) tt
   step p k b bs more (token n t) e is = go (ltb 0 k) refl
     where
       go : (r : Bool) → ltb 0 k ≡ r → AllMeant text (scanFrom p k 0 (b ∷ bs) .tokens)

@@ -12,7 +12,8 @@ use Rattle.rules.specs.Grammar.Trees.{Alternatives, counted, selected, C
 use Rattle.rules.specs.Grammar.Precedence.{Expr, leaf, node, Factor, number, cell, group, inverse, Index, no-index, index, exprOf, indexOf}
 use Rattle.rules.specs.Values.{opBits}
 use Rattle.rules.specs.Selectors.{Item, pattern, between, highest, selectorItems, literalInfo}
-use Rattle.rules.specs.Declarations.{Name, Names, howMany, BitNames, bitCount, Declared, Table, numberOf, namesOf, Reach, reach}
+use Rattle.rules.specs.Declarations.{Name, Names, howMany, BitNames, bitCount, Declared, Table, numberOf, namesOf, reach}
+use Rattle.rules.specs.Whole.Sets.{ownerIn, member}
 use Rattle.rules.specs.Faults.Fault.{Fault, fault, when}
 use Rattle.rules.specs.Faults.Declared.{isKnown, inside, declaredAt}
 
@@ -25,8 +26,8 @@ abbrev pub soundBits : List Fault → ℕ → ℕ
 soundBits [] n = n
 soundBits (f ∷ fs) n = 0
 
-abbrev pub judged : List Fault → ℕ → Judged
-judged fs n = record { faults = fs; bits = soundBits fs n }
+abbrev pub judgedAs : List Fault → ℕ → Judged
+judgedAs fs n = record { faults = fs; bits = soundBits fs n }
 
 abbrev pub isSound : List Fault → Bool
 isSound [] = true
@@ -45,12 +46,12 @@ subscripted (some s) (index l e r) = true
 
 -- 42: "bits outside the declared ones or running the other way"
 abbrev pub bitsJudged : ℕ → BitNames → Bits → Judged
-bitsJudged p b all-bits = judged [] (bitCount b)
-bitsJudged p b (bits l n e) = judged (when (not (inside b (namesOf n e))) 42 p) (howMany (namesOf n e))
+bitsJudged p b all-bits = judgedAs [] (bitCount b)
+bitsJudged p b (bits l n e) = judgedAs (when (not (inside b (namesOf n e))) 42 p) (howMany (namesOf n e))
 
 abbrev pub accessJudged : ℕ → Option Names → Option BitNames → Index → Bits → Judged
-accessJudged p w none x b = judged (fault 41 p ∷ []) 0
-accessJudged p w (some c) x b = let j = bitsJudged p c b in judged (when (not (subscripted w x)) 41 p ++ j .faults) (j .bits)
+accessJudged p w none x b = judgedAs (fault 41 p ∷ []) 0
+accessJudged p w (some c) x b = let j = bitsJudged p c b in judgedAs (when (not (subscripted w x)) 41 p ++ j .faults) (j .bits)
 
 -- 40: "unknown name"; the outer name is known, and has neither bits nor body
 abbrev pub undeclared : Name → Info → List Fault
@@ -58,7 +59,7 @@ undeclared outer i = when (not (sameBytes outer (i .word))) 40 (i .place) ++ whe
 
 module _ (outer : Name) (ds : Table) where
   unfoldable pub judgeName : Info → Index → Bits → Option Declared → Judged
-  judgeName i x b none = judged (undeclared outer i) 0
+  judgeName i x b none = judgedAs (undeclared outer i) 0
   judgeName i x b (some d) = accessJudged (i .place) (d .words) (d .bits) x b
 
   unfoldable pub judgeAccess : Info → Index → Bits → Judged
@@ -70,11 +71,11 @@ module _ (outer : Name) (ds : Table) where
     judge (node o i l r) =
         let a = judge l in
         let b = judge r in
-        judged (over (a .faults ++ b .faults) (opBits o (a .bits) (b .bits)) (i .place)) (opBits o (a .bits) (b .bits))
+        judgedAs (over (a .faults ++ b .faults) (opBits o (a .bits) (b .bits)) (i .place)) (opBits o (a .bits) (b .bits))
 
     pub judgeFactor : Factor → Judged
-    judgeFactor (number i) = judged [] (i .bits)
-    judgeFactor (cell i x b) = let j = judgeAccess i x b in judged (judgeIndex x ++ j .faults) (j .bits)
+    judgeFactor (number i) = judgedAs [] (i .bits)
+    judgeFactor (cell i x b) = let j = judgeAccess i x b in judgedAs (judgeIndex x ++ j .faults) (j .bits)
     judgeFactor (group l e r) = judge e
     judgeFactor (inverse i f) = judgeFactor f
 
@@ -93,25 +94,17 @@ module _ (outer : Name) (ds : Table) where
   judgeJoined j alone = j .faults
   judgeJoined j (joined a n s b more) =
       let k = judgeDestination n s b in
-      judgeJoined (judged (over (j .faults ++ k .faults) (j .bits + k .bits) (a .place)) (j .bits + k .bits)) more
+      judgeJoined (judgedAs (over (j .faults ++ k .faults) (j .bits + k .bits) (a .place)) (j .bits + k .bits)) more
 
   -- 46: "one storage carrier twice in a destination"; those stored to so far
-  abbrev pub ownerOf : Option Reach → List ℕ
-  ownerOf none = []
-  ownerOf (some r) = r .owner ∷ []
-
-  unfoldable pub owned : ℕ → List ℕ → Bool
-  owned x [] = false
-  owned x (y ∷ ys) = eqb x y || owned x ys
-
   abbrev pub ownedTwice : List ℕ → List ℕ → Bool
   ownedTwice so-far [] = false
-  ownedTwice so-far (x ∷ xs) = owned x so-far
+  ownedTwice so-far (x ∷ xs) = member x so-far
 
   unfoldable pub storedTwice : List ℕ → Joined → List Fault
   storedTwice so-far alone = []
   storedTwice so-far (joined a n s b more) =
-      let o = ownerOf (reach ds (n .word)) in
+      let o = ownerIn (reach ds (n .word)) in
       when (ownedTwice so-far o) 46 (n .place) ++ storedTwice (o ++ so-far) more
 
   -- "`P()` on no body"
@@ -255,7 +248,7 @@ module _ (outer : Name) (ds : Table) where
     actionFaults ls (no-op i l r) = []
     actionFaults ls (transfer n s b j e o t) =
         judgeJoined outer ds (judgeDestination outer ds n s b) j
-        ++ (storedTwice outer ds (ownerOf outer ds (reach ds (n .word))) j ++ faultsIn outer ds o t)
+        ++ (storedTwice outer ds (ownerIn (reach ds (n .word))) j ++ faultsIn outer ds o t)
 
     pub membersFaults : List Name → Members → List Fault
     membersFaults ls (end e) = []

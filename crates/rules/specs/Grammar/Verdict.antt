@@ -1,6 +1,6 @@
 -- What document 01 asks of the answer to the tokens (rows 20 and 21), said of tokens and trees alone.
 use mathlib.Core.Path.{_≡_}
-use mathlib.Core.Bool.{Bool, true, false}
+use mathlib.Core.Bool.{Bool, true, false, _||_}
 use mathlib.Core.List.{List, [], _∷_, _++_}
 use Prim.Native.Nat.{ℕ, zero, suc, _≤_, _<_}
 use lib.Dec.{T}
@@ -9,23 +9,15 @@ use Rattle.rules.specs.Limits.{deepest}
 use Rattle.rules.specs.Text.Tokens.{Kind, Info, Token, tk, Name, same, BEGIN, END, LPar, RPar, LBra, RBra}
 use Rattle.rules.specs.Grammar.Trees.{Tokens, Description, flatten}
 
-abbrev pub blank : Info
-blank = record { place = 0; word = []; value = 0; free = 0; bits = 0 }
-
-abbrev pub either : Bool → Bool → Bool
-either true b = true
-either false b = b
-
-abbrev pub both : Bool → Bool → Bool
-both true b = b
-both false b = false
+abbrev pub anyInfo : Info
+anyInfo = record { place = 0; word = []; value = 0; free = 0; bits = 0 }
 
 -- BEGIN, `(` and `[` open; END, `)` and `]` close
 unfoldable pub opens : Kind → Bool
-opens k = either (same BEGIN k) (either (same LPar k) (same LBra k))
+opens k = same BEGIN k || (same LPar k || same LBra k)
 
 unfoldable pub closes : Kind → Bool
-closes k = either (same END k) (either (same RPar k) (same RBra k))
+closes k = same END k || (same RPar k || same RBra k)
 
 -- how many are open behind a token, of d before it
 abbrev pub down : ℕ → ℕ
@@ -55,7 +47,7 @@ Begins ps = (d : Description) × (rest : Tokens) × flatten d ≡ ps ++ rest
 -- token k is an opener, and as many brackets as may be are open before it
 pub record Crowded (ts : Tokens) (k : ℕ) : Type 0 where
   pub there : k < length ts
-  pub opener : T (opens ((getD ts k (tk Name blank)) .kind))
+  pub opener : T (opens ((getD ts k (tk Name anyInfo)) .kind))
   pub full : deepest ≤ opened 0 (take k ts)
 
 pub record Accepted (ts : Tokens) : Type 0 where

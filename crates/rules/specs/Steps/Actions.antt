@@ -18,9 +18,9 @@ pub record Access : Type 0 where
   pub bits : Bits
 
 -- the place of a transfer: its first token, the first name of its destination
-abbrev pub firstPlace : List Access → ℕ
-firstPlace [] = 0
-firstPlace (a ∷ more) = a .name .place
+abbrev pub transferPlace : List Access → ℕ
+transferPlace [] = 0
+transferPlace (a ∷ more) = a .name .place
 
 mutual
   pub data Act : Type 0 where

@@ -3,20 +3,20 @@ use Prim.Native.Nat.{ℕ, _+_, _≤_}
 use mathlib.Core.Path.{_≡_}
 use Rattle.rules.specs.Declarations.{Table}
 use Rattle.rules.specs.Steps.Evaluation.{Carriers}
-use Rattle.rules.specs.Steps.Runs.{Conf, running, finished, stopped, fault, Steps, Ending, done, halted, paused, faulted, Run}
+use Rattle.rules.specs.Steps.Runs.{Conf, running, finished, stopped, failed, Steps, Ending, done, halted, paused, faulted, Run}
 
 -- it has ended Done or Stopped
 abbrev pub Ended : Conf → Type 0
 Ended (running r s) = ⊥
 Ended (finished s) = Unit {0}
 Ended (stopped s) = Unit {0}
-Ended (fault m p s) = ⊥
+Ended (failed m p s) = ⊥
 
 abbrev pub Faulted : Conf → Type 0
 Faulted (running r s) = ⊥
 Faulted (finished s) = ⊥
 Faulted (stopped s) = ⊥
-Faulted (fault m p s) = Unit {0}
+Faulted (failed m p s) = Unit {0}
 
 -- "Done or Stopped"
 abbrev pub Well : Ending → Type 0
@@ -32,8 +32,8 @@ EndsWell r = Well (r .ending)
 abbrev pub endAs : Ending → Carriers → Conf
 endAs done s = finished s
 endAs halted s = stopped s
-endAs paused s = fault 0 0 s
-endAs (faulted m p) s = fault m p s
+endAs paused s = failed 0 0 s
+endAs (faulted m p) s = failed m p s
 
 abbrev pub endOf : Run → Conf
 endOf r = endAs (r .ending) (r .carriers)

@@ -14,7 +14,7 @@ pub data Conf : Type 0 where
   running : Live → Carriers → Conf
   finished : Carriers → Conf
   stopped : Carriers → Conf
-  fault : ℕ → ℕ → Carriers → Conf
+  failed : ℕ → ℕ → Carriers → Conf
 
 -- the carriers behind the work of a step, with the number that a test gives
 pub record Worked : Type 0 where
@@ -40,15 +40,15 @@ perform ds nothing s = gives (worked s 0)
 abbrev pub told : Carriers → Carriers → Sig → Conf
 told s u ends = finished u
 told s u (goes r) = running r u
-told s u (leaves l) = fault 0 0 s
-told s u (restarts l) = fault 0 0 s
+told s u (leaves l) = failed 0 0 s
+told s u (restarts l) = failed 0 0 s
 told s u stops = stopped u
-told s u (faults m p) = fault m p s
+told s u (faults m p) = failed m p s
 
 -- "A faulting step isn't counted and changes nothing": a fault keeps the carriers from before
 abbrev pub after : Carriers → (ℕ → Sig) → Outcome Worked → Conf
 after s f (gives w) = told s (w .carriers) (f (w .number))
-after s f (faulty m p) = fault m p s
+after s f (faulty m p) = failed m p s
 
 -- a body that is not there does nothing; an accepted text activates only bodies
 abbrev pub actOr : Option Action → Act
@@ -69,7 +69,7 @@ module _ (ds : Table) where
   Steps (suc n) (running r s) d = (m : Mv r) × Steps n (step r m s) d
   Steps (suc n) (finished s) d = ⊥
   Steps (suc n) (stopped s) d = ⊥
-  Steps (suc n) (fault m p s) d = ⊥
+  Steps (suc n) (failed m p s) d = ⊥
 
   -- MAIN begins as an activation whose step is not counted
   unfoldable pub begin : Name → Carriers → Conf
@@ -85,22 +85,22 @@ pub record Run : Type 0 where
   pub steps : ℕ
   pub carriers : Carriers
 
-abbrev pub ran : Ending → ℕ → Carriers → Run
-ran e n s = record { ending = e; steps = n; carriers = s }
+abbrev pub runWith : Ending → ℕ → Carriers → Run
+runWith e n s = record { ending = e; steps = n; carriers = s }
 
 -- Left to right, with a budget, after n steps. "Paused means more steps than the budget were needed; a step that would fault needs one too."
 module _ (ds : Table) where
   unfoldable pub runFrom : ℕ → ℕ → Conf → Run
-  runFrom b n (finished s) = ran done n s
-  runFrom b n (stopped s) = ran halted n s
-  runFrom b n (fault m p s) = ran (faulted m p) n s
-  runFrom zero n (running r s) = ran paused n s
+  runFrom b n (finished s) = runWith done n s
+  runFrom b n (stopped s) = runWith halted n s
+  runFrom b n (failed m p s) = runWith (faulted m p) n s
+  runFrom zero n (running r s) = runWith paused n s
   runFrom (suc b) n (running r s) =
       elim (step ds r (leftmost r) s) [
         | running t u ↦ runFrom b (suc n) (running t u)
-        | finished u ↦ ran done (suc n) u
-        | stopped u ↦ ran halted (suc n) u
-        | fault m p u ↦ ran (faulted m p) n u
+        | finished u ↦ runWith done (suc n) u
+        | stopped u ↦ runWith halted (suc n) u
+        | failed m p u ↦ runWith (faulted m p) n u
       ]
 
   unfoldable pub run : Name → ℕ → Carriers → Run

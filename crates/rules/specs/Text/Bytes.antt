@@ -28,15 +28,15 @@ classNo mark = 8
 classNo other = 9
 
 -- the bytes from one to another are of a class
-pub record Range : Type 0 where
+pub record Span : Type 0 where
   pub first : ℕ
   pub last : ℕ
   pub class : Class
 
-abbrev range : ℕ → ℕ → Class → Range
+abbrev range : ℕ → ℕ → Class → Span
 range f l c = record { first = f; last = l; class = c }
 
-abbrev pub ranges : List Range
+abbrev pub ranges : List Span
 ranges =
     range 9 10 blank ∷ range 13 13 blank ∷ range 32 32 blank
     -- !    "            #            $ to &        '
@@ -50,7 +50,7 @@ ranges =
     -- a to z              { | } ~
     ∷ range 97 122 letter ∷ range 123 126 other ∷ []
 
-unfoldable pub classIn : List Range → ℕ → Class
+unfoldable pub classIn : List Span → ℕ → Class
 classIn [] b = forbidden
 classIn (r ∷ rs) b = elim (leb (r .first) b && leb b (r .last)) [ true ↦ r .class | false ↦ classIn rs b ]
 
@@ -77,6 +77,6 @@ unfoldable pub fold : ℕ → ℕ
 fold b = elim (leb 97 b && leb b 122) [ true ↦ b - 32 | false ↦ b ]
 
 -- the longest run of bytes that a test holds of
-unfoldable pub run : (ℕ → Bool) → List ℕ → List ℕ
-run p [] = []
-run p (b ∷ bs) = elim (p b) [ true ↦ b ∷ run p bs | false ↦ [] ]
+unfoldable pub leading : (ℕ → Bool) → List ℕ → List ℕ
+leading p [] = []
+leading p (b ∷ bs) = elim (p b) [ true ↦ b ∷ leading p bs | false ↦ [] ]

@@ -7,16 +7,16 @@ use mathlib.Core.Option.{Option, none, some}
 use lib.Dec.{leb, ltb, eqb}
 use lib.ListN.{length, take}
 use Rattle.rules.specs.Limits.{longestName, mostTokens}
-use Rattle.rules.specs.Text.Bytes.{Class, classOf, run, fold, inName, inConstant, inComment}
+use Rattle.rules.specs.Text.Bytes.{Class, classOf, leading, fold, inName, inConstant, inComment}
 use Rattle.rules.specs.Text.Bytes.{forbidden, blank, exclamation, letter, digit, dot, prefix, query, mark, other}
 use Rattle.rules.specs.Text.Tokens.{Kind, Name, Const, Masked, Info, Token, tk, Spelling, keywords, marks}
 use Rattle.rules.specs.Text.Constants.{Constant, malformed, constant, isQuery, any, digitBits, decimal, based}
 
 -- What stands at a place. Each takes its first byte and as many behind it as it says: nothing (a blank, a comment) or a token; or it is refused.
 pub data Lexeme : Type 0 where
-  nothing : ℕ → Lexeme
+  no-lexeme : ℕ → Lexeme
   token : ℕ → Token → Lexeme
-  refused : ℕ → Lexeme
+  bad-lexeme : ℕ → Lexeme
 
 unfoldable pub sameBytes : List ℕ → List ℕ → Bool
 sameBytes [] [] = true
@@ -47,11 +47,11 @@ constantInfo p v f n = record { place = p; word = []; value = v; free = f; bits 
 unfoldable pub wordLexeme : ℕ → List ℕ → Lexeme
 wordLexeme p bs =
     elim (leb (length bs) longestName)
-    [ true ↦ token (length bs - 1) (tk (wordKind keywords (map fold bs)) (wordInfo p (map fold bs))) | false ↦ refused 11 ]
+    [ true ↦ token (length bs - 1) (tk (wordKind keywords (map fold bs)) (wordInfo p (map fold bs))) | false ↦ bad-lexeme 11 ]
 
 -- a constant at p, with n bytes behind its first
 unfoldable pub constantLexeme : ℕ → ℕ → Kind → Constant → Lexeme
-constantLexeme p n k malformed = refused 12
+constantLexeme p n k malformed = bad-lexeme 12
 constantLexeme p n k (constant v f b) = token n (tk k (constantInfo p v f b))
 
 abbrev pub maskedKind : Bool → Kind
@@ -59,22 +59,22 @@ maskedKind true = Masked
 maskedKind false = Const
 
 unfoldable pub markLexeme : ℕ → Option Spelling → Lexeme
-markLexeme p none = refused 10
+markLexeme p none = bad-lexeme 10
 markLexeme p (some s) = token (length (s .written) - 1) (tk (s .kind) (plainInfo p))
 
 -- what stands at p, where the text goes on with the byte b and then bs, by b's class
 unfoldable pub lexemeBy : Class → ℕ → ℕ → List ℕ → Lexeme
-lexemeBy forbidden p b bs = refused 10
-lexemeBy blank p b bs = nothing 0
-lexemeBy exclamation p b bs = nothing (length (run inComment bs))
-lexemeBy letter p b bs = wordLexeme p (run inName (b ∷ bs))
-lexemeBy digit p b bs = constantLexeme p (length (run inConstant bs)) Const (decimal (run inConstant (b ∷ bs)))
-lexemeBy dot p b bs = refused 10
+lexemeBy forbidden p b bs = bad-lexeme 10
+lexemeBy blank p b bs = no-lexeme 0
+lexemeBy exclamation p b bs = no-lexeme (length (leading inComment bs))
+lexemeBy letter p b bs = wordLexeme p (leading inName (b ∷ bs))
+lexemeBy digit p b bs = constantLexeme p (length (leading inConstant bs)) Const (decimal (leading inConstant (b ∷ bs)))
+lexemeBy dot p b bs = bad-lexeme 10
 lexemeBy prefix p b bs =
-    constantLexeme p (length (run inConstant bs)) (maskedKind (any isQuery (run inConstant bs))) (based (digitBits b) (run inConstant bs))
-lexemeBy query p b bs = refused 10
+    constantLexeme p (length (leading inConstant bs)) (maskedKind (any isQuery (leading inConstant bs))) (based (digitBits b) (leading inConstant bs))
+lexemeBy query p b bs = bad-lexeme 10
 lexemeBy mark p b bs = markLexeme p (markAt marks (b ∷ bs))
-lexemeBy other p b bs = refused 10
+lexemeBy other p b bs = bad-lexeme 10
 
 unfoldable pub lexeme : ℕ → ℕ → List ℕ → Lexeme
 lexeme p b bs = lexemeBy (classOf b) p b bs
@@ -89,21 +89,21 @@ pub record Scan : Type 0 where
   pub tokens : List Token
   pub end : End
 
-abbrev pub ended : End → Scan
-ended e = record { tokens = []; end = e }
+abbrev pub scanEnd : End → Scan
+scanEnd e = record { tokens = []; end = e }
 
-abbrev pub after : Token → Scan → Scan
-after t s = record { tokens = t ∷ s .tokens; end = s .end }
+abbrev pub followed : Token → Scan → Scan
+followed t s = record { tokens = t ∷ s .tokens; end = s .end }
 
 -- The text from p on, with k more tokens allowed and n bytes of the last lexeme still to pass.
 unfoldable pub scanFrom : ℕ → ℕ → ℕ → List ℕ → Scan
-scanFrom p k n [] = ended fine
+scanFrom p k n [] = scanEnd fine
 scanFrom p k (suc n) (b ∷ bs) = scanFrom (p + 1) k n bs
 scanFrom p k zero (b ∷ bs) =
     elim (lexeme p b bs) [
-      | nothing n ↦ scanFrom (p + 1) k n bs
-      | token n t ↦ elim (ltb 0 k) [ true ↦ after t (scanFrom (p + 1) (k - 1) n bs) | false ↦ ended (refuse 13 p) ]
-      | refused m ↦ ended (refuse m p)
+      | no-lexeme n ↦ scanFrom (p + 1) k n bs
+      | token n t ↦ elim (ltb 0 k) [ true ↦ followed t (scanFrom (p + 1) (k - 1) n bs) | false ↦ scanEnd (refuse 13 p) ]
+      | bad-lexeme m ↦ scanEnd (refuse m p)
     ]
 
 unfoldable pub scan : List ℕ → Scan

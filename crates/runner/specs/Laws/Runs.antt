@@ -9,7 +9,7 @@ use lib.ListN.{length, getD, set}
 use lib.Seq.{getD-set-same, getD-set-other}
 use Rattle.rules.specs.Declarations.{Table, totalWords}
 use Rattle.rules.specs.Steps.Evaluation.{Carriers, Outcome, gives, faulty}
-use Rattle.rules.specs.Steps.Runs.{Worked, perform, Run, ran, done, halted, faulted, run}
+use Rattle.rules.specs.Steps.Runs.{Worked, perform, Run, runWith, done, halted, faulted, run}
 use Rattle.laws_orders.specs.Cited.Flat.{Code, At, pc, over, halt, broken, return, nextM, workM, Machine, runs, ended, stood, broke, put, putAfter, stepM}
 use Rattle.laws_orders.specs.Orders.Flat.{runM}
 use Rattle.laws_orders.specs.Orders.Simulate.{machine-agrees}
@@ -58,9 +58,9 @@ abbrev onwardM : Table → Code → ℕ → ℕ → Machine → Run
 onwardM ds C b k m =
     elim m [
       | runs n σ u ↦ runM ds C b (suc k) n σ u
-      | ended u ↦ ran done (suc k) u
-      | stood u ↦ ran halted (suc k) u
-      | broke x p u ↦ ran (faulted x p) k u
+      | ended u ↦ runWith done (suc k) u
+      | stood u ↦ runWith halted (suc k) u
+      | broke x p u ↦ runWith (faulted x p) k u
     ]
 
 step-onward : (ds : Table) (C : Code) (b k n : ℕ) (σ : List ℕ) (s : Carriers) (m : Machine) → stepM ds C n σ s ≡ m → runM ds C (suc b) k n σ s ≡ onwardM ds C b k m
@@ -154,20 +154,20 @@ module _ {records values decls before : List ℕ} {start : ℕ} (v : RunAt recor
           let k : after ≡ carriers = subst (λ r. Keeps r carriers after) e (told step-at .kept) in
           record {
             same = goes-on ∙ ap (λ r. onwardM (v .table) (v .code) (budget - (steps + 1)) steps (put now-words after-words (control r σ))) e
-                ∙ ap (λ c. ran (faulted m p) steps (carrierWords (totalWords (v .table)) c)) (sym k);
+                ∙ ap (λ c. runWith (faulted m p) steps (carrierWords (totalWords (v .table)) c)) (sym k);
           }
 
       pub stops-there : r ≡ Stop → RunAnswer v budget after (Stopped (steps + 1))
       stops-there e = record {
         same = goes-on ∙ ap (λ r. onwardM (v .table) (v .code) (budget - (steps + 1)) steps (put now-words after-words (control r σ))) e
-            ∙ ap (λ k. ran halted k after-words) (sym (add-one steps));
+            ∙ ap (λ k. runWith halted k after-words) (sym (add-one steps));
       }
 
       pub ends-there : {n : ℕ} → r ≡ Go n → n ≡ 0 → σ ≡ [] → RunAnswer v budget after (Done (steps + 1))
       ends-there q n₀ z = record {
         same = goes-on ∙ ap (λ r. onwardM (v .table) (v .code) (budget - (steps + 1)) steps (put now-words after-words (control r σ))) (q ∙ ap Go n₀)
             ∙ ap (λ τ. onwardM (v .table) (v .code) (budget - (steps + 1)) steps (put now-words after-words (return τ))) z
-            ∙ ap (λ k. ran done k after-words) (sym (add-one steps));
+            ∙ ap (λ k. runWith done k after-words) (sym (add-one steps));
       }
 
       -- control is at another instruction

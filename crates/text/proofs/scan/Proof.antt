@@ -11,7 +11,7 @@ use Rattle.cells.specs.Cells.{putCell}
 use Rattle.cells.specs.Laws.{length-put}
 use Rattle.rules.specs.Text.Bytes.{classOf, classIn}
 use Rattle.rules.specs.Text.Tokens.{Token, kindNo}
-use Rattle.rules.specs.Text.Scan.{Scan, End, fine, refuse, ended, after, lexeme, scan}
+use Rattle.rules.specs.Text.Scan.{Scan, End, fine, refuse, scanEnd, followed, lexeme, scan}
 use Rattle.classes.specs.Classes.{Classed}
 use Rattle.classes.specs.Laws.Runs.{right, classed}
 use Rattle.lexemes.specs.Lexemes.{sizeOf, lexemeOf}
@@ -41,7 +41,7 @@ Done text records₀ values₀ r records values =
 module _ {text records₀ values₀ records values : List ℕ} {count before : ℕ} where
   stored : (t : Token) (s : Scan) {x y f : ℕ} {records′ values′ : List ℕ} → x ≡ recordOf t → y ≡ valueOf before t → f ≡ t .info .free
       → records′ ≡ putCell 8 records count x → values′ ≡ putCell 8 values count y
-      → Left text records₀ values₀ (after t s) records values count before → Left text records₀ values₀ s records′ values′ (count + 1) f
+      → Left text records₀ values₀ (followed t s) records values count before → Left text records₀ values₀ s records′ values′ (count + 1) f
   unfolding writeCells valueCells
   stored t s ex ey ef er ev l = record {
     answer = ap (λ (n : ℕ). endedAt n (s .end)) (omega arith) ∙ l .answer;
@@ -49,7 +49,7 @@ module _ {text records₀ values₀ records values : List ℕ} {count before : �
     in-values = rw (ev, ey, ef) (l .in-values);
   }
 
-  finished : (e : End) → Left text records₀ values₀ (ended e) records values count before → Done text records₀ values₀ (endedAt count e) records values
+  finished : (e : End) → Left text records₀ values₀ (scanEnd e) records values count before → Done text records₀ values₀ (endedAt count e) records values
   unfolding writeCells valueCells
   finished e l = (ap (λ (n : ℕ). endedAt n e) (omega arith) ∙ l .answer, (l .in-records, l .in-values))
 
@@ -146,7 +146,7 @@ module _ {text records₀ values₀ classes records values : List ℕ} {at count
           → Inv text records₀ values₀ classes records′ values′ (at + (n + 1)) (count + 1) f
       token-passed {x} {y} more ey ex er ev =
           let fewer : 8192 - count - 1 ≡ 8192 - (count + 1) = omega arith in
-          let rest : from text at (8192 - count) ≡ after (back .it) (from text (at + (n + 1)) (8192 - (count + 1)))
+          let rest : from text at (8192 - count) ≡ followed (back .it) (from text (at + (n + 1)) (8192 - (count + 1)))
           = rw fewer at (from-token text at h (8192 - count) n (back .it) (back .is) (omega (arith, inv .few))) in
           record {
             classed = inv .classed;

@@ -9,7 +9,7 @@ use lib.Dec.{eqb, ltb}
 use lib.ListN.{length, length-map, getD}
 use Rattle.cells.specs.Cells.{cells}
 use Rattle.rules.specs.Text.Tokens.{Token, kindNo}
-use Rattle.rules.specs.Text.Scan.{Scan, End, fine, refuse, ended, after, scanFrom, scan, Lexeme, lexeme, nothing, token, refused}
+use Rattle.rules.specs.Text.Scan.{Scan, End, fine, refuse, scanEnd, followed, scanFrom, scan, Lexeme, lexeme, no-lexeme, token, bad-lexeme}
 use Rattle.rules.specs.Limits.{longestText, mostTokens}
 use Rattle.lexemes.specs.Lexemes.{sizeOf}
 use Rattle.text.specs.Laws.Sound.{Sound, Placed, lexeme-sound}
@@ -43,10 +43,10 @@ record Kept (p k high : ℕ) (s : Scan) : Type 0 where
 moved : {p k high : ℕ} {s : Scan} → Kept (p + 1) k high s → Kept p k high s
 moved {p} {k} {high} {s} r = record { few = r .few; rising = weaker p (p + 1) high (s .tokens) (omega arith) (r .rising) }
 
-none-kept : (p k high : ℕ) (e : End) → Kept p k high (ended e)
+none-kept : (p k high : ℕ) (e : End) → Kept p k high (scanEnd e)
 none-kept p k high e = record { few = omega arith; rising = tt }
 
-one-kept : (p k high n room : ℕ) (t : Token) (s : Scan) → 0 < k → p < high → Placed p room n t → Kept (p + 1) (k - 1) high s → Kept p k high (after t s)
+one-kept : (p k high n room : ℕ) (t : Token) (s : Scan) → 0 < k → p < high → Placed p room n t → Kept (p + 1) (k - 1) high s → Kept p k high (followed t s)
 one-kept p k high n room t s some inside is rest = record {
   few = omega (arith, rest .few);
   rising = (
@@ -58,8 +58,8 @@ one-kept p k high n room t s some inside is rest = record {
 step : (p k b high : ℕ) (bs : List ℕ) → p < high → ((j n : ℕ) → Kept (p + 1) j high (scanFrom (p + 1) j n bs)) → (l : Lexeme) → lexeme p b bs ≡ l
     → Sound p (length bs) l → Kept p k high (scanFrom p k 0 (b ∷ bs))
 unfolding scanFrom
-step p k b high bs inside more (nothing n) e is = rw (scanFrom, e) (moved (more k n))
-step p k b high bs inside more (refused m) e is = rw (scanFrom, e) (none-kept p k high (refuse m p))
+step p k b high bs inside more (no-lexeme n) e is = rw (scanFrom, e) (moved (more k n))
+step p k b high bs inside more (bad-lexeme m) e is = rw (scanFrom, e) (none-kept p k high (refuse m p))
 step p k b high bs inside more (token n t) e is = go (ltb 0 k) refl
   where
     go : (r : Bool) → ltb 0 k ≡ r → Kept p k high (scanFrom p k 0 (b ∷ bs))
@@ -167,8 +167,8 @@ module _ (text : List ℕ) where
 refuse-step : (p k b : ℕ) (bs : List ℕ) (m q : ℕ) → ((j n : ℕ) → scanFrom (p + 1) j n bs .end ≡ refuse m q → q < p + 1 + length bs) → (l : Lexeme) → lexeme p b bs ≡ l
     → scanFrom p k 0 (b ∷ bs) .end ≡ refuse m q → q < p + suc (length bs)
 unfolding scanFrom
-refuse-step p k b bs m q more (nothing n) e h = omega (arith, more k n (rw (scanFrom, e) at h))
-refuse-step p k b bs m q more (refused x) e h = let is : refuse x p ≡ refuse m q = rw (scanFrom, e) at h in let same : p ≡ q = cc in omega arith
+refuse-step p k b bs m q more (no-lexeme n) e h = omega (arith, more k n (rw (scanFrom, e) at h))
+refuse-step p k b bs m q more (bad-lexeme x) e h = let is : refuse x p ≡ refuse m q = rw (scanFrom, e) at h in let same : p ≡ q = cc in omega arith
 refuse-step p k b bs m q more (token n t) e h = go (ltb 0 k) refl
   where
     go : (r : Bool) → ltb 0 k ≡ r → q < p + suc (length bs)

@@ -9,10 +9,10 @@ use borrow.Author.Tests.{leb-true, ltb-true}
 use lib.Dec.{ltb, leb}
 use lib.ListN.{length, length-map, length-take, take}
 use lib.Pow.{pow-mono}
-use Rattle.rules.specs.Text.Bytes.{Class, classOf, run, fold, inName, inConstant, inComment, forbidden, blank, exclamation, letter, digit, dot, prefix, query, mark, other}
+use Rattle.rules.specs.Text.Bytes.{Class, classOf, leading, fold, inName, inConstant, inComment, forbidden, blank, exclamation, letter, digit, dot, prefix, query, mark, other}
 use Rattle.rules.specs.Text.Tokens.{Kind, Token, Const, Spelling, keywords, marks, kindNo}
 use Rattle.rules.specs.Text.Constants.{Constant, malformed, constant, decimal, based, all, any, isQuery, isDigitOf, isBasedDigit, valueFrom, digitBits, bitsFrom, decimalBits}
-use Rattle.rules.specs.Text.Scan.{Lexeme, nothing, token, refused, sameBytes, wordKind, wordLexeme, constantLexeme, maskedKind, markAt, markLexeme, lexemeBy, lexeme}
+use Rattle.rules.specs.Text.Scan.{Lexeme, no-lexeme, token, bad-lexeme, sameBytes, wordKind, wordLexeme, constantLexeme, maskedKind, markAt, markLexeme, lexemeBy, lexeme}
 use Rattle.lexemes.specs.Lexemes.{sizeOf}
 use Rattle.classes.specs.Laws.Runs.{length-run, and-left, and-right}
 use Rattle.lexemes.specs.Laws.Words.{same-length}
@@ -28,9 +28,9 @@ pub record Placed (p room n : ℕ) (t : Token) : Type 0 where
   pub within : n ≤ room
 
 abbrev pub Sound : ℕ → ℕ → Lexeme → Type 0
-Sound p room (nothing n) = n ≤ room
+Sound p room (no-lexeme n) = n ≤ room
 Sound p room (token n t) = Placed p room n t
-Sound p room (refused m) = Unit
+Sound p room (bad-lexeme m) = Unit
 
 -- spellings whose kinds are numbered below 42
 low : List Spelling → Bool
@@ -145,14 +145,14 @@ unfolding lexemeBy low
 by-class forbidden p b bs = tt
 by-class blank p b bs = omega arith
 by-class exclamation p b bs = length-run inComment bs
-by-class letter p b bs = word-sound p (length bs) (run inName (b ∷ bs)) (length-run inName (b ∷ bs))
+by-class letter p b bs = word-sound p (length bs) (leading inName (b ∷ bs)) (length-run inName (b ∷ bs))
 by-class digit p b bs =
-    constant-sound p (length bs) (length (run inConstant bs)) Const (decimal (run inConstant (b ∷ bs))) (omega arith) (length-run inConstant bs)
-    (decimal-fits (run inConstant (b ∷ bs)))
+    constant-sound p (length bs) (length (leading inConstant bs)) Const (decimal (leading inConstant (b ∷ bs))) (omega arith) (length-run inConstant bs)
+    (decimal-fits (leading inConstant (b ∷ bs)))
 by-class dot p b bs = tt
 by-class prefix p b bs =
-    constant-sound p (length bs) (length (run inConstant bs)) (maskedKind (any isQuery (run inConstant bs)))
-    (based (digitBits b) (run inConstant bs)) (masked-low (any isQuery (run inConstant bs))) (length-run inConstant bs) (based-fits b (run inConstant bs))
+    constant-sound p (length bs) (length (leading inConstant bs)) (maskedKind (any isQuery (leading inConstant bs)))
+    (based (digitBits b) (leading inConstant bs)) (masked-low (any isQuery (leading inConstant bs))) (length-run inConstant bs) (based-fits b (leading inConstant bs))
 by-class query p b bs = tt
 by-class mark p b bs = mark-sound p b bs (markAt marks (b ∷ bs)) (mark-found marks (b ∷ bs) refl)
 by-class other p b bs = tt

@@ -7,7 +7,7 @@ use mathlib.Core.Bool.{Bool, true, false}
 use mathlib.Core.List.{List}
 use Prim.Native.Nat.{ℕ, _+_, _-_, _<_, _≤_}
 use lib.ListN.{length, getD, drop}
-use Rattle.rules.specs.Text.Bytes.{run}
+use Rattle.rules.specs.Text.Bytes.{leading}
 use Rattle.classes.specs.Classes.{among, RunEnds}
 use Rattle.classes.specs.Laws.Runs.{run-step, run-stop, run-over}
 use Rattle.classes.proofs.classes.run_end.Statement.{statement}
@@ -15,7 +15,7 @@ use Rattle.classes.proofs.classes.run_end.Tie as tie
 
 record Inv (text : List ℕ) (from set i : ℕ) : Type 0 where
   pub within : i ≤ length text
-  pub left : i + length (run (among set) (drop i text)) ≡ from + length (run (among set) (drop from text))
+  pub left : i + length (leading (among set) (drop i text)) ≡ from + length (leading (among set) (drop from text))
 
 module _ {text : List ℕ} {from set i : ℕ} (inv : Inv text from set i) where
   stopped : {r : Bool} → i < length text → r ≡ among set (getD text i 0) → r ≡ false → RunEnds set text from i

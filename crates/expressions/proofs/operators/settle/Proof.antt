@@ -8,7 +8,7 @@ use Prim.Native.Nat.{ℕ, _+_, _-_, _*_, _<_, _≤_}
 use lib.ListN.{length, getD}
 use Rattle.rules.specs.Text.Tokens.{Info, Op, opKind, kindNo}
 use Rattle.rules.specs.Grammar.Precedence.{Factor, tightness}
-use Rattle.rules.specs.Faults.Bodies.{Judged, judged}
+use Rattle.rules.specs.Faults.Bodies.{Judged, judgedAs}
 use Rattle.table.specs.Holds.{kindByte, placeCell}
 use Rattle.table.specs.Operators.{tightnessAt}
 use Rattle.table.specs.Laws.Operators.{tightness-at}
@@ -54,7 +54,7 @@ module _ {records ats keys lengths : List ℕ} {tight count₀ k₀ n₀ count k
             (both (w .last .op) (w .last .info) (w .last .left) (s .here .value) (eo ∙ top-kind (s .here) w refl) (ep ∙ top-place (s .here) w refl) (w .at .left) (s .here .weighs))
 
         again : SettleAt records ats keys lengths count₀ k₀ n₀ → Inv records ats keys lengths tight count₀ k₀ n₀ (count - 1) k′ n′
-        again v = record { now = turn v (λ f. judged [] 0) .here; all = turn }
+        again v = record { now = turn v (λ f. judgedAs [] 0) .here; all = turn }
 
 abbrev Inv-loop : tie.InvT-loop
 Inv-loop records ats keys lengths tight count₀ key₀ bits₀ count key bits = Inv records ats keys lengths tight count₀ key₀ bits₀ count key bits

@@ -7,7 +7,7 @@ use mathlib.Core.List.{List}
 use Prim.Native.Nat.{ℕ, _+_, _-_}
 use lib.ListN.{length, getD, drop}
 use lib.Seq.{slice}
-use Rattle.rules.specs.Text.Bytes.{prefix, inConstant, run}
+use Rattle.rules.specs.Text.Bytes.{prefix, inConstant, leading}
 use Rattle.rules.specs.Text.Constants.{based, digitBits}
 use Rattle.rules.specs.Text.Scan.{lexemeBy}
 use Rattle.classes.specs.Classes.{RunEnds}
@@ -26,7 +26,7 @@ found : (text : List ℕ) (at end : ℕ) {x : Number} {r : Lexeme} → RunEnds 1
 unfolding lexemeBy
 found text at end {x} {r} runs ex er =
     let digits : Run inConstant text (at + 1) end = ran inConstant text 184 (at + 1) end constant-set runs in
-    let more : end - (at + 1) ≡ length (run inConstant (drop (at + 1) text)) = omega (arith, digits .ends) in
+    let more : end - (at + 1) ≡ length (leading inConstant (drop (at + 1) text)) = omega (arith, digits .ends) in
     er ∙ rw (more, ex, digits .part) (sym (based-law at _ (getD text at 0) _))
 
 pub based-at-spec : {M : Type 1} → statement M

@@ -8,7 +8,7 @@ use mathlib.Core.List.{List, _∷_}
 use Prim.Native.Nat.{ℕ, _+_, _-_, _<_}
 use lib.ListN.{length, getD, drop}
 use lib.Seq.{slice}
-use Rattle.rules.specs.Text.Bytes.{digit, inConstant, run}
+use Rattle.rules.specs.Text.Bytes.{digit, inConstant, leading}
 use Rattle.rules.specs.Text.Constants.{decimal}
 use Rattle.rules.specs.Text.Scan.{lexemeBy}
 use Rattle.classes.specs.Classes.{RunEnds}
@@ -28,8 +28,8 @@ unfolding lexemeBy
 found text at end {x} {r} h first runs ex er =
     let behind : Run inConstant text (at + 1) end = ran inConstant text 184 (at + 1) end constant-set runs in
     let whole : Run inConstant text at end = one-more inConstant text at end h first behind in
-    let more : end - (at + 1) ≡ length (run inConstant (drop (at + 1) text)) = omega (arith, behind .ends) in
-    let digits : slice at end text ≡ run inConstant (getD text at 0 ∷ drop (at + 1) text) = whole .part ∙ ap (run inConstant) (drop-from text at h) in
+    let more : end - (at + 1) ≡ length (leading inConstant (drop (at + 1) text)) = omega (arith, behind .ends) in
+    let digits : slice at end text ≡ leading inConstant (getD text at 0 ∷ drop (at + 1) text) = whole .part ∙ ap (leading inConstant) (drop-from text at h) in
     er ∙ rw (more, ex, digits) (sym (decimal-law at _ _))
 
 pub decimal-at-spec : {M : Type 1} → statement M

@@ -6,7 +6,7 @@ use mathlib.Core.Path.{_≡_, ap}
 use mathlib.Core.List.{List}
 use Prim.Native.Nat.{ℕ, _+_, _-_}
 use lib.ListN.{length, getD, drop}
-use Rattle.rules.specs.Text.Bytes.{exclamation, inComment, run}
+use Rattle.rules.specs.Text.Bytes.{exclamation, inComment, leading}
 use Rattle.rules.specs.Text.Scan.{lexemeBy}
 use Rattle.classes.specs.Classes.{RunEnds}
 use Rattle.lexemes.specs.Lexemes.{lexemeOf}
@@ -20,7 +20,7 @@ found : (text : List ℕ) (at end : ℕ) → RunEnds 1022 text (at + 1) end
 unfolding lexemeBy
 found text at end runs =
     let behind : Run inComment text (at + 1) end = ran inComment text 1022 (at + 1) end comment-set runs in
-    let more : end - (at + 1) ≡ length (run inComment (drop (at + 1) text)) = omega (arith, behind .ends) in
+    let more : end - (at + 1) ≡ length (leading inComment (drop (at + 1) text)) = omega (arith, behind .ends) in
     ap Nothing more
 
 pub comment-at-spec : {M : Type 1} → statement M

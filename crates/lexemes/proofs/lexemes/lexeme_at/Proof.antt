@@ -7,7 +7,7 @@ use mathlib.Core.List.{List}
 use Prim.Native.Nat.{ℕ}
 use Rattle.rules.specs.Text.Bytes.{Class, classNo, classOf, inName, inConstant}
 use Rattle.rules.specs.Text.Bytes.{forbidden, blank, exclamation, letter, digit, dot, prefix, query, mark, other}
-use Rattle.rules.specs.Text.Scan.{lexeme, lexemeBy, refused}
+use Rattle.rules.specs.Text.Scan.{lexeme, lexemeBy, bad-lexeme}
 use Rattle.lexemes.specs.Lexemes.{lexemeOf}
 use Rattle.classes.specs.Laws.Runs.{classAt, class-back}
 use Rattle.lexemes.specs.declared.lexemes.Lexeme.{Lexeme}
@@ -33,7 +33,7 @@ starts-decimal b e q = rw (told 4 b e q)
 
 -- the classes that start nothing
 none : (c : Class) (p b : ℕ) (bs : List ℕ) → (classNo c ≡ 1 → ⊥) → (classNo c ≡ 2 → ⊥) → (classNo c ≡ 3 → ⊥) → (classNo c ≡ 4 → ⊥)
-    → (classNo c ≡ 6 → ⊥) → (classNo c ≡ 8 → ⊥) → lexemeBy c p b bs ≡ refused 10
+    → (classNo c ≡ 6 → ⊥) → (classNo c ≡ 8 → ⊥) → lexemeBy c p b bs ≡ bad-lexeme 10
 unfolding lexemeBy
 none forbidden p b bs h1 h2 h3 h4 h6 h8 = refl
 none blank p b bs h1 h2 h3 h4 h6 h8 = absurd (h1 refl)

@@ -10,7 +10,7 @@ use mathlib.Core.List.{List, map}
 use Prim.Native.Nat.{ℕ, _+_, _-_, _<_, _≤_}
 use lib.ListN.{length, length-map, getD, drop}
 use lib.Seq.{slice}
-use Rattle.rules.specs.Text.Bytes.{letter, fold, inName, run}
+use Rattle.rules.specs.Text.Bytes.{letter, fold, inName, leading}
 use Rattle.rules.specs.Text.Tokens.{keywords, kindNo}
 use Rattle.rules.specs.Text.Constants.{all}
 use Rattle.rules.specs.Text.Scan.{wordKind, wordLexeme, lexemeBy}
@@ -29,13 +29,13 @@ module _ (text : List ℕ) (at end : ℕ) (h : at < length text) (first : inName
   here : Lexeme
   here = lexemeOf (lexemeBy letter at (getD text at 0) (drop (at + 1) text))
 
-  law : lexemeOf (wordLexeme at (run inName (drop at text))) ≡ here
+  law : lexemeOf (wordLexeme at (leading inName (drop at text))) ≡ here
   unfolding here lexemeBy
   law = rw (drop-from text at h)
 
   long : 32 < end - at → Refused 11 ≡ here
   unfolding wordLexeme
-  long l = let e : 32 < length (run inName (drop at text)) = omega (arith, word .ends) in rw (wordLexeme, lt-leb _ _ e) at law
+  long l = let e : 32 < length (leading inName (drop at text)) = omega (arith, word .ends) in rw (wordLexeme, lt-leb _ _ e) at law
 
   names : all inName (slice at end text) ≡ true
   names = rw (word .part) (all-run inName (drop at text))
@@ -44,10 +44,10 @@ module _ (text : List ℕ) (at end : ℕ) (h : at < length text) (first : inName
       → Token (end - at - 1) k (end - at) 0 0 ≡ here
   unfolding wordLexeme
   found {k} l e =
-      let size : end - at ≡ length (run inName (drop at text)) = omega (arith, word .ends) in
-      let kind : k ≡ kindNo (wordKind keywords (map fold (run inName (drop at text)))) = e ∙ rw (word .part) in
-      let short : length (run inName (drop at text)) ≤ 32 = omega arith in
-      let same : Token (end - at - 1) k (end - at) 0 0 ≡ lexemeOf (wordLexeme at (run inName (drop at text)))
+      let size : end - at ≡ length (leading inName (drop at text)) = omega (arith, word .ends) in
+      let kind : k ≡ kindNo (wordKind keywords (map fold (leading inName (drop at text)))) = e ∙ rw (word .part) in
+      let short : length (leading inName (drop at text)) ≤ 32 = omega arith in
+      let same : Token (end - at - 1) k (end - at) 0 0 ≡ lexemeOf (wordLexeme at (leading inName (drop at text)))
       = rw (wordLexeme, le-leb _ _ short, size, kind, length-map, add-zero) in
       same ∙ law
 
