@@ -1,0 +1,4 @@
+pub mod Names
+pub mod Asked
+pub mod Told
+pub mod Laws

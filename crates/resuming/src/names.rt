@@ -1,0 +1,114 @@
+// The lent names: the number of the declaration that each one means.
+use cells::get16;
+use reading::bodies::body_at;
+use table::records::place_at;
+use table::records::size_at;
+use table::views::Names;
+use table::views::bits_of;
+use table::views::target_of;
+use table::words::upper;
+ghost use mathlib.Core.Path.{_≡_};
+ghost use mathlib.Core.List.{List};
+ghost use Prim.Native.Nat.{ℕ, _+_, _≤_};
+ghost use lib.ListN.{length};
+ghost use Rattle.rules.specs.Text.Scan.{sameBytes};
+ghost use Rattle.rules.specs.Declarations.{declaredOf, numberOf};
+ghost use Rattle.rules.specs.Paths.{folded};
+ghost use Rattle.table.specs.Holds.{foldedAt};
+ghost use Rattle.table.specs.Lookups.{orElse};
+ghost use Rattle.table.specs.Views.{View};
+ghost use Rattle.whole.specs.Written.{Written, whole};
+ghost use Rattle.reader.specs.Judged.{Accepts, table-by};
+ghost use Rattle.resuming.specs.Names.{isStorage, Test, Output};
+
+// Whether n bytes of the text from p on are a lent name, but for the case of letters.
+fn is_name(text: &[u8], p: usize, n: usize, name: &[u8]) -> bool
+    requires { ⌜ p + n ≤ length (now text) ⌝ }
+    ensures { λ r. ⌜ r ≡ sameBytes (foldedAt (now (text .entry)) p n) (folded (now (name .entry))) ⌝ }
+{
+    if name.len() != n {
+        return false;
+    }
+    let mut k: usize = 0;
+    while k < n {
+        let x = upper(text[p + k]);
+        let y = upper(name[k]);
+        if x != y {
+            return false;
+        }
+        k += 1;
+    }
+    true
+}
+
+// The number of the first of the m declarations that has a lent name, or m.
+fn number_of(text: &[u8], records: &[u8], decls: &[u8], m: usize, n: usize, name: &[u8]) -> usize
+    requires { ⌜ Written (now text) (now records) (now decls) m n ⌝ }
+    ensures { λ r. ⌜ ((v : Written (now (text .entry)) (now (records .entry)) (now (decls .entry)) m n) → r ≡ orElse m (numberOf (whole v) (folded (now (name .entry))))) ⌝ }
+{
+    let mut k: usize = 0;
+    while k < m {
+        let p = get16(decls, k) as usize;
+        let size = size_at(records, p) as usize;
+        if is_name(text, place_at(records, p), size, name) {
+            return k;
+        }
+        k += 1;
+    }
+    m
+}
+
+// Whether the declaration whose name is the token p is a storage carrier: it has bits, and is no mapping.
+fn is_storage(records: &[u8], values: &[u8], p: usize) -> bool
+    requires { ⌜ View (now records) (now values) p ⌝ }
+    ensures { λ r. ⌜ ((v : View (now (records .entry)) (now (values .entry)) p) → r ≡ isStorage (declaredOf (v .declaration))) ⌝ }
+{
+    if target_of(records, p) != 0 {
+        return false;
+    }
+    match bits_of(records, values, p) {
+        Names::Missing => false,
+        Names::Unnamed => true,
+        Names::Span(_, _) => true,
+    }
+}
+
+// The number of the body that a lent name means, or m.
+pub fn test_number(text: &[u8], records: &[u8], decls: &[u8], m: usize, n: usize, test: &[u8]) -> usize
+    requires { ⌜ Written (now text) (now records) (now decls) m n ⌝ }
+    ensures { λ r. ⌜ ((v : Written (now (text .entry)) (now (records .entry)) (now (decls .entry)) m n) → Test (whole v) (folded (now (test .entry))) m r) ⌝ }
+{
+    let k = number_of(text, records, decls, m, n, test);
+    if k == m {
+        return m;
+    }
+    if body_at(records, decls, m, n, k) == 0 {
+        return m;
+    }
+    k
+}
+
+// The number of the storage carrier that a lent name means, or m.
+pub fn output_number(
+    text: &[u8],
+    records: &[u8],
+    values: &[u8],
+    decls: &[u8],
+    m: usize,
+    n: usize,
+    output: &[u8],
+) -> usize
+    requires { ⌜ ((words : ℕ) × Accepts (now text) (now records) (now values) (now decls) m words n) ⌝ }
+    ensures { λ r. ⌜ ((words : ℕ) (v : Accepts (now (text .entry)) (now (records .entry)) (now (values .entry)) (now (decls .entry)) m words n)
+        → Output (table-by v) (folded (now (output .entry))) m r) ⌝ }
+{
+    let k = number_of(text, records, decls, m, n, output);
+    if k == m {
+        return m;
+    }
+    let p = get16(decls, k) as usize;
+    if is_storage(records, values, p) {
+        return k;
+    }
+    m
+}
