@@ -1,2 +1,4 @@
 pub mod Demands
+pub mod Late
+pub mod Profile
 pub mod Laws

@@ -2,6 +2,7 @@
 ghost use Rattle.rules.specs.Calls.Memory.{memory};
 ghost use Rattle.rules.specs.Calls.Check.{CheckCall};
 ghost use Rattle.rules.specs.Calls.Run.{RunCall};
+ghost use Rattle.rules.specs.Calls.Profile.{ProfileCall};
 
 // Check: judges a text. Returns the number of the answer, which stands in `answer` unless it is 1 or 2.
 #[no_mangle]
@@ -33,4 +34,21 @@ pub extern "C" fn isps_run(
         (memory (now (a .exit)) (now (b .exit)) (now (c .exit)) (now (answer .exit))) (now (carriers .exit)) r ⌝ }
 {
     running::run(text, carriers, budget, a, b, c, answer)
+}
+
+// The resume profile: whether some path of a text writes the output before one activation of the test has ended, by the names of both.
+#[no_mangle]
+pub extern "C" fn isps_profile(
+    text: &[u8],
+    test: &[u8],
+    output: &[u8],
+    a: &mut [u8],
+    b: &mut [u8],
+    c: &mut [u8],
+    answer: &mut [u8],
+) -> u32
+    ensures { λ r. ⌜ ProfileCall (now (text .entry)) (now (test .entry)) (now (output .entry)) (memory (now (a .entry)) (now (b .entry)) (now (c .entry)) (now (answer .entry)))
+        (memory (now (a .exit)) (now (b .exit)) (now (c .exit)) (now (answer .exit))) r ⌝ }
+{
+    resuming::profile(text, test, output, a, b, c, answer)
 }

@@ -8,9 +8,10 @@ use table::views::bits_of;
 use table::views::target_of;
 use table::words::upper;
 ghost use mathlib.Core.Path.{_≡_};
-ghost use mathlib.Core.List.{List};
 ghost use Prim.Native.Nat.{ℕ, _+_, _≤_};
+ghost use lib.Dec.{eqb};
 ghost use lib.ListN.{length};
+ghost use Rattle.rules.specs.Text.Bytes.{fold};
 ghost use Rattle.rules.specs.Text.Scan.{sameBytes};
 ghost use Rattle.rules.specs.Declarations.{declaredOf, numberOf};
 ghost use Rattle.rules.specs.Paths.{folded};
@@ -20,6 +21,15 @@ ghost use Rattle.table.specs.Views.{View};
 ghost use Rattle.whole.specs.Written.{Written, whole};
 ghost use Rattle.reader.specs.Judged.{Accepts, table-by};
 ghost use Rattle.resuming.specs.Names.{isStorage, Test, Output};
+
+// Whether two bytes are the same but for the case of letters.
+fn same_letter(x: u8, y: u8) -> bool
+    ensures { λ r. ⌜ r ≡ eqb (fold x) (fold y) ⌝ }
+{
+    let a = upper(x);
+    let b = upper(y);
+    a == b
+}
 
 // Whether n bytes of the text from p on are a lent name, but for the case of letters.
 fn is_name(text: &[u8], p: usize, n: usize, name: &[u8]) -> bool
@@ -31,9 +41,7 @@ fn is_name(text: &[u8], p: usize, n: usize, name: &[u8]) -> bool
     }
     let mut k: usize = 0;
     while k < n {
-        let x = upper(text[p + k]);
-        let y = upper(name[k]);
-        if x != y {
+        if !same_letter(text[p + k], name[k]) {
             return false;
         }
         k += 1;

@@ -2,12 +2,12 @@
 -- Assumes nothing.
 use Prim.Native.Nat.{ℕ, suc, _+_, _-_, _<_, _≤_}
 use mathlib.Core.Path.{_≡_, refl, sym, ap, _∙_}
-use mathlib.Core.Bool.{Bool, true, false, _&&_}
+use mathlib.Core.Bool.{Bool, true, false, not, _&&_}
 use mathlib.Core.List.{List, [], _∷_, map}
 use native.Mathlib.Nat.{add-zero, sub-zero}
 use native.Mathlib.Numerals.{add-one}
 use native.Mathlib.Omega.{arith}
-use borrow.Author.Tests.{eq-eqb, ne-eqb}
+use borrow.Author.Tests.{not-true, not-false}
 use lib.Dec.{eqb}
 use lib.ListN.{length, getD, take, drop, drop-of-length-le, length-map, length-take, length-drop}
 use lib.Seq.{drop-cons}
@@ -55,15 +55,19 @@ module _ {text name : List ℕ} {p n k : ℕ} (c : Comparing text name p n k) (r
     unfolding sameBytes
     both-next = rw (text-next, name-next, sameBytes)
 
-    pub one-differs : {x y : ℕ} → x ≡ fold (getD text (p + k) 0) → y ≡ fold (getD name k 0) → (x ≡ y → ⊥) → false ≡ wholeSame text name p n
-    one-differs e f d = sym (both-next ∙ rw (ne-eqb _ _ (λ g. d (e ∙ (g ∙ sym f))))) ∙ c .left
+    module _ {b : Bool} (same : b ≡ eqb (fold (getD text (p + k) 0)) (fold (getD name k 0))) where
+      next-by : leftSame text name p n k ≡ (b && leftSame text name p n (k + 1))
+      next-by = both-next ∙ ap (λ (x : Bool). x && leftSame text name p n (k + 1)) (sym same)
 
-    pub one-same : {x y : ℕ} → x ≡ fold (getD text (p + k) 0) → y ≡ fold (getD name k 0) → x ≡ y → Comparing text name p n (k + 1)
-    one-same e f g = record {
-      within = omega arith;
-      long = c .long;
-      left = sym (both-next ∙ rw (eq-eqb _ _ (sym e ∙ (g ∙ f)))) ∙ c .left;
-    }
+      pub one-differs : not b ≡ true → false ≡ wholeSame text name p n
+      one-differs d = sym (next-by ∙ ap (λ (x : Bool). x && leftSame text name p n (k + 1)) (not-true b d)) ∙ c .left
+
+      pub one-same : not b ≡ false → Comparing text name p n (k + 1)
+      one-same d = record {
+        within = omega arith;
+        long = c .long;
+        left = sym (next-by ∙ ap (λ (x : Bool). x && leftSame text name p n (k + 1)) (not-false b d)) ∙ c .left;
+      }
 
   pub all-same : n ≤ k → true ≡ wholeSame text name p n
   unfolding sameBytes
