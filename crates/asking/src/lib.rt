@@ -1,5 +1,6 @@
 // The public calls, each with its answer.
 use isps::isps_check;
+use isps::isps_profile;
 use isps::isps_run;
 use lines::answers::Answer;
 use lines::answers::answer_of;
@@ -24,6 +25,19 @@ pub fn run(
 ) -> Answer {
     let mut answer = [0u8; 32];
     let number = isps_run(text, carriers, budget, a, b, c, &mut answer);
+    answer_of(number, &answer)
+}
+
+pub fn profile(
+    text: &[u8],
+    test: &[u8],
+    output: &[u8],
+    a: &mut [u8],
+    b: &mut [u8],
+    c: &mut [u8],
+) -> Answer {
+    let mut answer = [0u8; 32];
+    let number = isps_profile(text, test, output, a, b, c, &mut answer);
     answer_of(number, &answer)
 }
 

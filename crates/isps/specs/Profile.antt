@@ -6,7 +6,7 @@ use mathlib.Core.Bool.{false}
 use mathlib.Core.List.{List}
 use mathlib.Core.Logic.{_↔_}
 use mathlib.Core.Option.{none, some}
-use lib.ListN.{length, getD, getElem?}
+use lib.ListN.{length, getD, getElem?, drop}
 use Rattle.rules.specs.Limits.{longestText}
 use Rattle.rules.specs.Text.Scan.{scan}
 use Rattle.rules.specs.Grammar.Trees.{Description, flatten}
@@ -14,7 +14,7 @@ use Rattle.rules.specs.Declarations.{Declared, Table, declarations, bodyOf, wor
 use Rattle.rules.specs.Steps.Evaluation.{Carriers}
 use Rattle.rules.specs.Steps.Runs.{Conf, Steps, begin}
 use Rattle.rules.specs.Faults.Whole.{mainName}
-use Rattle.rules.specs.Answers.{Lawful, refusedNumbers}
+use Rattle.rules.specs.Answers.{Lawful, littleEndian, refusedNumbers}
 use Rattle.rules.specs.Agreement.{endingIn, carriersAt}
 use Rattle.rules.specs.Paths.{TooEarly, storageOf, folded, testEnded}
 use Rattle.rules.specs.Calls.Memory.{Memory, Enough, answered}
@@ -45,10 +45,11 @@ module _ {text test output : List ℕ} {before after : Memory} {n : ℕ} (call :
     pub passes-exactly-number : (n ≡ 0) ↔ ((p : ℕ) → ¬ TooEarly ds (folded test) o p)
     passes-exactly-number = laws.passes-exactly-number call enough short lawful body o storage
 
-    -- it is refused with 92 exactly when some path does, and then at the lowest place.
-    pub fails-exactly : (n ≡ 92) ↔ ((p : ℕ) × Lowest p)
+    -- it is refused with 92, and p is the third number of its answer, exactly when p is the lowest place at which some path does;
+    pub fails-exactly : (p : ℕ) → ((n ≡ 92) × (littleEndian 4 (drop 8 (after .answer)) ≡ p)) ↔ Lowest p
     fails-exactly = laws.fails-exactly call enough short lawful body o storage
 
+    -- then all numbers of its answer are those of that refusal.
     pub fails-there : (p : ℕ) → Lowest p → after .answer ≡ answered (refusedNumbers text 92 p) (before .answer)
     fails-there = laws.fails-there call enough short lawful body o storage
 

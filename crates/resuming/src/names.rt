@@ -82,7 +82,14 @@ fn is_storage(records: &[u8], values: &[u8], p: usize) -> bool
 }
 
 // The number of the body that a lent name means, or m.
-pub fn test_number(text: &[u8], records: &[u8], decls: &[u8], m: usize, n: usize, test: &[u8]) -> usize
+pub fn test_number(
+    text: &[u8],
+    records: &[u8],
+    decls: &[u8],
+    m: usize,
+    n: usize,
+    test: &[u8],
+) -> usize
     requires { ⌜ Written (now text) (now records) (now decls) m n ⌝ }
     ensures { λ r. ⌜ ((v : Written (now (text .entry)) (now (records .entry)) (now (decls .entry)) m n) → Test (whole v) (folded (now (test .entry))) m r) ⌝ }
 {

@@ -68,8 +68,8 @@ unfolding littleEndian answered numberBytes bytesOf
 result-code text (refusal m p) b = refl
 result-code text (ended e n left) b = ran-code text e n b
 
--- the fourth number
-four-bytes : (n : ℕ) → n < 4294967296 → n % 256 + 256 * (n / 256 % 256 + 256 * (n / 256 / 256 % 256 + 256 * (n / 256 / 256 / 256 % 256 + 256 * 0))) ≡ n
+-- a number in its four bytes, and the fourth one of an answer
+pub four-bytes : (n : ℕ) → n < 4294967296 → n % 256 + 256 * (n / 256 % 256 + 256 * (n / 256 / 256 % 256 + 256 * (n / 256 / 256 / 256 % 256 + 256 * 0))) ≡ n
 four-bytes n l =
     let a = n / 256 in
     let b = a / 256 in

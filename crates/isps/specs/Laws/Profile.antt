@@ -2,20 +2,23 @@
 -- Assumes nothing.
 use Prim.Native.Nat.{ℕ, zero, suc, _+_, _-_, _<_, _≤_}
 use mathlib.Core.Path.{_≡_, refl, sym, ap, _∙_, subst}
-use mathlib.Core.Bool.{Bool, true, false, cond, _||_, or-false, or-assoc}
+use mathlib.Core.Bool.{Bool, true, false, cond, _||_, or-false, or-assoc, false≢true}
 use mathlib.Core.List.{List, [], _∷_}
 use mathlib.Core.Logic.{_↔_, _⊎_, inl, inr}
 use mathlib.Core.Option.{none, some, Option·none-ne-some, Option·some-injective}
 use native.Mathlib.Omega.{arith}
-use borrow.Author.Tests.{lt-ltb, le-ltb}
-use lib.ListN.{length, getD, getElem?}
+use borrow.Author.Tests.{lt-ltb, le-ltb, eqb-true}
+use lib.Dec.{eqb}
+use lib.ListN.{length, getD, getElem?, drop}
 use Rattle.rules.specs.Limits.{longestText}
-use Rattle.rules.specs.Text.Scan.{scan}
+use Rattle.rules.specs.Text.Tokens.{Name, tk}
+use Rattle.rules.specs.Text.Scan.{scan, plainInfo}
 use Rattle.rules.specs.Grammar.Trees.{Description, flatten}
 use Rattle.rules.specs.Declarations.{Declared, Table, declarations, bodyOf, wordsOf, firstWord}
 use Rattle.rules.specs.Steps.Evaluation.{Carriers}
 use Rattle.rules.specs.Steps.Control.{Live, Mv, work}
 use Rattle.rules.specs.Steps.Runs.{Conf, running, finished, stopped, fault, perform, step, Steps, begin}
+use Rattle.rules.specs.Whole.Sets.{member}
 use Rattle.rules.specs.Faults.Whole.{mainName}
 use Rattle.rules.specs.Answers.{Lawful, littleEndian, bytesOf, refusedNumbers}
 use Rattle.rules.specs.Agreement.{endingIn, carriersAt}
@@ -24,11 +27,18 @@ use Rattle.rules.specs.Calls.Memory.{Memory, Enough, numberBytes, answered, set
 use Rattle.rules.specs.Calls.Profile.{ProfileCall, profileNumber, profileNumbers, short-memory, long-text, answer}
 use Rattle.laws_grammar.specs.Grammar.Exact.{unique}
 use Rattle.laws_grammar.specs.Answers.{one-verdict, accepted-iff-lawful}
+use Rattle.laws_orders.specs.Orders.Tests.{or-either}
 use Rattle.laws_orders.specs.Orders.Owners.{ownerAt}
 use Rattle.laws.specs.Refusals.Numbered.{checks-numbered}
+use Rattle.text.specs.Laws.Callers.{token-stands}
+use Rattle.paths.specs.Early.{earlyPlaces}
+use Rattle.paths.specs.Least.{Under}
 use Rattle.paths.specs.Verdict.{accepted-none}
 use Rattle.paths.specs.Kept.{carriersIn, output-kept}
-use Rattle.paths.specs.Profile.{only-answer, no-store-before}
+use Rattle.paths.specs.Profile.{listed-exactly, accepted-is-orderly, only-answer, no-store-before}
+use Rattle.profiling.specs.Holding.{unseen}
+use Rattle.resuming.specs.Laws.Near.{Near, all-near, places-under}
+use Rattle.isps.specs.Laws.Calls.{four-bytes}
 use Rattle.isps.specs.Late.{StoresLate}
 
 pub one-profile : {text test output : List ℕ} {before after after′ : Memory} {n n′ : ℕ} → ProfileCall text test output before after n
@@ -67,6 +77,24 @@ answers : {text test output : List ℕ} {before after : Memory} {n : ℕ} → Pr
 answers (short-memory s e a) enough short = absurd (s enough)
 answers (long-text m l e a) enough short = absurd (omega arith)
 answers (answer x m l c e a) enough short = record { profile = x; answers = c; number = e; answer = ap (λ y. y .answer) a }
+
+-- the third number of a refusal
+place-in : (text : List ℕ) (m p : ℕ) (b : List ℕ) → p < 4294967296 → littleEndian 4 (drop 8 (answered (refusedNumbers text m p) b)) ≡ p
+unfolding littleEndian answered numberBytes bytesOf
+place-in text m p b l = four-bytes p l
+
+-- the tokens of a text
+scanned-near : (text : List ℕ) → length text ≤ longestText → Near (scan text .tokens)
+scanned-near text short = all-near (scan text .tokens) (λ i h. omega (arith, token-stands text (tk Name (plainInfo 0)) i h .before))
+
+under-member : (p : ℕ) (ps : List ℕ) → Under unseen ps → member p ps ≡ true → p < unseen
+unfolding member
+under-member p [] h e = absurd (false≢true e)
+under-member p (q ∷ ps) h e = by (under-member p ps (h .1)) (or-either (eqb p q) (member p ps) e)
+  where
+    by : (member p ps ≡ true → p < unseen) → (eqb p q ≡ true) ⊎ (member p ps ≡ true) → p < unseen
+    by rest (inl f) = omega (arith, eqb-true p q f, h .0)
+    by rest (inr f) = rest f
 
 -- the words of a carrier belong to it
 owner-of : (ds : Table) (i : ℕ) (d : Declared) (k : ℕ) → getElem? ds i ≡ some d → k < wordsOf d → ownerAt ds (firstWord ds i + k) ≡ i
@@ -155,12 +183,35 @@ module _ {text test output : List ℕ} {before after : Memory} {n : ℕ} (call :
           by (inl h) = (λ z. h .1, λ z. code ∙ ap profileCode (h .0))
           by (inr h) = (λ z. absurd (omega (arith, code ∙ ap profileCode (h .1))), λ z. absurd (z (h .0) (h .2 .0)))
 
-      pub fails-exactly : (n ≡ 92) ↔ ((p : ℕ) × Lowest p)
-      fails-exactly = by one-of
+      -- places lie in the text, so that they fit into four bytes
+      early-near : (p : ℕ) → TooEarly ds (folded test) o p → p < 4294967296
+      early-near p t =
+          omega (
+            arith,
+            under-member p (earlyPlaces ds (folded test) o)
+                (places-under (lawful .description) (subst Near (sym (lawful .stands)) (scanned-near text short)) (folded test) o)
+                (listed-exactly ds (folded test) o
+                (accepted-is-orderly text m w (accepted-iff-lawful text m w .1 lawful) (lawful .description) (lawful .stands)) p .1 t),
+          )
+
+      pub fails-exactly : (p : ℕ) → ((n ≡ 92) × (littleEndian 4 (drop 8 (after .answer)) ≡ p)) ↔ Lowest p
+      fails-exactly p = by one-of
         where
-          by : Either (given .profile) → (n ≡ 92) ↔ ((p : ℕ) × Lowest p)
-          by (inl h) = (λ z. absurd (omega (arith, given .number ∙ ap profileNumber (h .0))), λ z. absurd (h .1 (z .0) (z .1 .0)))
-          by (inr h) = (λ z. (h .0, h .2), λ z. given .number ∙ ap profileNumber (h .1))
+          there : (k : ℕ) → given .profile ≡ fails 92 k → k < 4294967296 → littleEndian 4 (drop 8 (after .answer)) ≡ k
+          there k e l =
+              ap (λ x. littleEndian 4 (drop 8 x)) (given .answer ∙ ap (λ x. answered (profileNumbers text x) (before .answer)) e)
+              ∙ place-in text 92 k (before .answer) l
+
+          by : Either (given .profile) → ((n ≡ 92) × (littleEndian 4 (drop 8 (after .answer)) ≡ p)) ↔ Lowest p
+          by (inl h) = (λ z. absurd (omega (arith, z .0, given .number ∙ ap profileNumber (h .0))), λ z. absurd (h .1 p (z .0)))
+          by (inr h) =
+              let place = there (h .0) (h .1) (early-near (h .0) (h .2 .0)) in (
+                λ z. subst Lowest (sym place ∙ z .1) (h .2),
+                λ z.
+                    let a : p ≤ h .0 = z .1 (h .0) (h .2 .0) in
+                    let b : h .0 ≤ p = h .2 .1 p (z .0) in
+                    (given .number ∙ ap profileNumber (h .1), place ∙ omega arith),
+              )
 
       pub fails-there : (p : ℕ) → Lowest p → after .answer ≡ answered (refusedNumbers text 92 p) (before .answer)
       fails-there p l = given .answer ∙ ap (λ x. answered (profileNumbers text x) (before .answer)) (by one-of)
@@ -211,10 +262,10 @@ module _ {text test output : List ℕ} {before after : Memory} {n : ℕ} (call :
       more : (j : ℕ) (c : Conf) (r : Live) (t : Carriers) (p : Steps table j c (running r t)) (m : Mv r)
           → (q : Steps table (suc j) c (step table r m t))
           × (testEnded table (folded test) (suc j) c (step table r m t) q
-              ≡ (testEnded table (folded test) j c (running r t) p || endsBy table (folded test) r m (perform table (work r m) t)))
+          ≡ (testEnded table (folded test) j c (running r t) p || endsBy table (folded test) r m (perform table (work r m) t)))
       more zero c r t p m =
           subst (λ x. (q : Steps table 1 x (step table r m t))
-              × (testEnded table (folded test) 1 x (step table r m t) q ≡ endsBy table (folded test) r m (perform table (work r m) t)))
+          × (testEnded table (folded test) 1 x (step table r m t) q ≡ endsBy table (folded test) r m (perform table (work r m) t)))
           (sym p) ((m, refl), or-false (endsBy table (folded test) r m (perform table (work r m) t)))
       more (suc j) (running u v) r t p m =
           let g = more j (step table u (p .0) v) r t (p .1) m in

@@ -33,8 +33,12 @@ module _ {text records decls : List ℕ} {t : Task} (g : Asked text records decl
 
   module _ {k : ℕ} (main : (v : Reading records decls (t .m) (t .n)) → faults50 (tableOf v) ≡ [] → numberOf (tableOf v) (mainName (tableOf v)) ≡ some k) where
     pub main-few : k < 256
-    main-few = omega (arith, number-bound (whole (g .written)) k (mainName (whole (g .written))) (main (reading (g .written)) (g .lawful)),
-        table-size (reading (g .written)), g .written .ready .few)
+    main-few = omega (
+      arith,
+      number-bound (whole (g .written)) k (mainName (whole (g .written))) (main (reading (g .written)) (g .lawful)),
+      table-size (reading (g .written)),
+      g .written .ready .few,
+    )
 
     pub lowest-is : {table : List ℕ} {r : ℕ} → Known16 text records decls table t → r ≡ cell 2 table (2 * k + 1) → Lowest g r
     lowest-is known e =

@@ -1,36 +1,30 @@
 -- The places of transfers lie below the mark that stands for none, since all tokens lie in the text. So the lowest of them that is too early is told from none.
 -- Assumes nothing.
-use Prim.Native.Nat.{ℕ, zero, suc, _+_, _<_, _≤_}
+use Prim.Native.Nat.{ℕ, zero, suc, _<_}
 use mathlib.Core.Path.{_≡_, refl, sym, ap, _∙_, subst}
 use mathlib.Core.Bool.{Bool, true, false, cond}
 use mathlib.Core.List.{List, [], _∷_, _++_}
 use mathlib.Core.Option.{Option, none, some, Option·none-ne-some}
 use native.Mathlib.Omega.{arith}
-use lib.ListN.{length, drop, getElem?}
-use Rattle.cells.specs.Cells.{cell}
+use lib.ListN.{length, getElem?}
 use Rattle.rules.specs.Text.Tokens.{tk}
 use Rattle.rules.specs.Limits.{longestChain}
-use Rattle.rules.specs.Grammar.Trees.{Tokens, bit, upto, OwnBits, unnamed, named, ownBitsTokens, MainBits, bitless, main-bits, mainBitsTokens, Declaration, plain, main, words, with-bits, bare-body, carrier, given, body, mapped, declarationsTokens, Action, block, labelled, if-then, decode, repeat, leave, restart, activate, stop, no-op, transfer, actionTokens, Members, end, also, next, membersTokens, Alternatives, counted, selected, alternativesTokens, Counted, counted-end, counted-more, countedTokens, Selected, select, otherwise, selectedTokens, SelectedMore, selected-end, selected-more, selectedMoreTokens}
-use Rattle.rules.specs.Declarations.{Name as Word, Declared, Table, declaredOf, bodyOf}
-use Rattle.rules.specs.Steps.Actions.{Access, access, joinedAccesses, Act, Groups, inTurn, whole as whole-of, actOf, groups, altsOf, countedAlts, selectedAlts, moreAlts}
+use Rattle.rules.specs.Grammar.Trees.{Tokens, bit, upto, OwnBits, unnamed, named, ownBitsTokens, MainBits, bitless, main-bits, mainBitsTokens, Declaration, plain, main, words, with-bits, bare-body, carrier, given, body, mapped, declarationTokens, Heading, no-heading, heading, headingTokens, Declarations, declared-all, declared-also, declarationsTokens, Description, description, flatten, Action, block, labelled, if-then, decode, repeat, leave, restart, activate, stop, no-op, transfer, actionTokens, Members, end, also, next, membersTokens, Alternatives, counted, selected, alternativesTokens, Counted, counted-end, counted-more, countedTokens, Selected, select, otherwise, selectedTokens, SelectedMore, selected-end, selected-more, selectedMoreTokens}
+use Rattle.rules.specs.Declarations.{Name as Word, Declared, Table, declaredOf, restOf, declarations, bodyOf}
+use Rattle.rules.specs.Steps.Actions.{access, joinedAccesses, Act, inTurn, actOf, groups, altsOf, countedAlts, selectedAlts, moreAlts}
 use Rattle.rules.specs.Steps.Runs.{bodyAct}
 use Rattle.rules.specs.Whole.Sets.{member, stores}
 use Rattle.rules.specs.Faults.Whole.{mainName}
-use Rattle.laws_orders.specs.Orders.Tests.{impossible}
-use Rattle.laws_accepted.specs.Accepted.Named.{FoundBody, found-body}
-use Rattle.paths.specs.Early.{Report, early, earlyI, earlyAlts, bodyEarly, earlyPlaces}
+use Rattle.laws_accepted.specs.Accepted.Named.{found-body}
+use Rattle.paths.specs.Early.{Report, nowhere, early, earlyI, earlyAlts, bodyEarly, earlyPlaces}
 use Rattle.paths.specs.Least.{Under}
 use Rattle.table.specs.Holds.{tokenAt}
-use Rattle.table.specs.Declarations.{nameTokens}
-use Rattle.reading.specs.Meanings.{declares}
-use Rattle.reading.specs.Laws.Meanings.{table-size}
 use Rattle.scopes.specs.Laws.Behind.{Made, expression-made, transfer-made, selector-made}
-use Rattle.whole.specs.Written.{Written, whole}
-use Rattle.whole.specs.Laws.Written.{reading}
+use Rattle.whole.specs.Written.{Written}
 use Rattle.profiling.specs.Holding.{unseen}
 
 -- tokens whose places lie below the mark
-abbrev Near : Tokens → Type 0
+abbrev pub Near : Tokens → Type 0
 Near [] = Unit {0}
 Near (t ∷ ts) = (t .info .place < unseen) × Near ts
 
@@ -41,12 +35,7 @@ past (t ∷ xs) ts x = past xs ts (x .1)
 past-made : {q : ℕ → Bool} {f : Tokens → Tokens} (m : Made q f) (ts : Tokens) → Near (f ts) → Near ts
 past-made m ts x = past (m .tokens) ts (subst Near (m .writes ts) x)
 
-past-dropped : (i : ℕ) (ts : Tokens) → Near ts → Near (drop i ts)
-past-dropped zero ts x = x
-past-dropped (suc i) [] x = x
-past-dropped (suc i) (t ∷ ts) x = past-dropped i ts (x .1)
-
-all-near : (ts : Tokens) → ((i : ℕ) → i < length ts → tokenAt ts i .info .place < unseen) → Near ts
+pub all-near : (ts : Tokens) → ((i : ℕ) → i < length ts → tokenAt ts i .info .place < unseen) → Near ts
 all-near [] h = tt
 all-near (t ∷ ts) h = (h 0 (omega arith), all-near ts (λ i l. h (suc i) (omega arith)))
 
@@ -151,48 +140,76 @@ past-main : (o : MainBits) (ts : Tokens) → Near (mainBitsTokens o ts) → Near
 past-main bitless ts x = x
 past-main (main-bits l o) ts x = past-own o ts (x .1)
 
-body-near : (d : Declaration) (a : Action) (ts : Tokens) → declaredOf d .body ≡ some a → Near (nameTokens d ts) → Near (actionTokens a ts)
-body-near (plain n (words l f c t r b o)) a ts e x = impossible (cc)
-body-near (plain n (with-bits l o carrier)) a ts e x = impossible (cc)
-body-near (plain n (with-bits l o (given e (body g y m)))) a ts h x =
-    let is : block g y m ≡ a = cc in subst (λ (z : Action). Near (actionTokens z ts)) is (past-own o _ (x .1 .1) .1)
-body-near (plain n (with-bits l o (given e (mapped t y c r)))) a ts h x = impossible (cc)
-body-near (plain n (bare-body e g y m)) a ts h x = let is : block g y m ≡ a = cc in subst (λ (z : Action). Near (actionTokens z ts)) is (x .1 .1)
-body-near (main i n o e g y m) a ts h x =
-    let is : block g y m ≡ a = cc in subst (λ (z : Action). Near (actionTokens z ts)) is (past-main o _ (x .1) .1)
+past-action : (a : Action) (ts : Tokens) → Near (actionTokens a ts) → Near ts
+past-action a ts x = action-low [] [] 0 (λ n. nowhere) (λ n. tt) a ts x .1
 
-in-list : (ds : Table) (k : ℕ) (d : Declared) → getElem? ds k ≡ some d → k < length ds
-in-list [] k d e = absurd (Option·none-ne-some d e)
-in-list (x ∷ ds) zero d e = omega arith
-in-list (x ∷ ds) (suc k) d e = omega (arith, in-list ds k d e)
+past-heading : (h : Heading) (ts : Tokens) → Near (headingTokens h ts) → Near ts
+past-heading no-heading ts x = x
+past-heading (heading l n r) ts x = x .1 .1 .1
 
-module _ {text records decls : List ℕ} {m n : ℕ} (v : Written text records decls m n) (test : Word) (output : ℕ) where
-  tokens-near : Near (v .tokens)
-  tokens-near = all-near (v .tokens) (λ i h. omega (arith, v .ready .holds .entry i h .inside, v .ready .holds .short))
+-- a body among tokens below the mark
+abbrev NearBody : Action → Type 0
+NearBody a = (rest : Tokens) × Near (actionTokens a rest)
 
-  declared-near : (a : Action) (w : Word) → FoundBody (whole v) w a → (ts : Tokens) × Near (actionTokens a ts)
-  declared-near a w f =
-      let k = f .number in
-      let h : k < m = omega (arith, in-list (whole v) k (f .declared) (f .there), table-size (reading v)) in
-      let x = declares (reading v) k h in
-      let is : declaredOf (x .declaration) ≡ f .declared = cc (x .found, f .there) in
-      let rest = declarationsTokens (x .stands .following) [] in
-      (rest, body-near (x .declaration) a rest (ap (λ (y : Declared). y .body) is ∙ f .its)
-      (subst Near (x .stands .reads) (past-dropped (cell 2 decls k) (v .tokens) tokens-near)))
+its-body : (b : Action) (ts : Tokens) → Near (actionTokens b ts) → (a : Action) → some b ≡ some a → NearBody a
+its-body b ts x a e = let same : b ≡ a = cc in subst NearBody same (ts, x)
 
-  bodies-low : (k : ℕ) (w : Word) → Low (bodyEarly (whole v) test output k w .places)
+bodiless : (a : Action) → none ≡ some a → NearBody a
+bodiless a e = absurd (Option·none-ne-some a e)
+
+-- the body of a declaration, and the tokens behind it
+declaration-near : (d : Declaration) (ts : Tokens) → Near (declarationTokens d ts) → ((a : Action) → declaredOf d .body ≡ some a → NearBody a) × Near ts
+declaration-near (plain n (words l f c t r b o)) ts x = (bodiless, past-own o ts (x .1 .1 .1 .1 .1 .1 .1))
+declaration-near (plain n (with-bits l o carrier)) ts x = (bodiless, past-own o ts (x .1 .1))
+declaration-near (plain n (with-bits l o (given e (body g a m)))) ts x =
+    let y = past-own o _ (x .1 .1) .1 in
+    (its-body (block g a m) ts y, past-action (block g a m) ts y)
+declaration-near (plain n (with-bits l o (given e (mapped t b c r)))) ts x =
+    (bodiless, past-own (named c r) ts (past-own o _ (x .1 .1) .1 .1 .1))
+declaration-near (plain n (bare-body e g a m)) ts x =
+    (its-body (block g a m) ts (x .1 .1), past-action (block g a m) ts (x .1 .1))
+declaration-near (main i n o e g a m) ts x =
+    let y = past-main o _ (x .1 .1) .1 in
+    (its-body (block g a m) ts y, past-action (block g a m) ts y)
+
+following-near : (ds : Declarations) → Near (declarationsTokens ds []) → (k : ℕ) (d : Declared) → getElem? (restOf ds) k ≡ some d
+    → (a : Action) → d .body ≡ some a → NearBody a
+unfolding restOf
+following-near (declared-all e) x k d h a q = absurd (Option·none-ne-some d h)
+following-near (declared-also c g y ds) x zero d h a q =
+    let same : declaredOf y ≡ d = cc in
+    declaration-near y (declarationsTokens ds []) (past-heading g _ (x .1)) .0 a (ap (λ (z : Declared). z .body) same ∙ q)
+following-near (declared-also c g y ds) x (suc k) d h a q =
+    following-near ds (declaration-near y (declarationsTokens ds []) (past-heading g _ (x .1)) .1) k d h a q
+
+declared-near : (d : Description) → Near (flatten d) → (k : ℕ) (x : Declared) → getElem? (declarations d) k ≡ some x → (a : Action) → x .body ≡ some a → NearBody a
+unfolding declarations
+declared-near (description n e b g y ds) x zero d h a q =
+    let same : declaredOf y ≡ d = cc in
+    declaration-near y (declarationsTokens ds []) (past-heading g _ (x .1 .1 .1)) .0 a (ap (λ (z : Declared). z .body) same ∙ q)
+declared-near (description n e b g y ds) x (suc k) d h a q =
+    following-near ds (declaration-near y (declarationsTokens ds []) (past-heading g _ (x .1 .1 .1)) .1) k d h a q
+
+module _ (d : Description) (near : Near (flatten d)) (test : Word) (output : ℕ) where
+  bodies-low : (k : ℕ) (w : Word) → Low (bodyEarly (declarations d) test output k w .places)
   unfolding bodyEarly bodyAct early earlyI
   bodies-low zero w = tt
-  bodies-low (suc k) w = by (bodyEarly (whole v) test output k) (bodies-low k) (bodyOf (whole v) w) refl
+  bodies-low (suc k) w = by (bodyEarly (declarations d) test output k) (bodies-low k) (bodyOf (declarations d) w) refl
     where
-      by : (known : Word → Report) → ((n : Word) → Low (known n .places)) → (o : Option Action) → bodyOf (whole v) w ≡ o
-          → Low (early (whole v) test output known (bodyAct (whole v) w) .places)
+      by : (known : Word → Report) → ((n : Word) → Low (known n .places)) → (o : Option Action) → bodyOf (declarations d) w ≡ o
+          → Low (early (declarations d) test output known (bodyAct (declarations d) w) .places)
       by known low none e = rw (bodyAct, e) tt
       by known low (some a) e =
-          let s = declared-near a w (found-body (whole v) w a e) in
-          rw (bodyAct, e) (action-low (whole v) test output known low a (s .0) (s .1) .0)
+          let f = found-body (declarations d) w a e in
+          let s = declared-near d near (f .number) (f .declared) (f .there) a (f .its) in
+          rw (bodyAct, e) (action-low (declarations d) test output known low a (s .0) (s .1) .0)
 
   -- ALL PLACES that are too early lie below the mark
-  pub places-under : Under unseen (earlyPlaces (whole v) test output)
+  pub places-under : Under unseen (earlyPlaces (declarations d) test output)
   unfolding earlyPlaces
-  places-under = bodies-low longestChain (mainName (whole v))
+  places-under = bodies-low longestChain (mainName (declarations d))
+
+-- the tokens of a description in the table
+pub written-near : {text records decls : List ℕ} {m n : ℕ} (v : Written text records decls m n) → Near (flatten (v .description))
+written-near v =
+    subst Near (sym (v .ready .stands)) (all-near (v .tokens) (λ i h. omega (arith, v .ready .holds .entry i h .inside, v .ready .holds .short)))

@@ -36,7 +36,7 @@ use Rattle.resuming.specs.Names.{Test, Output}
 use Rattle.resuming.specs.Asked.{Asked, Lowest}
 use Rattle.resuming.specs.Told.{Told}
 use Rattle.resuming.specs.Laws.Names.{written-by}
-use Rattle.resuming.specs.Laws.Near.{places-under}
+use Rattle.resuming.specs.Laws.Near.{places-under, written-near}
 
 -- the profile, by what the names mean
 module _ (ds : Table) (test output : Name) where
@@ -78,8 +78,12 @@ module _ (test output : List ℕ) {text records values decls : List ℕ} {m word
         lawful = v .whole;
         test = folded test;
         aims = tested .there a-test .0;
-        output = omega (arith, number-bound (table-by v) out (folded output) (put .there an-output .1), table-size (reading (written-by v)),
-            v .lawful .declares .ready .few);
+        output = omega (
+          arith,
+          number-bound (table-by v) out (folded output) (put .there an-output .1),
+          table-size (reading (written-by v)),
+          v .lawful .declares .ready .few,
+        );
       }
 
       by-places : its ≡ verdict (earlyPlaces (table-by v) (folded test) out)
@@ -89,7 +93,7 @@ module _ (test output : List ℕ) {text records values decls : List ℕ} {m word
       module _ {low : ℕ} (lowest : Lowest to-ask low) where
         by-lowest : its ≡ cond (ltb low unseen) (fails 92 low) passes
         by-lowest =
-            by-places ∙ (verdict-is unseen (earlyPlaces (table-by v) (folded test) out) (places-under (written-by v) (folded test) out)
+            by-places ∙ (verdict-is unseen (earlyPlaces (table-by v) (folded test) out) (places-under (described-by v) (written-near (written-by v)) (folded test) out)
             ∙ ap (λ l. cond (ltb l unseen) (fails 92 l) passes) (sym lowest))
 
         -- 92

@@ -20,9 +20,10 @@ lowest-requires : tie.Need-lowest-requires
 lowest-requires c κs =
     let s = c .before .before .before .before .before .before .before .before .before .before .before .before .before .before in
     let words = s .pre .0 .0 in
-    let v = s .pre .0 .1 in
-    (to-ask (s .args .test .now) (s .args .output .now) v (c .before .before .before .before .before .before .test-number .ensures (written-by v)) (c .before .before .before .before .before .if1 .left) (c .before .before .before .output-number .ensures words v) (c .before .before .if2 .left),
-    search needs)
+    let v = s .pre .0 .1 in (
+      to-ask (s .args .test .now) (s .args .output .now) v (c .before .before .before .before .before .before .test-number .ensures (written-by v)) (c .before .before .before .before .before .if1 .left) (c .before .before .before .output-number .ensures words v) (c .before .before .if2 .left),
+      search needs,
+    )
 
 returns-3 : tie.Need-returns-3
 returns-3 c words v =
