@@ -1,0 +1,2 @@
+-- The laws of the program `profile`.
+pub mod Report
