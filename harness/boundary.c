@@ -1,4 +1,5 @@
-/* The edges of the calls: lengths off by one, every byte value, each carrier bit. Prints what fails, and `N passed, M failed`. */
+/* The edges of the calls: lengths off by one, every byte value, each carrier bit, names of every kind. Prints what fails, and `N passed, M failed`. */
+#include <stdbool.h>
 #include <stdio.h>
 #include <string.h>
 
@@ -41,34 +42,49 @@ static void judge(const char *what, unsigned detail, const uint32_t answer[8], u
            answer[ISPS_PLACE], answer[ISPS_STEPS], ending, number, place, steps, broken != NULL ? "; " : "", broken != NULL ? broken : "");
 }
 
-/* Check and Run on a text, with lengths of one's own. */
-static void both_refuse(const char *what, unsigned detail, const Lengths *lengths, const uint8_t *text, size_t len, uint32_t number, uint32_t place)
+static const Lengths published = {{ISPS_WORK_SIZE, ISPS_WORK_SIZE, ISPS_WORK_SIZE}, ISPS_ANSWER_SIZE};
+
+static uint32_t place_in(const char *text, const char *part)
+{
+    return (uint32_t)(strstr(text, part) - text);
+}
+
+/* A refusal at a place of the text, with its line and column. */
+static void judge_refusal(const char *what, unsigned detail, const uint32_t answer[8], const uint8_t *text, uint32_t number, uint32_t place, const char *broken)
+{
+    uint32_t line, column;
+    position_of(text, place, &line, &column);
+    judge(what, detail, answer, ISPS_REFUSED, number, place, 0, broken);
+    judge_position(what, detail, answer, line, column);
+}
+
+/* All calls on a text, with lengths of one's own. */
+static void all_refuse(const char *what, unsigned detail, const Lengths *lengths, const uint8_t *text, size_t len, uint32_t number, uint32_t place)
 {
     uint32_t answer[8];
     const char *broken;
     uint8_t carriers[8] = {0};
-    uint32_t line, column;
-    position_of(text, place, &line, &column);
     lent_check_with(lengths, text, len, answer, &broken);
-    judge(what, detail, answer, ISPS_REFUSED, number, place, 0, broken);
-    judge_position(what, detail, answer, line, column);
+    judge_refusal(what, detail, answer, text, number, place, broken);
     lent_run_with(lengths, text, len, carriers, sizeof carriers, 5, answer, &broken);
-    judge(what, detail, answer, ISPS_REFUSED, number, place, 0, broken);
-    judge_position(what, detail, answer, line, column);
+    judge_refusal(what, detail, answer, text, number, place, broken);
+    lent_profile_with(lengths, text, len, (const uint8_t *)"P", 1, (const uint8_t *)"A", 1, answer, &broken);
+    judge_refusal(what, detail, answer, text, number, place, broken);
 }
 
-static void both_accept(const char *what, unsigned detail, const Lengths *lengths)
+static void all_accept(const char *what, unsigned detail, const Lengths *lengths)
 {
     uint32_t answer[8];
     const char *broken;
+    const uint8_t *text = (const uint8_t *)accepted;
     uint8_t carriers[8] = {15};
-    lent_check_with(lengths, (const uint8_t *)accepted, strlen(accepted), answer, &broken);
+    lent_check_with(lengths, text, strlen(accepted), answer, &broken);
     judge(what, detail, answer, ISPS_DONE, 0, 0, 0, broken);
-    lent_run_with(lengths, (const uint8_t *)accepted, strlen(accepted), carriers, sizeof carriers, 5, answer, &broken);
+    lent_run_with(lengths, text, strlen(accepted), carriers, sizeof carriers, 5, answer, &broken);
     judge(what, detail, answer, ISPS_DONE, 0, 0, 1, carriers[0] != 0 ? "wrong carriers" : broken);
+    lent_profile_with(lengths, text, strlen(accepted), (const uint8_t *)"P", 1, (const uint8_t *)"A", 1, answer, &broken);
+    judge_refusal(what, detail, answer, text, 92, place_in(accepted, "A = A"), broken);
 }
-
-static const Lengths published = {{ISPS_WORK_SIZE, ISPS_WORK_SIZE, ISPS_WORK_SIZE}, ISPS_ANSWER_SIZE};
 
 static size_t *length_number(Lengths *lengths, unsigned number)
 {
@@ -80,31 +96,31 @@ static void try_short_buffers(void)
     for (unsigned i = 0; i < 4; i++) {
         Lengths lengths = published;
         *length_number(&lengths, i) -= 1;
-        both_refuse("buffer one byte short", i, &lengths, (const uint8_t *)accepted, strlen(accepted), 1, 0);
-        both_refuse("buffer one byte short and text too long", i, &lengths, blanks, ISPS_LONGEST_TEXT + 1, 1, 0);
+        all_refuse("buffer one byte short", i, &lengths, (const uint8_t *)accepted, strlen(accepted), 1, 0);
+        all_refuse("buffer one byte short and text too long", i, &lengths, blanks, ISPS_LONGEST_TEXT + 1, 1, 0);
         *length_number(&lengths, i) = 0;
-        both_refuse("empty buffer", i, &lengths, (const uint8_t *)accepted, strlen(accepted), 1, 0);
+        all_refuse("empty buffer", i, &lengths, (const uint8_t *)accepted, strlen(accepted), 1, 0);
     }
 }
 
 static void try_long_buffers(void)
 {
-    both_accept("published lengths", 0, &published);
+    all_accept("published lengths", 0, &published);
     for (unsigned i = 0; i < 4; i++) {
         Lengths lengths = published;
         *length_number(&lengths, i) += 1;
-        both_accept("buffer one byte longer", i, &lengths);
-        both_refuse("buffer one byte longer, refused text", i, &lengths, blanks, 7, 20, 7);
+        all_accept("buffer one byte longer", i, &lengths);
+        all_refuse("buffer one byte longer, refused text", i, &lengths, blanks, 7, 20, 7);
         *length_number(&lengths, i) = LONGEST_LENT;
-        both_accept("much longer buffer", i, &lengths);
+        all_accept("much longer buffer", i, &lengths);
     }
 }
 
 static void try_lengths_of_text(void)
 {
-    both_refuse("empty text", 0, &published, blanks, 0, 20, 0);
-    both_refuse("longest text", 0, &published, blanks, ISPS_LONGEST_TEXT, 20, ISPS_LONGEST_TEXT);
-    both_refuse("text too long", 0, &published, blanks, ISPS_LONGEST_TEXT + 1, 2, 0);
+    all_refuse("empty text", 0, &published, blanks, 0, 20, 0);
+    all_refuse("longest text", 0, &published, blanks, ISPS_LONGEST_TEXT, 20, ISPS_LONGEST_TEXT);
+    all_refuse("text too long", 0, &published, blanks, ISPS_LONGEST_TEXT + 1, 2, 0);
 }
 
 /* Texts of blanks are refused at their end: of one line, of empty lines, and with bytes 9 and 13, which end none. */
@@ -115,14 +131,14 @@ static void try_lines(void)
     for (unsigned kind = 0; kind < 4; kind++) {
         memset(lines, kinds[kind], sizeof lines);
         for (uint32_t len = 0; len < 4; len++)
-            both_refuse("few equal blanks", 10 * kinds[kind] + len, &published, lines, len, 20, len);
-        both_refuse("as many equal blanks as fit", kinds[kind], &published, lines, sizeof lines, 20, sizeof lines);
+            all_refuse("few equal blanks", 10 * kinds[kind] + len, &published, lines, len, 20, len);
+        all_refuse("as many equal blanks as fit", kinds[kind], &published, lines, sizeof lines, 20, sizeof lines);
         lines[sizeof lines - 1] = 10;
-        both_refuse("a line end last", kinds[kind], &published, lines, sizeof lines, 20, sizeof lines);
+        all_refuse("a line end last", kinds[kind], &published, lines, sizeof lines, 20, sizeof lines);
         lines[sizeof lines - 1] = '$';
-        both_refuse("a bad byte last", kinds[kind], &published, lines, sizeof lines, 10, sizeof lines - 1);
+        all_refuse("a bad byte last", kinds[kind], &published, lines, sizeof lines, 10, sizeof lines - 1);
         lines[20000] = 10;
-        both_refuse("a bad byte last, and a line end before it", kinds[kind], &published, lines, sizeof lines, 10, sizeof lines - 1);
+        all_refuse("a bad byte last, and a line end before it", kinds[kind], &published, lines, sizeof lines, 10, sizeof lines - 1);
     }
 }
 
@@ -161,10 +177,10 @@ static void try_every_byte(void)
         uint32_t number, place;
         uint8_t single[1] = {(uint8_t)byte}, comment[2] = {'!', (uint8_t)byte}, between[3] = {'A', (uint8_t)byte, 'B'};
         expect_single(byte, &number, &place);
-        both_refuse("text of one byte", byte, &published, single, 1, number, place);
+        all_refuse("text of one byte", byte, &published, single, 1, number, place);
         expect_between(byte, &number, &place);
-        both_refuse("byte between two letters", byte, &published, between, 3, number, place);
-        both_refuse("byte in a comment", byte, &published, comment, 2, is_allowed(byte) ? 20 : 10, is_allowed(byte) ? 2 : 1);
+        all_refuse("byte between two letters", byte, &published, between, 3, number, place);
+        all_refuse("byte in a comment", byte, &published, comment, 2, is_allowed(byte) ? 20 : 10, is_allowed(byte) ? 2 : 1);
     }
 }
 
@@ -227,6 +243,101 @@ static void try_every_carrier_bit(void)
     run_and_judge("two words with bits too many", 9, text, start, sizeof start, 1, ISPS_REFUSED, 61, 8 * 9, 0);
 }
 
+/* ---- Names of a profile ---- */
+
+/* Carriers, a mapping, bodies with and without bits; the name of the test is as long as a name may be. The first transfer to A is too early, that to B is not. */
+static const char profiled[] =
+    "N := BEGIN\n"
+    "** S ** A<3:0>, B<3:0>, M<1:0> := B<1:0>,\n"
+    "T.9 := BEGIN L := NO.OP() END, Q<3:0> := BEGIN NO.OP() END,\n"
+    "TEST.OF.THE.SOURCE.AT.ITS.WAKING := BEGIN NO.OP() END,\n"
+    "MAIN P := BEGIN\n"
+    "  A = 1 NEXT\n"
+    "  T.9() NEXT\n"
+    "  TEST.OF.THE.SOURCE.AT.ITS.WAKING() NEXT\n"
+    "  M = A\n"
+    "END END";
+
+static void profile_and_judge(const char *what, unsigned detail, const uint8_t *test, size_t test_len, const uint8_t *output, size_t output_len,
+                              uint32_t number, uint32_t place)
+{
+    uint32_t answer[8];
+    const char *broken;
+    lent_profile((const uint8_t *)profiled, strlen(profiled), test, test_len, output, output_len, answer, &broken);
+    if (number == 0)
+        judge(what, detail, answer, ISPS_DONE, 0, 0, 0, broken);
+    else
+        judge_refusal(what, detail, answer, (const uint8_t *)profiled, number, place, broken);
+}
+
+static void profile_names(const char *test, const char *output, uint32_t number, uint32_t place)
+{
+    profile_and_judge("names of a profile", number, (const uint8_t *)test, strlen(test), (const uint8_t *)output, strlen(output), number, place);
+}
+
+static void try_sorts_of_names(void)
+{
+    static const char *const no_bodies[] = {"", "N", "S", "L", "A", "M", "MAIN", "BEGIN", " P", "P ", "P.", "T", "T.", "T.90", "U.9", "P()", "P;"};
+    static const char *const no_storage[] = {"", "N", "S", "L", "M", "P", "T.9", "MAIN", "A.", "A<3:0>", "A ", " A", "AA"};
+    for (size_t i = 0; i < sizeof no_bodies / sizeof no_bodies[0]; i++) {
+        profile_names(no_bodies[i], "B", 90, 0);
+        profile_names(no_bodies[i], "NONE", 90, 0);
+    }
+    for (size_t i = 0; i < sizeof no_storage / sizeof no_storage[0]; i++)
+        profile_names("T.9", no_storage[i], 91, 0);
+    profile_names("T.9", "A", 92, place_in(profiled, "A = 1"));
+    profile_names("T.9", "B", 0, 0);
+    profile_names("T.9", "Q", 0, 0);
+    profile_names("t.9", "b", 0, 0);
+    profile_names("q", "b", 92, place_in(profiled, "M = A"));
+    profile_names("P", "B", 92, place_in(profiled, "M = A"));
+    profile_names("TEST.OF.THE.SOURCE.AT.ITS.WAKING", "B", 0, 0);
+    profile_names("Test.of.the.Source.at.its.waking", "b", 0, 0);
+    profile_names("TEST.OF.THE.SOURCE.AT.ITS.WAKIN", "B", 90, 0);
+    profile_names("TEST.OF.THE.SOURCE.AT.ITS.WAKING.", "B", 90, 0);
+}
+
+/* Each byte value at each position of a name: only the two cases of a letter are the same. */
+static void try_bytes_of_names(void)
+{
+    for (unsigned byte = 0; byte < 256; byte++) {
+        for (unsigned i = 0; i < 3; i++) {
+            uint8_t test[3] = {'T', '.', '9'};
+            bool is_same = byte == test[i] || (i == 0 && byte == 't');
+            test[i] = (uint8_t)byte;
+            profile_and_judge("byte in a test's name", 256 * i + byte, test, 3, (const uint8_t *)"B", 1, is_same ? 0 : 90, 0);
+        }
+        uint8_t output[1] = {(uint8_t)byte};
+        bool is_early = byte == 'A' || byte == 'a', is_other = byte == 'B' || byte == 'b' || byte == 'Q' || byte == 'q';
+        profile_and_judge("byte as an output's name", byte, (const uint8_t *)"T.9", 3, output, 1, is_early ? 92 : is_other ? 0 : 91,
+                          is_early ? place_in(profiled, "A = 1") : 0);
+    }
+}
+
+static void try_lengths_of_names(void)
+{
+    static uint8_t name[LONGEST_LENT];
+    static const unsigned lengths[] = {2, 31, 32, 33, 255, 256, 257, 32768, 65535, 65536, 65537, LONGEST_LENT};
+    for (size_t i = 0; i < sizeof lengths / sizeof lengths[0]; i++) {
+        memset(name, 'P', lengths[i]);
+        profile_and_judge("long test's name", lengths[i], name, lengths[i], (const uint8_t *)"B", 1, 90, 0);
+        name[0] = 'B';
+        memset(name + 1, 0, lengths[i] - 1);
+        profile_and_judge("long output's name", lengths[i], (const uint8_t *)"T.9", 3, name, lengths[i], 91, 0);
+    }
+}
+
+static void try_names(void)
+{
+    uint32_t answer[8];
+    const char *broken;
+    try_sorts_of_names();
+    try_bytes_of_names();
+    try_lengths_of_names();
+    lent_profile(blanks, 7, NULL, 0, NULL, 0, answer, &broken);
+    judge_refusal("refused text and names of nothing", 0, answer, blanks, 20, 7, broken);
+}
+
 int main(void)
 {
     memset(blanks, ' ', sizeof blanks);
@@ -237,6 +348,7 @@ int main(void)
     try_every_byte();
     try_lengths_of_carriers();
     try_every_carrier_bit();
+    try_names();
     printf("%u passed, %u failed\n", passed, failed);
     return failed == 0 ? 0 : 1;
 }

@@ -1,6 +1,7 @@
 /* compare [SEED [COUNT [ORDERS]]]: makes COUNT texts, carriers and budgets at random and compares the library with the reference: all numbers of
- * both calls, carriers and work memory. What ends Done or Stopped is also run in ORDERS orders of single steps, each of which must agree; what
- * faults or pauses must not end Done or Stopped in any of them. Shows the first difference and ends with 1 if there is one. */
+ * all calls, carriers and work memory. What ends Done or Stopped is also run in ORDERS orders of single steps, each of which must agree; what
+ * faults or pauses must not end Done or Stopped in any of them. Profiles are asked for PROFILES pairs of names for each text and must also agree with a search
+ * over all paths; where that is given up, it may not have found a transfer that is lower. Shows the first difference and ends with 1 if there is one. */
 #include <stdio.h>
 #include <stdlib.h>
 #include <string.h>
@@ -10,20 +11,34 @@
 #include "generate.h"
 #include "lent.h"
 
-enum { MOST_WORDS = 4096, ROOM = 8 * MOST_WORDS + 16 };
+enum { MOST_WORDS = 4096, ROOM = 8 * MOST_WORDS + 16, PROFILES = 4, MOST_SPOTS = 20000, LONGEST_ASKED = 40 };
+
+typedef struct {
+    uint8_t bytes[LONGEST_ASKED + 1];
+    size_t len;
+} Asked; /* a name to ask for */
 
 static Generated text;
 static uint8_t start[ROOM], expected[ROOM], got[ROOM];
 static size_t carriers_len;
 static uint32_t budget;
-static unsigned differences, orders_run;
-static unsigned checks_by_number[100], runs_by_number[100], runs_by_ending[5];
+static Asked test, output;
+static unsigned differences, orders_run, paths_searched, searches_given_up;
+static unsigned checks_by_number[100], runs_by_number[100], runs_by_ending[5], profiles_by_number[100];
 
 static void print_answer(const char *who, const uint32_t answer[8])
 {
     printf("%s:", who);
     for (int i = 0; i < 8; i++)
         printf(" %u", answer[i]);
+    printf("\n");
+}
+
+static void print_bytes(const char *what, const uint8_t *bytes, size_t len)
+{
+    printf("%s:", what);
+    for (size_t i = 0; i < len; i++)
+        printf("%s%02x", i % 8 == 0 ? " " : "", bytes[i]);
     printf("\n");
 }
 
@@ -34,10 +49,10 @@ static void differ(const char *what, const uint32_t wanted[8], const uint32_t an
     printf("FIRST DIFFERENCE: %s, budget %u, %u bytes of carriers\n", what, budget, (unsigned)carriers_len);
     print_answer("reference", wanted);
     print_answer("got", answer);
-    printf("carriers at the start:");
-    for (size_t i = 0; i < carriers_len; i++)
-        printf("%s%02x", i % 8 == 0 ? " " : "", start[i]);
-    printf("\ntext of %u bytes:\n", (unsigned)text.len);
+    print_bytes("carriers at the start", start, carriers_len);
+    print_bytes("name of the test", test.bytes, test.len);
+    print_bytes("name of the output", output.bytes, output.len);
+    printf("text of %u bytes:\n", (unsigned)text.len);
     fwrite(text.bytes, 1, text.len, stdout);
     printf("\n");
 }
@@ -115,6 +130,72 @@ static void compare_order(const uint32_t wanted[8], uint64_t seed)
         differ("another order ends well", wanted, answer);
 }
 
+static void ask_for(Asked *asked, const char *name)
+{
+    asked->len = strlen(name) < LONGEST_ASKED ? strlen(name) : LONGEST_ASKED;
+    memcpy(asked->bytes, name, asked->len);
+}
+
+static void change_case(Asked *asked)
+{
+    unsigned lower = below(3) * 50;
+    for (size_t i = 0; i < asked->len; i++)
+        if (asked->bytes[i] >= 'A' && asked->bytes[i] <= 'Z' && chance(lower))
+            asked->bytes[i] = (uint8_t)(asked->bytes[i] - 'A' + 'a');
+}
+
+/* No longer the name that it was, or hardly ever: one byte more, less or other, or nothing but bytes by chance. */
+static void spoil(Asked *asked)
+{
+    switch (below(4)) {
+    case 0: asked->bytes[asked->len++] = (uint8_t)(chance(50) ? '0' : below(256)); break;
+    case 1: asked->len -= asked->len > 0; break;
+    case 2: asked->bytes[below((unsigned)asked->len + 1)] ^= (uint8_t)(1u << below(8)); break;
+    default:
+        asked->len = below(LONGEST_ASKED + 1);
+        for (size_t i = 0; i < asked->len; i++)
+            asked->bytes[i] = (uint8_t)below(256);
+    }
+}
+
+static void make_name(Asked *asked, const char *fitting)
+{
+    ask_for(asked, chance(94) ? fitting : chance(60) ? name_of_anything() : chance(50) ? "OUTER" : chance(50) ? "L0" : "MAIN");
+    change_case(asked);
+    if (chance(4))
+        spoil(asked);
+}
+
+static bool agrees_with_search(const uint32_t wanted[8], const uint32_t found[8], bool is_whole)
+{
+    bool may_miss = !is_whole && wanted[ISPS_NUMBER] == ISPS_TOO_EARLY;
+    if (may_miss && (found[ISPS_NUMBER] == 0 || found[ISPS_PLACE] > wanted[ISPS_PLACE]))
+        return true;
+    return memcmp(wanted, found, 8 * sizeof *wanted) == 0;
+}
+
+static void compare_profile(void)
+{
+    uint32_t wanted[8], answer[8];
+    const char *broken;
+    make_name(&test, name_of_body());
+    make_name(&output, name_of_storage());
+    reference_profile(text.bytes, text.len, test.bytes, test.len, output.bytes, output.len, wanted);
+    lent_profile(text.bytes, text.len, test.bytes, test.len, output.bytes, output.len, answer, &broken);
+    profiles_by_number[wanted[ISPS_NUMBER]]++;
+    if (memcmp(wanted, answer, sizeof answer) != 0)
+        differ("answers of Profile", wanted, answer);
+    else if (broken != NULL)
+        differ(broken, wanted, answer);
+    if (wanted[ISPS_NUMBER] != 0 && wanted[ISPS_NUMBER] != ISPS_TOO_EARLY)
+        return;
+    bool is_whole = reference_profile_search(text.bytes, text.len, test.bytes, test.len, output.bytes, output.len, MOST_SPOTS, answer);
+    paths_searched++;
+    searches_given_up += !is_whole;
+    if (!agrees_with_search(wanted, answer, is_whole))
+        differ("the search over all paths", wanted, answer);
+}
+
 static void print_counts(const char *what, const unsigned *counts, unsigned size)
 {
     printf("%s:", what);
@@ -139,11 +220,15 @@ int main(int count, char **arguments)
         compare_run(wanted);
         for (unsigned long order = 0; order < orders && wanted[ISPS_ENDING] != ISPS_REFUSED; order++)
             compare_order(wanted, order == 0 ? 0 : random_bits() | 1);
+        for (unsigned pair = 0; pair < PROFILES; pair++)
+            compare_profile();
     }
     print_counts("Check, by number (0 is accepted)", checks_by_number, 100);
     print_counts("Run, by number", runs_by_number, 100);
     printf("Run, by ending: done %u, stopped %u, paused %u, fault %u, refused %u\n", runs_by_ending[ISPS_DONE], runs_by_ending[ISPS_STOPPED],
            runs_by_ending[ISPS_PAUSED], runs_by_ending[ISPS_FAULT], runs_by_ending[ISPS_REFUSED]);
+    print_counts("Profile, by number", profiles_by_number, 100);
+    printf("Profile, searched: %u, of which given up %u\n", paths_searched, searches_given_up);
     printf("%lu texts, %u orders, %u differences\n", texts, orders_run, differences);
     return differences == 0 ? 0 : 1;
 }

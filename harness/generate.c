@@ -719,7 +719,7 @@ static Effect emit_action(const Context *context)
     return pick < 98 ? emit_stop(context) : emit_no_op();
 }
 
-/* In a chain each body begins with the activation of the one before it. */
+/* In a chain each body begins with the activation of the one before it; so does MAIN at times, as after a test. */
 static void make_body(unsigned size, bool in_chain)
 {
     const Thing *before = thing_count > first_body ? &things[thing_count - 1] : NULL;
@@ -848,7 +848,7 @@ static void make_things(void)
     out = &bodies;
     bodies.count = 0;
     for (unsigned i = 0; i < count; i++)
-        make_body(in_chain ? 12 : size, in_chain);
+        make_body(in_chain ? 12 : size, in_chain || (i + 1 == count && chance(30)));
 }
 
 /* ---- Damage and writing out ---- */
@@ -1012,4 +1012,22 @@ void generate(Generated *text)
     if (planned[BYTE_DAMAGE])
         for (unsigned count = 1 + below(3); count > 0 && text->len > 0; count--)
             damage_byte(text);
+}
+
+/* ---- Names to ask for ---- */
+
+const char *name_of_body(void)
+{
+    return things[first_body + below(thing_count - first_body)].name;
+}
+
+const char *name_of_storage(void)
+{
+    const Thing *thing = some_storage(UINT64_MAX);
+    return thing != NULL ? things[thing->storage].name : name_of_anything();
+}
+
+const char *name_of_anything(void)
+{
+    return things[below(thing_count)].name;
 }

@@ -22,4 +22,9 @@ bool chance(unsigned in_hundred);
 
 void generate(Generated *text);
 
+/* Names that the text made last declares, as long as nothing was damaged: of some body, of some storage carrier, of anything. */
+const char *name_of_body(void);
+const char *name_of_storage(void);
+const char *name_of_anything(void);
+
 #endif

@@ -13,11 +13,17 @@ typedef struct {
     const uint8_t *before; /* what was lent; of rubbish nothing is kept */
 } Buffer;
 
-static Buffer lent_text, lent_carriers, lent_work[3], lent_answer;
+static Buffer lent_text, lent_names[2], lent_carriers, lent_work[3], lent_answer;
 
 static uint8_t *bytes_of(Buffer *buffer)
 {
     return buffer->room + GUARD;
+}
+
+/* What a caller has for an empty buffer: often nothing. */
+static uint8_t *pointer_to(Buffer *buffer)
+{
+    return buffer->len == 0 ? NULL : bytes_of(buffer);
 }
 
 static void set_guards(Buffer *buffer, size_t len)
@@ -94,11 +100,18 @@ static bool has_right_position(const uint32_t answer[8])
     return has_place ? answer[ISPS_LINE] >= 1 && answer[ISPS_COLUMN] >= 1 : answer[ISPS_LINE] == 0 && answer[ISPS_COLUMN] == 0;
 }
 
+static bool is_left_alone(const Buffer *buffer)
+{
+    return guards_stand(buffer) && is_unchanged(buffer);
+}
+
 static const char *fault_of_call(uint32_t returned, const uint32_t answer[8])
 {
     bool untouched = returned == ISPS_WORK_TOO_SHORT || returned == ISPS_TEXT_TOO_LONG;
-    if (!guards_stand(&lent_text) || !is_unchanged(&lent_text))
+    if (!is_left_alone(&lent_text))
         return "changed the text or the bytes around it";
+    if (!is_left_alone(&lent_names[0]) || !is_left_alone(&lent_names[1]))
+        return "changed a name or the bytes around it";
     if (!guards_stand(&lent_carriers))
         return "wrote outside the carriers";
     if (!guards_stand(&lent_answer))
@@ -114,40 +127,52 @@ static const char *fault_of_call(uint32_t returned, const uint32_t answer[8])
     return fault_of_work_memory(untouched);
 }
 
-static void lend_rest(const Lengths *lengths)
+/* Lends what every call takes. The other buffers are empty until a call lends them. */
+static void lend(const Lengths *lengths, const uint8_t *text, size_t text_len)
 {
+    lend_copy(&lent_text, text, text_len);
+    lend_copy(&lent_names[0], NULL, 0);
+    lend_copy(&lent_names[1], NULL, 0);
+    lend_copy(&lent_carriers, NULL, 0);
     for (int i = 0; i < 3; i++)
         lend_rubbish(&lent_work[i], lengths->work[i]);
     lend_rubbish(&lent_answer, lengths->answer);
 }
 
-#define LENT_WORK_AND_ANSWER \
-    bytes_of(&lent_work[0]), lent_work[0].len, bytes_of(&lent_work[1]), lent_work[1].len, bytes_of(&lent_work[2]), lent_work[2].len, \
-    bytes_of(&lent_answer), lent_answer.len
-
-uint32_t lent_check_with(const Lengths *lengths, const uint8_t *text, size_t text_len, uint32_t answer[8], const char **broken)
+static uint32_t look_after(uint32_t returned, uint32_t answer[8], const char **broken)
 {
-    lend_copy(&lent_text, text, text_len);
-    lend_copy(&lent_carriers, NULL, 0);
-    lend_rest(lengths);
-    uint32_t returned = isps_check(bytes_of(&lent_text), text_len, LENT_WORK_AND_ANSWER);
     read_answer(returned, answer);
     *broken = fault_of_call(returned, answer);
     return returned;
 }
 
+#define LENT(buffer) pointer_to(&(buffer)), (buffer).len
+#define LENT_WORK_AND_ANSWER LENT(lent_work[0]), LENT(lent_work[1]), LENT(lent_work[2]), LENT(lent_answer)
+
+uint32_t lent_check_with(const Lengths *lengths, const uint8_t *text, size_t text_len, uint32_t answer[8], const char **broken)
+{
+    lend(lengths, text, text_len);
+    return look_after(isps_check(LENT(lent_text), LENT_WORK_AND_ANSWER), answer, broken);
+}
+
 uint32_t lent_run_with(const Lengths *lengths, const uint8_t *text, size_t text_len, uint8_t *carriers, size_t carriers_len, uint32_t budget,
                        uint32_t answer[8], const char **broken)
 {
-    lend_copy(&lent_text, text, text_len);
+    lend(lengths, text, text_len);
     lend_copy(&lent_carriers, carriers, carriers_len);
-    lend_rest(lengths);
-    uint32_t returned = isps_run(bytes_of(&lent_text), text_len, bytes_of(&lent_carriers), carriers_len, budget, LENT_WORK_AND_ANSWER);
-    read_answer(returned, answer);
-    *broken = fault_of_call(returned, answer);
+    uint32_t returned = look_after(isps_run(LENT(lent_text), LENT(lent_carriers), budget, LENT_WORK_AND_ANSWER), answer, broken);
     if (carriers_len > 0)
         memcpy(carriers, bytes_of(&lent_carriers), carriers_len);
     return returned;
+}
+
+uint32_t lent_profile_with(const Lengths *lengths, const uint8_t *text, size_t text_len, const uint8_t *test, size_t test_len, const uint8_t *output,
+                           size_t output_len, uint32_t answer[8], const char **broken)
+{
+    lend(lengths, text, text_len);
+    lend_copy(&lent_names[0], test, test_len);
+    lend_copy(&lent_names[1], output, output_len);
+    return look_after(isps_profile(LENT(lent_text), LENT(lent_names[0]), LENT(lent_names[1]), LENT_WORK_AND_ANSWER), answer, broken);
 }
 
 static const Lengths published = {{ISPS_WORK_SIZE, ISPS_WORK_SIZE, ISPS_WORK_SIZE}, ISPS_ANSWER_SIZE};
@@ -161,4 +186,10 @@ uint32_t lent_run(const uint8_t *text, size_t text_len, uint8_t *carriers, size_
                   const char **broken)
 {
     return lent_run_with(&published, text, text_len, carriers, carriers_len, budget, answer, broken);
+}
+
+uint32_t lent_profile(const uint8_t *text, size_t text_len, const uint8_t *test, size_t test_len, const uint8_t *output, size_t output_len,
+                      uint32_t answer[8], const char **broken)
+{
+    return lent_profile_with(&published, text, text_len, test, test_len, output, output_len, answer, broken);
 }

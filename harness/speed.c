@@ -1,5 +1,5 @@
 /* speed [MILLISECONDS]: times the library against the reference, which is built at -O2 for the same target, side by side in one run.
- * Check: nanoseconds for a byte of text, the ratio of the two, and the library's time relative to its time for a typical text.
+ * Check and Profile: nanoseconds for a byte of text, the ratio of the two, and the library's time relative to its time for a typical text.
  * Run: million steps a second, and the ratio; for a short run, which reading dominates, thousand runs a second. */
 #define _POSIX_C_SOURCE 200809L
 
@@ -40,6 +40,19 @@ static void reference_run_once(void)
 {
     memset(carriers, 0, carriers_len);
     reference_run(text, text_len, carriers, carriers_len, budget, numbers);
+}
+
+static void library_profile(void)
+{
+    Word test = name_of_main(text, text_len), output = name_of_carrier(text, text_len);
+    isps_profile(text, text_len, test.bytes, test.len, output.bytes, output.len, work[0], ISPS_WORK_SIZE, work[1], ISPS_WORK_SIZE, work[2], ISPS_WORK_SIZE,
+                 answer, ISPS_ANSWER_SIZE);
+}
+
+static void reference_profile_once(void)
+{
+    Word test = name_of_main(text, text_len), output = name_of_carrier(text, text_len);
+    reference_profile(text, text_len, test.bytes, test.len, output.bytes, output.len, numbers);
 }
 
 /* Time of the processor in nanoseconds, so that other work on the machine counts little. */
@@ -87,15 +100,20 @@ static void set_text(const char *source)
     memcpy(text, source, text_len);
 }
 
-static double typical_time; /* of the library, for a byte */
-
-static void time_check(const char *name)
+/* On the typical text and on all hard ones. */
+static void time_by_byte(const char *what, void (*library_call)(void), void (*reference_call)(void))
 {
-    Times times = time_both(library_check, reference_check_once);
-    double library = times.library / (double)text_len, reference = times.reference / (double)text_len;
-    if (typical_time == 0)
-        typical_time = library;
-    printf("%-36s %6u %9.1f %9.1f %7.2f %7.2f\n", name, (unsigned)text_len, library, reference, library / reference, library / typical_time);
+    const char *name = "typical";
+    double typical = 0;
+    printf("%-36s %6s %9s %9s %7s %7s\n", what, "bytes", "library", "reference", "ratio", "typical");
+    set_text(typical_text);
+    for (unsigned i = 0; name != NULL; name = hard_text(i++, text, &text_len)) {
+        Times times = time_both(library_call, reference_call);
+        double library = times.library / (double)text_len, reference = times.reference / (double)text_len;
+        typical = typical == 0 ? library : typical;
+        printf("%-36s %6u %9.1f %9.1f %7.2f %7.2f\n", name, (unsigned)text_len, library, reference, library / reference, library / typical);
+    }
+    printf("\n");
 }
 
 /* Leaves the steps of the run in `numbers`. */
@@ -141,14 +159,10 @@ static const char arrays[] =
 
 int main(int count, char **arguments)
 {
-    const char *name;
     least_time = (count > 1 ? (double)strtoul(arguments[1], NULL, 10) : 50) * 1e6;
-    printf("%-36s %6s %9s %9s %7s %7s\n", "Check, nanoseconds a byte", "bytes", "library", "reference", "ratio", "typical");
-    set_text(typical_text);
-    time_check("typical");
-    for (unsigned i = 0; (name = hard_text(i, text, &text_len)) != NULL; i++)
-        time_check(name);
-    printf("\n%-36s %6s %9s %9s %7s\n", "Run, million steps a second", "steps", "library", "reference", "ratio");
+    time_by_byte("Check, nanoseconds a byte", library_check, reference_check_once);
+    time_by_byte("Profile, nanoseconds a byte", library_profile, reference_profile_once);
+    printf("%-36s %6s %9s %9s %7s\n", "Run, million steps a second", "steps", "library", "reference", "ratio");
     time_long_run("transfers and tests", transfers_and_tests);
     time_long_run("DECODE", choices);
     time_long_run("activations", activations);

@@ -1,5 +1,5 @@
 /* Measures the stack that a call takes: a wide stretch of it is painted, and afterwards the paint is looked at from the far end.
- * Prints for each text the bytes that Check and Run took, and the most of all. */
+ * Prints for each text the bytes that each call took, and the most of all. */
 #include <stdio.h>
 #include <string.h>
 
@@ -22,6 +22,21 @@ static void call_run(void)
     isps_run(text, text_len, carriers, carriers_len, BUDGET, work[0], ISPS_WORK_SIZE, work[1], ISPS_WORK_SIZE, work[2], ISPS_WORK_SIZE, answer,
              ISPS_ANSWER_SIZE);
 }
+
+static void call_profile(void)
+{
+    Word test = name_of_main(text, text_len), output = name_of_carrier(text, text_len);
+    isps_profile(text, text_len, test.bytes, test.len, output.bytes, output.len, work[0], ISPS_WORK_SIZE, work[1], ISPS_WORK_SIZE, work[2], ISPS_WORK_SIZE,
+                 answer, ISPS_ANSWER_SIZE);
+}
+
+/* Check comes first, since it says how many words the carriers of the others have. */
+static const struct {
+    const char *name;
+    void (*call)(void);
+} calls[] = {{"Check", call_check}, {"Run", call_run}, {"Profile", call_profile}};
+
+enum { CALLS = sizeof calls / sizeof calls[0] };
 
 __attribute__((noinline)) static void paint(void)
 {
@@ -51,17 +66,26 @@ static uint32_t number_in_answer(unsigned index)
 
 static size_t measure(const char *name)
 {
-    size_t check = stack_of(call_check);
-    carriers_len = 8 * (size_t)number_in_answer(ISPS_WORDS);
-    memset(carriers, 0, sizeof carriers);
-    size_t run = stack_of(call_run);
-    printf("%-36s %8u %8u\n", name, (unsigned)check, (unsigned)run);
-    return check > run ? check : run;
+    size_t most = 0;
+    printf("%-36s", name);
+    for (unsigned i = 0; i < CALLS; i++) {
+        size_t used = stack_of(calls[i].call);
+        if (calls[i].call == call_check)
+            carriers_len = 8 * (size_t)number_in_answer(ISPS_WORDS);
+        memset(carriers, 0, sizeof carriers);
+        printf(" %8u", (unsigned)used);
+        most = used > most ? used : most;
+    }
+    printf("\n");
+    return most;
 }
 
 int main(void)
 {
-    printf("%-36s %8s %8s\n", "bytes of stack", "Check", "Run");
+    printf("%-36s", "bytes of stack");
+    for (unsigned i = 0; i < CALLS; i++)
+        printf(" %8s", calls[i].name);
+    printf("\n");
     text_len = strlen(typical_text);
     memcpy(text, typical_text, text_len);
     call_check();

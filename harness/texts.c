@@ -292,7 +292,7 @@ enum { CHAIN = 16 };
 
 static void chain_of_bodies(void)
 {
-    add("N:=BEGIN P0:=BEGIN NO.OP() END,", 10);
+    add("N:=BEGIN A<>,P0:=BEGIN NO.OP() END,", 14);
     for (unsigned i = 1; i < CHAIN; i++) {
         add(i == CHAIN - 1 ? "MAIN " : "", i == CHAIN - 1);
         add_with("P%u:=BEGIN ", i, 3);
@@ -304,7 +304,7 @@ static void chain_of_bodies(void)
 
 static void wide_activations(void)
 {
-    add("N:=BEGIN ", 3);
+    add("N:=BEGIN A<>,", 7);
     for (unsigned i = 0; i < 240; i++) {
         add(i == 239 ? "MAIN " : "", i == 239);
         add_with("P%u:=BEGIN ", i, 3);
@@ -532,4 +532,30 @@ const char *hard_text(unsigned number, uint8_t text[ISPS_LONGEST_TEXT], size_t *
     all[number].build();
     *len = used;
     return all[number].name;
+}
+
+static bool is_in_name(uint8_t byte)
+{
+    return (byte >= 'A' && byte <= 'Z') || (byte >= 'a' && byte <= 'z') || (byte >= '0' && byte <= '9') || byte == '.';
+}
+
+Word name_of_main(const uint8_t *text, size_t len)
+{
+    static const char keyword[] = "MAIN ";
+    size_t at = 0, size = strlen(keyword);
+    while (at + size < len && memcmp(text + at, keyword, size) != 0)
+        at++;
+    while (at + size < len && is_in_name(text[at + size]))
+        size++;
+    return at + size < len ? (Word){text + at + strlen(keyword), size - strlen(keyword)} : (Word){NULL, 0};
+}
+
+Word name_of_carrier(const uint8_t *text, size_t len)
+{
+    size_t end = 0, size = 0;
+    while (end < len && text[end] != '<')
+        end++;
+    while (size < end && is_in_name(text[end - size - 1]))
+        size++;
+    return (Word){text + end - size, size};
 }

@@ -3,7 +3,9 @@
  * The run has zero carriers and a budget of 1000; the hash is FNV-1a, 64 bits, of the carriers left, of none after a refusal.
  * vectors position: reads a text, carriers, each after its length, and a budget in 4 bytes, over and over, and writes for each one line, with all numbers:
  *     check EIGHT run EIGHT carriers HASH
- * where the hash is that of the carriers, whatever the ending. Ends with 1 if a call did with its buffers what it may not do. */
+ * where the hash is that of the carriers, whatever the ending.
+ * vectors profile: reads a text, the name of a test and that of an output, each after its length, over and over, and writes for each its eight numbers.
+ * Ends with 1 if a call did with its buffers what it may not do. */
 #include <stdbool.h>
 #include <stdio.h>
 #include <string.h>
@@ -15,6 +17,7 @@ enum { BUDGET = 1000, MOST_WORDS = 4096 };
 
 static uint8_t text[LONGEST_LENT];
 static uint8_t carriers[8 * MOST_WORDS + 16];
+static uint8_t test[LONGEST_LENT], output[LONGEST_LENT]; /* the names of a profile */
 static bool all_good = true;
 
 static bool read_number(uint32_t *number)
@@ -63,11 +66,16 @@ static void print_run(const uint32_t answer[8], size_t carriers_len)
     printf(" carriers %016llx\n", hash(carriers, answer[ISPS_ENDING] == ISPS_REFUSED ? 0 : carriers_len));
 }
 
+static void print_eight(const uint32_t answer[8])
+{
+    for (int i = 0; i < 8; i++)
+        printf(i == 0 ? "%u" : " %u", answer[i]);
+}
+
 static void print_numbers(const char *who, const uint32_t answer[8])
 {
-    printf("%s", who);
-    for (int i = 0; i < 8; i++)
-        printf(" %u", answer[i]);
+    printf("%s ", who);
+    print_eight(answer);
 }
 
 static void answer_positions(void)
@@ -83,6 +91,19 @@ static void answer_positions(void)
         lent_run(text, len, carriers, carriers_len, budget, answer, &broken);
         print_numbers(" run", answer);
         printf(" carriers %016llx\n", hash(carriers, carriers_len));
+        report(broken);
+    }
+}
+
+static void answer_profiles(void)
+{
+    size_t len, test_len, output_len;
+    while (read_bytes(text, sizeof text, &len) && read_bytes(test, sizeof test, &test_len) && read_bytes(output, sizeof output, &output_len)) {
+        uint32_t answer[8];
+        const char *broken;
+        lent_profile(text, len, test, test_len, output, output_len, answer, &broken);
+        print_eight(answer);
+        printf("\n");
         report(broken);
     }
 }
@@ -106,8 +127,11 @@ static void answer_texts(void)
 
 int main(int count, char **arguments)
 {
-    if (count > 1 && strcmp(arguments[1], "position") == 0)
+    const char *set = count > 1 ? arguments[1] : "base";
+    if (strcmp(set, "position") == 0)
         answer_positions();
+    else if (strcmp(set, "profile") == 0)
+        answer_profiles();
     else
         answer_texts();
     return all_good ? 0 : 1;

@@ -1,7 +1,8 @@
-/* Check and Run: the two calls of the reader and runner for a bench subset of ISPS.
+/* The calls of the reader and runner for a bench subset of ISPS: Check and Run, and Profile.
  *
- * Each byte buffer is lent as a pointer and a length. The calls keep nothing from one call to the next, allocate nothing, and write only
- * to `carriers`, the three work buffers and `answer`. Lent buffers must not overlap. A call takes at most 32 KiB of stack. */
+ * Each byte buffer is lent as a pointer and a length. Where the length is 0, the pointer may be anything, NULL included: it is not followed. The calls keep
+ * nothing from one call to the next, allocate nothing, and write only to the three work buffers, `answer`, and where a call's comment says so.
+ * Lent buffers must not overlap. A call takes at most 32 KiB of stack. */
 #ifndef ISPS_H
 #define ISPS_H
 
@@ -31,6 +32,17 @@ uint32_t isps_run(const uint8_t *text, size_t text_len,
                   uint8_t *work_a, size_t a_len, uint8_t *work_b, size_t b_len, uint8_t *work_c, size_t c_len,
                   uint8_t *answer, size_t answer_len);
 
+/* The resume profile: whether no path from the start of MAIN writes any bit of the storage carrier `output` before one activation of the body `test` has
+ * ended. On a path every IF and DECODE may go either way, whatever the carriers hold, a REPEAT turns until a LEAVE, RESTART or STOP() leads out of it, and
+ * members step in any order. A write inside the test's first activation is too early. Returns the refusal number, 0 if the profile is accepted, and fills
+ * `answer`: ISPS_DONE, or ISPS_REFUSED with the number and place of the text's own refusal, else of 90 to 92.
+ *
+ * `test` and `output` are bytes of any number and any kind, without a zero at their end; letters are folded. */
+uint32_t isps_profile(const uint8_t *text, size_t text_len,
+                      const uint8_t *test, size_t test_len, const uint8_t *output, size_t output_len,
+                      uint8_t *work_a, size_t a_len, uint8_t *work_b, size_t b_len, uint8_t *work_c, size_t c_len,
+                      uint8_t *answer, size_t answer_len);
+
 /* Work memory may hold anything before a call. After it, it is zero over its whole length, also where it is longer than the published size.
  * Refusals 1 and 2 are the exception: they write nothing anywhere, not even the answer, so that the returned number is all there is. It stands for
  * place 0, line 1 and column 1. */
@@ -48,15 +60,15 @@ enum {
 };
 
 /* Line and column are counted from 1. Byte 10 ends a line; every other byte, tab and 13 included, is one column. The end of the text has what the next
- * byte would have. Where the place is no offset into the text (1, 2, 60, 61), line and column are 1. */
+ * byte would have. Where the place is no offset into the text (1, 2, 60, 61, 90, 91), line and column are 1. */
 
 /* Endings. */
 enum {
-    ISPS_DONE,    /* the run came to its end; or Check accepted the text */
+    ISPS_DONE,    /* the run came to its end; or Check accepted the text, or Profile the profile */
     ISPS_STOPPED, /* the run came to a STOP() */
     ISPS_PAUSED,  /* more steps than the budget were needed */
     ISPS_FAULT,   /* a step could not be taken: 70 or 71 */
-    ISPS_REFUSED  /* 1 to 61 */
+    ISPS_REFUSED  /* 1 to 61, 90 to 92 */
 };
 
 /* Numbers. The comment says when, and the place where it is not the thing itself. */
@@ -102,7 +114,12 @@ enum {
 
     /* faults of a run, with the steps before it */
     ISPS_NO_SUCH_WORD = 70,   /* word name outside the declaration; at the carrier's name */
-    ISPS_NO_ALTERNATIVE = 71  /* no alternative matches; at DECODE */
+    ISPS_NO_ALTERNATIVE = 71, /* no alternative matches; at DECODE */
+
+    /* the resume profile, in Profile only */
+    ISPS_NO_TEST = 90,   /* the test's name is that of no body; at 0 */
+    ISPS_NO_OUTPUT = 91, /* the output's name is that of no storage carrier: a mapping is none, a body with bits is one; at 0 */
+    ISPS_TOO_EARLY = 92  /* some path writes the output too early; at the lowest such transfer, its first token */
 };
 
 #ifdef __cplusplus

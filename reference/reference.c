@@ -36,3 +36,5 @@ enum { DONE, STOPPED, PAUSED, FAULTED, REFUSED };
 #include "orders.c"
 #include "calls.c"
 #include "images.c"
+#include "profile.c"
+#include "paths.c"

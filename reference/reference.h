@@ -3,6 +3,7 @@
 #ifndef REFERENCE_H
 #define REFERENCE_H
 
+#include <stdbool.h>
 #include <stddef.h>
 #include <stdint.h>
 
@@ -21,5 +22,14 @@ uint32_t reference_store(const uint8_t *text, size_t text_len, const uint8_t *ca
                          uint32_t answer[8]);
 uint32_t reference_load(const uint8_t *text, size_t text_len, const uint8_t *image, size_t image_len, uint8_t *carriers, size_t carriers_len,
                         uint32_t answer[8]);
+
+/* The resume profile, judged on the tree. */
+uint32_t reference_profile(const uint8_t *text, size_t text_len, const uint8_t *test, size_t test_len, const uint8_t *output, size_t output_len,
+                           uint32_t answer[8]);
+
+/* The same by a search over all paths, which is given up once it has met `most_spots` spots. True if it came to its end. Given up, the answer is that of
+ * the paths that were met: a transfer that it names is reached too early, and there may be a lower one. */
+bool reference_profile_search(const uint8_t *text, size_t text_len, const uint8_t *test, size_t test_len, const uint8_t *output, size_t output_len,
+                              uint32_t most_spots, uint32_t answer[8]);
 
 #endif
