@@ -1,5 +1,5 @@
--- THE RESUME PROFILE, about the public call. `ProfileCall` (Calls/ of the crate `rules`) is the contract of `isps_profile` in src/lib.rt, which has no hypotheses. All other
--- words are those of the crate `rules`: Paths.antt has paths, what is too early, and when an activation of the test has ended.
+-- THE RESUME PROFILE, about the public call. `ProfileCall` (Calls/ of the crate `rules`) is the contract of `isps_profile` in src/lib.rt, which has no hypotheses. `StoresLate` is in
+-- Late.antt beside this file. All other words are those of the crate `rules`: Paths.antt has paths, what is too early, and when an activation of the test has ended.
 use Prim.Native.Nat.{ℕ, _+_, _<_, _≤_}
 use mathlib.Core.Path.{_≡_}
 use mathlib.Core.Bool.{false}
@@ -63,9 +63,10 @@ module _ {text test output : List ℕ} {before after : Memory} {n : ℕ} (call :
 -- RUNS of a profile that passes: k steps of single members, in any order, from any carriers s, have come to e, which may be an end of any kind.
 module _ {text test output : List ℕ} {before after : Memory} {n : ℕ} (call : ProfileCall text test output before after n) (enough : Enough before)
     (short : length text ≤ longestText) (passed : n ≡ 0) where
-  -- The call has read a description, and the output is a carrier of it.
-  pub passed-description : (d : Description) × (o : ℕ) × (flatten d ≡ scan text .tokens) × (storageOf (declarations d) (folded output) ≡ some o)
-  passed-description = laws.passed-description call enough short passed
+  -- The text is one that the rules allow, the test is a body of its description and the output a storage carrier.
+  pub passed-lawful : (m : ℕ) × (w : ℕ) × (l : Lawful text m w) × (¬ (bodyOf (declarations (l .description)) (folded test) ≡ none))
+      × ((o : ℕ) × storageOf (declarations (l .description)) (folded output) ≡ some o)
+  passed-lawful = let g = laws.passed-lawful call enough short passed in (g .0, g .1, g .2, g .3 .0, g .3 .1)
 
   module _ (d : Description) (stands : flatten d ≡ scan text .tokens) (o : ℕ) (storage : storageOf (declarations d) (folded output) ≡ some o) where
     abbrev table : Table

@@ -225,20 +225,29 @@ module _ {text test output : List ℕ} {before after : Memory} {n : ℕ} (call :
 
   -- a call that passes
   module _ (passed : n ≡ 0) where
-    pub passed-description : (d : Description) × (o : ℕ) × (flatten d ≡ scan text .tokens) × (storageOf (declarations d) (folded output) ≡ some o)
-    passed-description = by (given .profile) (given .answers) (given .number)
-      where
-        on : (d : Description) → flatten d ≡ scan text .tokens → (x : Profile) → Profiles (declarations d) (folded test) (folded output) x → n ≡ profileNumber x
-            → (d : Description) × (o : ℕ) × (flatten d ≡ scan text .tokens) × (storageOf (declarations d) (folded output) ≡ some o)
-        on d s x (no-body e) q = absurd (omega arith)
-        on d s x (no-storage b e) q = absurd (omega arith)
-        on d s x (early o p b e t l) q = absurd (omega arith)
-        on d s x (in-time o b e l) q = (d, o, s, e)
+    -- a description of which the profile has the number 0
+    abbrev Named : Description → Type 0
+    Named d = (¬ (bodyOf (declarations d) (folded test) ≡ none)) × ((o : ℕ) × storageOf (declarations d) (folded output) ≡ some o)
 
-        by : (x : Profile) → ProfileAnswers text test output x → n ≡ profileNumber x
-            → (d : Description) × (o : ℕ) × (flatten d ≡ scan text .tokens) × (storageOf (declarations d) (folded output) ≡ some o)
+    pub passed-lawful : (m : ℕ) × (w : ℕ) × (l : Lawful text m w) × Named (l .description)
+    passed-lawful = by (given .profile) (given .answers) (given .number)
+      where
+        on : (d : Description) (x : Profile) → Profiles (declarations d) (folded test) (folded output) x → n ≡ profileNumber x → Named d
+        on d x (no-body e) q = absurd (omega arith)
+        on d x (no-storage b e) q = absurd (omega arith)
+        on d x (early o p b e t l) q = absurd (omega arith)
+        on d x (in-time o b e l) q = (b, (o, e))
+
+        by : (x : Profile) → ProfileAnswers text test output x → n ≡ profileNumber x → (m : ℕ) × (w : ℕ) × (l : Lawful text m w) × Named (l .description)
         by x (not-accepted c) q = absurd (omega (arith, checks-numbered c))
-        by x (profiled d s c z) q = on d s x z q
+        by x (profiled {n = k} {w = u} d s c z) q =
+            let l = accepted-iff-lawful text k u .0 c in (
+              k,
+              u,
+              l,
+              on (l .description) x
+                  (subst (λ y. Profiles (declarations y) (folded test) (folded output) x) (unique d (l .description) (s ∙ sym (l .stands))) z) q,
+            )
 
     module _ (d : Description) (stands : flatten d ≡ scan text .tokens) (o : ℕ) (storage : storageOf (declarations d) (folded output) ≡ some o) where
       abbrev table : Table
