@@ -4,7 +4,7 @@ use mathlib.Core.Path.{_≡_}
 use mathlib.Core.Bool.{Bool, true, _||_}
 use Rattle.rules.specs.Declarations.{Name, Table}
 use Rattle.rules.specs.Steps.Control.{work}
-use Rattle.rules.specs.Steps.Runs.{Conf, running, finished, stopped, fault, perform, step, Steps}
+use Rattle.rules.specs.Steps.Runs.{Conf, running, finished, stopped, failed, perform, step, Steps}
 use Rattle.rules.specs.Paths.{Writes, endsBy}
 
 module _ (ds : Table) (test : Name) (o : ℕ) where
@@ -16,4 +16,4 @@ module _ (ds : Table) (test : Name) (o : ℕ) where
       × StoresLate (ended || endsBy ds test r (q .0) (perform ds (work r (q .0)) s)) k (step ds r (q .0) s) e (q .1)
   StoresLate ended (suc k) (finished s) e q = Unit {0}
   StoresLate ended (suc k) (stopped s) e q = Unit {0}
-  StoresLate ended (suc k) (fault m p s) e q = Unit {0}
+  StoresLate ended (suc k) (failed m p s) e q = Unit {0}

@@ -17,7 +17,7 @@ use Rattle.rules.specs.Grammar.Trees.{Description, flatten}
 use Rattle.rules.specs.Declarations.{Declared, Table, declarations, bodyOf, wordsOf, firstWord}
 use Rattle.rules.specs.Steps.Evaluation.{Carriers}
 use Rattle.rules.specs.Steps.Control.{Live, Mv, work}
-use Rattle.rules.specs.Steps.Runs.{Conf, running, finished, stopped, fault, perform, step, Steps, begin}
+use Rattle.rules.specs.Steps.Runs.{Conf, running, finished, stopped, failed, perform, step, Steps, begin}
 use Rattle.rules.specs.Whole.Sets.{member}
 use Rattle.rules.specs.Faults.Whole.{mainName}
 use Rattle.rules.specs.Answers.{Lawful, littleEndian, bytesOf, refusedNumbers}
@@ -284,7 +284,7 @@ module _ {text test output : List ℕ} {before after : Memory} {n : ℕ} (call :
           ((p .0, g .0), ap (λ b. E || b) (g .1) ∙ sym (or-assoc E T F))
       more (suc j) (finished v) r t p m = absurd p
       more (suc j) (stopped v) r t p m = absurd p
-      more (suc j) (fault x y v) r t p m = absurd p
+      more (suc j) (failed x y v) r t p m = absurd p
 
       module _ (s : Carriers) where
         abbrev start : Conf
@@ -301,7 +301,7 @@ module _ {text test output : List ℕ} {before after : Memory} {n : ℕ} (call :
             )
         late-from j (suc k) (finished t) e p q = tt
         late-from j (suc k) (stopped t) e p q = tt
-        late-from j (suc k) (fault x y t) e p q = tt
+        late-from j (suc k) (failed x y t) e p q = tt
 
         module _ (k : ℕ) (e : Conf) (q : Steps table k start e) where
           pub every-store-late : StoresLate table (folded test) o false k start e q
@@ -318,4 +318,4 @@ module _ {text test output : List ℕ} {before after : Memory} {n : ℕ} (call :
               same (running r t) = refl
               same (finished t) = refl
               same (stopped t) = refl
-              same (fault m p t) = refl
+              same (failed m p t) = refl
