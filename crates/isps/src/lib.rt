@@ -3,6 +3,7 @@ ghost use Rattle.rules.specs.Calls.Memory.{memory};
 ghost use Rattle.rules.specs.Calls.Check.{CheckCall};
 ghost use Rattle.rules.specs.Calls.Run.{RunCall};
 ghost use Rattle.rules.specs.Calls.Profile.{ProfileCall};
+ghost use Rattle.rules.specs.Calls.Keep.{StoreCall, LoadCall};
 
 // Check: judges a text. Returns the number of the answer, which stands in `answer` unless it is 1 or 2.
 #[no_mangle]
@@ -51,4 +52,38 @@ pub extern "C" fn isps_profile(
         (memory (now (a .exit)) (now (b .exit)) (now (c .exit)) (now (answer .exit))) r ⌝ }
 {
     resuming::profile(text, test, output, a, b, c, answer)
+}
+
+// Store: writes the image of the carriers of a text.
+#[no_mangle]
+pub extern "C" fn isps_store(
+    text: &[u8],
+    carriers: &[u8],
+    image: &mut [u8],
+    a: &mut [u8],
+    b: &mut [u8],
+    c: &mut [u8],
+    answer: &mut [u8],
+) -> u32
+    ensures { λ r. ⌜ StoreCall (now (text .entry)) (now (carriers .entry)) (now (image .entry)) (memory (now (a .entry)) (now (b .entry)) (now (c .entry)) (now (answer .entry)))
+        (memory (now (a .exit)) (now (b .exit)) (now (c .exit)) (now (answer .exit))) (now (image .exit)) r ⌝ }
+{
+    keeping::store(text, carriers, image, a, b, c, answer)
+}
+
+// Load: takes the carriers of a text from their image.
+#[no_mangle]
+pub extern "C" fn isps_load(
+    text: &[u8],
+    image: &[u8],
+    carriers: &mut [u8],
+    a: &mut [u8],
+    b: &mut [u8],
+    c: &mut [u8],
+    answer: &mut [u8],
+) -> u32
+    ensures { λ r. ⌜ LoadCall (now (text .entry)) (now (image .entry)) (now (carriers .entry)) (memory (now (a .entry)) (now (b .entry)) (now (c .entry)) (now (answer .entry)))
+        (memory (now (a .exit)) (now (b .exit)) (now (c .exit)) (now (answer .exit))) (now (carriers .exit)) r ⌝ }
+{
+    keeping::load(text, image, carriers, a, b, c, answer)
 }

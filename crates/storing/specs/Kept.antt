@@ -1,16 +1,15 @@
 -- What Store and Load come to: an ending that the rules allow, and the buffer that they may write.
-use Prim.Native.Nat.{ℕ, _≤_}
+use Prim.Native.Nat.{ℕ, _<_}
 use mathlib.Core.Path.{_≡_}
 use mathlib.Core.List.{List}
 use lib.ListN.{length}
-use Rattle.rules.specs.Limits.{longestText}
 use Rattle.rules.specs.Grammar.Trees.{Tokens, Description}
 use Rattle.rules.specs.Declarations.{Table, declarations}
 use Rattle.table.specs.Ready.{Ready}
 use Rattle.rules.specs.Images.{imageOf, imageSize, heldIn}
 use Rattle.rules.specs.Keeping.{Kept, declined, kept, refusedOr, fault61, Keeps, keptIn}
-use Rattle.storing.specs.declared.endings.Ending.{Ending}
-use Rattle.storing.specs.declared.endings.Ending.the-variants.{Refused, Declined, Done}
+use Rattle.keeping.specs.declared.endings.Ending.{Ending}
+use Rattle.keeping.specs.declared.endings.Ending.the-variants.{Refused, Done}
 
 -- an accepted description that stands in the table
 pub record Stands (records values decls : List ℕ) (m : ℕ) : Type 0 where
@@ -25,18 +24,11 @@ tableOf v = declarations (v .description)
 -- an ending, with the bytes that are left
 abbrev pub keptOf : Ending → List ℕ → Kept
 keptOf (Refused m p) left = declined m p
-keptOf (Declined m p) left = declined m p
 keptOf Done left = kept left
 
--- numbers and places are small: a text's place lies in it, and a buffer's number is of the 60s
-pub record OfBuffer (m p : ℕ) : Type 0 where
-  pub least : 60 ≤ m
-  pub most : m ≤ 64
-  pub near : p ≤ 65536
-
+-- a place is small
 abbrev pub Near : Ending → Type 0
-Near (Refused m p) = p ≤ longestText
-Near (Declined m p) = OfBuffer m p
+Near (Refused m p) = p < 65536
 Near Done = Unit {0}
 
 pub record Keeping (x : Kept) (target left : List ℕ) (r : Ending) : Type 0 where
@@ -46,7 +38,7 @@ pub record Keeping (x : Kept) (target left : List ℕ) (r : Ending) : Type 0 whe
 
 -- an image is written, unless its length is wrong
 pub data Written (carriers image left : List ℕ) : Ending → Type 0 where
-  wrong-length : (length image ≡ imageSize (length carriers) → ⊥) → left ≡ image → Written carriers image left (Declined 62 0)
+  wrong-length : (length image ≡ imageSize (length carriers) → ⊥) → left ≡ image → Written carriers image left (Refused 62 0)
   written : length image ≡ imageSize (length carriers) → left ≡ imageOf carriers → Written carriers image left Done
 
 -- the words of a sound image are judged

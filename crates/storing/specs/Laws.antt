@@ -1,2 +1,3 @@
-pub mod Places
+-- The laws of keeping.
 pub mod Cases
+pub mod Calls

@@ -1,8 +1,35 @@
-// How Store and Load end.
+// How Store and Load end, and the answer that says so.
+use lent::answers::Answer;
+use lent::answers::refusal;
+ghost use mathlib.Core.Path.{_≡_};
+ghost use mathlib.Core.List.{List};
+ghost use Prim.Native.Nat.{ℕ};
+ghost use Rattle.rules.specs.Calls.Keep.{keptNumbers};
+ghost use Rattle.lent.specs.Numbers.{numbersOf};
+ghost use Rattle.keeping.specs.Kept.{keptOf, Near};
 
-// With a refusal of the text, or of a buffer, each with number and place; or the other buffer is written.
+// With a refusal, its number and its place; or the buffer is written.
 pub enum Ending {
     Refused(u32, usize),
-    Declined(u32, usize),
     Done,
+}
+
+// The numbers of an ending.
+pub fn ending_answer(text: &[u8], e: Ending) -> Answer
+    requires { ⌜ Near e ⌝ }
+    ensures { λ r. ⌜ ((left : List ℕ) → numbersOf r ≡ keptNumbers (now (text .entry)) (keptOf e left)) ⌝ }
+{
+    match e {
+        Ending::Refused(number, place) => refusal(text, number, place),
+        Ending::Done => Answer {
+            ending: 0,
+            number: 0,
+            place: 0,
+            steps: 0,
+            fourth: 0,
+            fifth: 0,
+            line: 0,
+            column: 0,
+        },
+    }
 }

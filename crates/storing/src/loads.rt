@@ -15,7 +15,7 @@ ghost use Rattle.rules.specs.Declarations.{totalWords};
 ghost use Rattle.starts.specs.Starts.{Starts};
 ghost use Rattle.rules.specs.Images.{imageSize, heldIn};
 ghost use Rattle.rules.specs.Keeping.{carriersSize, loading};
-ghost use Rattle.storing.specs.Kept.{Stands, tableOf, Keeping, Taken, Answered};
+ghost use Rattle.keeping.specs.Kept.{Stands, tableOf, Keeping, Taken, Answered};
 
 // Whether the carriers that an image holds can start a run. They are unpacked into a buffer of their size.
 fn start_held(
@@ -52,7 +52,7 @@ fn load_sound(
 {
     let size = carriers.len();
     match start_held(records, values, decls, m, image, &mut room[..size]) {
-        Started::Refused(number, place) => Ending::Declined(number, place),
+        Started::Refused(number, place) => Ending::Refused(number, place),
         Started::Fine => {
             read(image, carriers);
             Ending::Done
@@ -79,13 +79,13 @@ fn load_accepted(
 {
     let size = 8 * words;
     if carriers.len() != size {
-        return Ending::Declined(60, 0);
+        return Ending::Refused(60, 0);
     }
     if image.len() != image_size(size) {
-        return Ending::Declined(62, 0);
+        return Ending::Refused(62, 0);
     }
     match judge(image, size) {
-        Judged::Refused(number, place) => Ending::Declined(number, place),
+        Judged::Refused(number, place) => Ending::Refused(number, place),
         Judged::Fine => load_sound(records, values, decls, m, image, carriers, room),
     }
 }

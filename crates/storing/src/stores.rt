@@ -9,7 +9,7 @@ ghost use Prim.Native.Nat.{_≤_};
 ghost use lib.ListN.{length};
 ghost use Rattle.rules.specs.Limits.{longestText};
 ghost use Rattle.rules.specs.Keeping.{storing};
-ghost use Rattle.storing.specs.Kept.{Stands, tableOf, Keeping, Written, Answered};
+ghost use Rattle.keeping.specs.Kept.{Stands, tableOf, Keeping, Written, Answered};
 
 // Writes the image of carriers, unless its length is wrong.
 fn write_image(carriers: &[u8], image: &mut [u8]) -> Ending
@@ -17,7 +17,7 @@ fn write_image(carriers: &[u8], image: &mut [u8]) -> Ending
     ensures { λ r. ⌜ Written (now (carriers .entry)) (now (image .entry)) (now (image .exit)) r ⌝ }
 {
     if image.len() != image_size(carriers.len()) {
-        return Ending::Declined(62, 0);
+        return Ending::Refused(62, 0);
     }
     write(image, carriers);
     Ending::Done
@@ -37,7 +37,7 @@ fn store_accepted(
         → Keeping (storing (now (carriers .entry)) (now (image .entry)) (tableOf v)) (now (image .entry)) (now (image .exit)) r) ⌝ }
 {
     match start(records, values, decls, m, carriers) {
-        Started::Refused(number, place) => Ending::Declined(number, place),
+        Started::Refused(number, place) => Ending::Refused(number, place),
         Started::Fine => write_image(carriers, image),
     }
 }

@@ -1,4 +1,4 @@
--- Laws of what Store and Load may answer: it is one; storing then loading; an image that loads; one changed byte.
+-- Laws of what Store and Load may answer: it is one; storing then loading, loading then storing; an image that loads; one changed byte.
 -- Assumes nothing.
 use Prim.Native.Nat.{ℕ, _*_, _/_, _<_, _≤_}
 use mathlib.Core.Path.{_≡_, refl, sym, ap, ap₂, _∙_, subst}
@@ -19,7 +19,7 @@ use Rattle.rules.specs.Keeping.{Kept, declined, kept, refusedOr, faultUnless, c
 use Rattle.laws_grammar.specs.Answers.{one-verdict, accepted-iff-lawful, descriptionOf, description-of}
 use Rattle.laws_accepted.specs.Accepted.Declared.{accepted-declares, few-words}
 use Rattle.images.specs.Laws.Sums.{Bytes}
-use Rattle.images.specs.Laws.Images.{length-image, image-sound, image-holds, image-of-held, image-changed}
+use Rattle.images.specs.Laws.Images.{length-image, image-sound, image-holds, length-held-in, image-of-held, image-changed}
 
 -- a text has one description
 one-description : (text : List ℕ) (d e : Description) → flatten d ≡ scan text .tokens → flatten e ≡ scan text .tokens → d ≡ e
@@ -62,6 +62,7 @@ record LoadedAs (ds : Table) (image carriers left : List ℕ) : Type 0 where
   pub long : length carriers ≡ carriersSize ds
   pub sized : length image ≡ imageSize (carriersSize ds)
   pub sound : imageFault (carriersSize ds) image ≡ none
+  pub fine : fault61 ds left ≡ none
   pub is : left ≡ heldIn (carriersSize ds) image
 
 module _ (ds : Table) where
@@ -100,7 +101,7 @@ module _ (ds : Table) where
       let f = past (fault61 ds (heldIn (carriersSize ds) image)) _ left (c .1) in
       let same : kept (heldIn (carriersSize ds) image) ≡ kept left = f .1 in
       let l : left ≡ heldIn (carriersSize ds) image = cc in
-      record { long = is-60 carriers (a .0); sized = is-62 image (b .0); sound = c .0; is = l }
+      record { long = is-60 carriers (a .0); sized = is-62 image (b .0); sound = c .0; fine = ap (fault61 ds) l ∙ f .0; is = l }
 
   loads-back : (carriers target : List ℕ) → blocksFor (carriersSize ds) ≤ 256 → Bytes carriers → length carriers ≡ carriersSize ds → length target ≡ carriersSize ds
       → fault61 ds carriers ≡ none → loading (imageOf carriers) target ds ≡ kept carriers
@@ -113,6 +114,13 @@ module _ (ds : Table) where
       let rest = refusedOr (fault61 ds (heldIn size image)) (kept (heldIn size image)) in
       ap₂ (λ x y. refusedOr x (refusedOr y (refusedOr (imageFault size image) rest))) (fine-60 target t) (fine-62 image (length-image carriers ∙ ap imageSize l))
       ∙ ap (λ x. refusedOr x rest) sound ∙ ap (λ c. refusedOr (fault61 ds c) (kept c)) held ∙ ap (λ x. refusedOr x (kept carriers)) fine
+
+  stores-back : (carriers image : List ℕ) → length carriers ≡ carriersSize ds → fault61 ds carriers ≡ none → length image ≡ imageSize (carriersSize ds)
+      → storing carriers image ds ≡ kept (imageOf carriers)
+  unfolding storing
+  stores-back carriers image l fine sized =
+      ap₂ (λ x y. refusedOr x (refusedOr y (refusedOr (fault62 ds image) (kept (imageOf carriers))))) (fine-60 carriers l) fine
+      ∙ ap (λ x. refusedOr x (kept (imageOf carriers))) (fine-62 image sized)
 
   changed-refused : (image target : List ℕ) (j v : ℕ) → length image ≡ imageSize (carriersSize ds) → imageFault (carriersSize ds) image ≡ none → length target ≡ carriersSize ds
       → Bytes image → j < length image → v < 256 → (v ≡ getD image j 0 → ⊥) → loading (set image j v) target ds ≡ declined 63 (blockSize * (j / blockSize))
@@ -134,6 +142,10 @@ few-blocks {text} {n} {w} d f c =
     let words : totalWords (declarations d) ≤ 4096 = subst (λ x. totalWords (declarations x) ≤ 4096) same few in
     omega arith
 
+-- what Store has written
+pub stored-image : (text carriers image stored : List ℕ) → Keeps text (storing carriers image) (kept stored) → stored ≡ imageOf carriers
+stored-image text carriers image stored k = let r = read-by k refl in stored-is (declarations (r .description)) carriers image stored (r .is) .is
+
 -- Store, then Load
 pub stored-loads : (text carriers image stored target : List ℕ) → Bytes carriers → length target ≡ length carriers → Keeps text (storing carriers image) (kept stored)
     → Keeps text (loading stored target) (kept carriers)
@@ -154,6 +166,15 @@ module _ (text image target got : List ℕ) (each : Bytes image) (k : Keeps text
       let ds = declarations (r .description) in
       let is = loaded-is ds image target got (r .is) in
       ap imageOf (is .is) ∙ image-of-held (carriersSize ds) image (is .sized) each (is .sound)
+
+  pub loaded-stores : (image′ : List ℕ) → length image′ ≡ length image → Keeps text (storing got image′) (kept image)
+  loaded-stores image′ same =
+      let r = read-by k refl in
+      let ds = declarations (r .description) in
+      let is = loaded-is ds image target got (r .is) in
+      let long = ap length (is .is) ∙ length-held-in (carriersSize ds) image (is .sized) in
+      subst (Keeps text (storing got image′)) (stores-back ds got image′ long (is .fine) (same ∙ is .sized) ∙ ap kept loaded-image)
+      (kept-by (r .description) (r .stands) (r .checks))
 
   pub changed-byte : (target′ : List ℕ) (j v : ℕ) → j < length image → v < 256 → (v ≡ getD image j 0 → ⊥) → length target′ ≡ length target
       → Keeps text (loading (set image j v) target′) (declined 63 (blockSize * (j / blockSize)))

@@ -28,14 +28,13 @@ use Rattle.starts.specs.declared.Started.{Started}
 use Rattle.images.specs.Judged.{faultOf}
 use Rattle.images.specs.declared.images.Judged.{Judged}
 use Rattle.images.specs.declared.images.Judged.the-variants.{Fine, Refused as Bad}
-use Rattle.images.specs.Laws.Images.{length-held-in}
-use Rattle.storing.specs.Laws.Places.{blocks-refused}
-use Rattle.storing.specs.Kept.{Stands, tableOf, OfBuffer, Near, keptOf, Keeping, Written, wrong-length, written, Taken, Answered}
-use Rattle.storing.specs.declared.endings.Ending.{Ending}
-use Rattle.storing.specs.declared.endings.Ending.the-variants.{Refused, Declined, Done}
+use Rattle.images.specs.Laws.Images.{length-held-in, blocks-near}
+use Rattle.keeping.specs.Kept.{Stands, tableOf, keptOf, Keeping, Written, wrong-length, written, Taken, Answered}
+use Rattle.keeping.specs.declared.endings.Ending.{Ending}
+use Rattle.keeping.specs.declared.endings.Ending.the-variants.{Refused, Done}
 
 -- a refusal, and bytes that are written
-declined-as : (x : Kept) (target : List ℕ) (m p : ℕ) → x ≡ declined m p → OfBuffer m p → Keeping x target target (Declined m p)
+declined-as : (x : Kept) (target : List ℕ) (m p : ℕ) → x ≡ declined m p → p < 65536 → Keeping x target target (Refused m p)
 declined-as x target m p e near = record { is = sym e; left-is = sym (ap (keptIn target) e); near = near }
 
 done-as : (x : Kept) (target left : List ℕ) → x ≡ kept left → Keeping x target left Done
@@ -53,21 +52,21 @@ module _ (ds : Table) (carriers : List ℕ) where
   result = resultOf (run ds (mainName ds) 0 (wordsFrom (totalWords ds) carriers))
 
   run-refused : {m p : ℕ} → Declines ds carriers m p → (k : Kept)
-      → (refusedOr (fault60 ds carriers) (refusedOr (fault61 ds carriers) k) ≡ declined m p) × OfBuffer m p
+      → (refusedOr (fault60 ds carriers) (refusedOr (fault61 ds carriers) k) ≡ declined m p) × p < 65536
   unfolding runOn fault60 fault61
   run-refused {m} {p} d k = by (eqb (length carriers) (8 * totalWords ds)) long (d .refuses 0)
     where
       by : (t : Bool) (o : Option ℕ) → elim t [ false ↦ not-run 60 0 | true ↦ startOr61 o result ] ≡ not-run m p
-          → (refusedOr (faultUnless t 60 0) (refusedOr (at61 o) k) ≡ declined m p) × OfBuffer m p
+          → (refusedOr (faultUnless t 60 0) (refusedOr (at61 o) k) ≡ declined m p) × p < 65536
       by false o e =
           let x : 60 ≡ m = cc in
           let y : 0 ≡ p = cc in
-          (ap₂ declined x y, record { least = omega arith; most = omega arith; near = omega arith })
+          (ap₂ declined x y, omega arith)
       by true none e = let z : _≡_ {A = ℕ} 0 1 = cc in absurd (omega arith)
       by true (some o) e =
           let x : 61 ≡ m = cc in
           let y : o ≡ p = cc in
-          (ap₂ declined x y, record { least = omega arith; most = omega arith; near = omega (arith, d .near) })
+          (ap₂ declined x y, omega (arith, d .near))
 
   run-begun : Begins ds carriers → (fault60 ds carriers ≡ none) × (fault61 ds carriers ≡ none)
   unfolding runOn fault60 fault61
@@ -95,19 +94,13 @@ other-62 : (ds : Table) (image : List ℕ) → (length image ≡ imageSize (carr
 unfolding fault62
 other-62 ds image h = ap (λ t. faultUnless t 62 0) (ne-eqb _ _ h)
 
-number-60 : OfBuffer 60 0
-number-60 = record { least = omega arith; most = omega arith; near = omega arith }
-
-number-62 : OfBuffer 62 0
-number-62 = record { least = omega arith; most = omega arith; near = omega arith }
-
 few-blocks : (size : ℕ) → size ≤ 32768 → blocksFor size ≤ 66
 unfolding blocksFor
 few-blocks size h = omega arith
 
 -- Store
 module _ (ds : Table) (carriers image : List ℕ) where
-  pub store-declined : {m p : ℕ} → Declines ds carriers m p → Keeping (storing carriers image ds) image image (Declined m p)
+  pub store-declined : {m p : ℕ} → Declines ds carriers m p → Keeping (storing carriers image ds) image image (Refused m p)
   unfolding storing
   store-declined {m} {p} d =
       let r = run-refused ds carriers d (refusedOr (fault62 ds image) (kept (imageOf carriers))) in
@@ -122,7 +115,7 @@ module _ (ds : Table) (carriers image : List ℕ) where
   pub store-begun : {left : List ℕ} {r : Ending} → Begins ds carriers → Written carriers image left r → Keeping (storing carriers image ds) image left r
   store-begun b (wrong-length h e) =
       let same = begun b ∙ ap (λ x. refusedOr x (kept (imageOf carriers))) (other-62 ds image (λ x. h (x ∙ ap imageSize (sym (b .long))))) in
-      subst (λ l. Keeping (storing carriers image ds) image l (Declined 62 0)) (sym e) (declined-as _ image 62 0 same number-62)
+      subst (λ l. Keeping (storing carriers image ds) image l (Refused 62 0)) (sym e) (declined-as _ image 62 0 same (omega arith))
   store-begun b (written l e) =
       let same = begun b ∙ ap (λ x. refusedOr x (kept (imageOf carriers))) (long-62 ds image (l ∙ ap imageSize (b .long))) in
       subst (λ l. Keeping (storing carriers image ds) image l Done) (sym e) (done-as _ image (imageOf carriers) same)
@@ -138,25 +131,24 @@ module _ (ds : Table) (image carriers : List ℕ) where
   abbrev behind-62 : Kept
   behind-62 = refusedOr (imageFault (carriersSize ds) image) behind-64
 
-  pub load-60 : (length carriers ≡ carriersSize ds → ⊥) → Keeping (loading image carriers ds) carriers carriers (Declined 60 0)
+  pub load-60 : (length carriers ≡ carriersSize ds → ⊥) → Keeping (loading image carriers ds) carriers carriers (Refused 60 0)
   unfolding loading
-  load-60 h = declined-as _ carriers 60 0 (ap (λ x. refusedOr x (refusedOr (fault62 ds image) behind-62)) (other-60 ds carriers h)) number-60
+  load-60 h = declined-as _ carriers 60 0 (ap (λ x. refusedOr x (refusedOr (fault62 ds image) behind-62)) (other-60 ds carriers h)) (omega arith)
 
-  pub load-62 : length carriers ≡ carriersSize ds → (length image ≡ imageSize (carriersSize ds) → ⊥) → Keeping (loading image carriers ds) carriers carriers (Declined 62 0)
+  pub load-62 : length carriers ≡ carriersSize ds → (length image ≡ imageSize (carriersSize ds) → ⊥) → Keeping (loading image carriers ds) carriers carriers (Refused 62 0)
   unfolding loading
-  load-62 l h = declined-as _ carriers 62 0 (ap₂ (λ x y. refusedOr x (refusedOr y behind-62)) (long-60 ds carriers l) (other-62 ds image h)) number-62
+  load-62 l h = declined-as _ carriers 62 0 (ap₂ (λ x y. refusedOr x (refusedOr y behind-62)) (long-60 ds carriers l) (other-62 ds image h)) (omega arith)
 
   sized : length carriers ≡ carriersSize ds → length image ≡ imageSize (carriersSize ds) → loading image carriers ds ≡ behind-62
   unfolding loading
   sized l h = ap₂ (λ x y. refusedOr x (refusedOr y behind-62)) (long-60 ds carriers l) (long-62 ds image h)
 
   pub load-block : {m p : ℕ} → carriersSize ds ≤ 32768 → length carriers ≡ carriersSize ds → length image ≡ imageSize (carriersSize ds)
-      → some (fault m p) ≡ imageFault (carriersSize ds) image → Keeping (loading image carriers ds) carriers carriers (Declined m p)
+      → some (fault m p) ≡ imageFault (carriersSize ds) image → Keeping (loading image carriers ds) carriers carriers (Refused m p)
   load-block {m} {p} small l h e =
-      let of = blocks-refused 0 (blocksFor (carriersSize ds)) (carriersSize ds) image (fault m p) (sym e) in
+      let near = blocks-near 0 (blocksFor (carriersSize ds)) (carriersSize ds) image (fault m p) (sym e) in
       let few = few-blocks (carriersSize ds) small in
-      declined-as _ carriers m p (sized l h ∙ ap (λ x. refusedOr x behind-64) (sym e))
-      record { least = omega (arith, of .least); most = omega (arith, of .most); near = omega (arith, of .near) }
+      declined-as _ carriers m p (sized l h ∙ ap (λ x. refusedOr x behind-64) (sym e)) (omega (arith, near, few))
 
   pub load-sound : {left : List ℕ} {r : Ending} → length carriers ≡ carriersSize ds → length image ≡ imageSize (carriersSize ds)
       → none ≡ imageFault (carriersSize ds) image → Taken ds image carriers left r → Keeping (loading image carriers ds) carriers left r
@@ -165,7 +157,7 @@ module _ (ds : Table) (image carriers : List ℕ) where
       ∙ ap (λ s. refusedOr (fault61 ds (heldIn s image)) (kept (heldIn s image))) (sym l))
 
   module _ (l : length carriers ≡ carriersSize ds) (h : length image ≡ imageSize (length carriers)) where
-    pub taken-declined : {m p : ℕ} → Declines ds (heldIn (length carriers) image) m p → Taken ds image carriers carriers (Declined m p)
+    pub taken-declined : {m p : ℕ} → Declines ds (heldIn (length carriers) image) m p → Taken ds image carriers carriers (Refused m p)
     taken-declined {m} {p} d =
         let words = heldIn (length carriers) image in
         let r = run-refused ds words d (kept words) in
@@ -182,7 +174,7 @@ pub refused-answer : {text : List ℕ} {call : Table → Kept} {target : List �
 refused-answer {target = target} {m} {p} r = record {
   result = declined m p;
   keeps = not-accepted (r .checks);
-  keeping = record { is = refl; left-is = refl; near = r .near };
+  keeping = record { is = refl; left-is = refl; near = omega (arith, r .near) };
 }
 
 pub kept-answer : {text records values decls : List ℕ} {m words n : ℕ} {call : Table → Kept} {target left : List ℕ} {r : Ending} (v : Accepts text records values decls m words n)

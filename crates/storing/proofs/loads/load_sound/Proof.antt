@@ -1,4 +1,4 @@
--- `storing::loads::load_sound` meets its contract.
+-- `keeping::loads::load_sound` meets its contract.
 -- Assumes nothing.
 use borrow.Author.Needs.{needs}
 use native.Mathlib.Omega.{arith}
@@ -7,10 +7,10 @@ use lib.ListN.{length}
 use lib.Seq.{length-take-le}
 use Rattle.rules.specs.Images.{imageSize}
 use Rattle.starts.specs.Laws.Cases.{declines-by, begins-by}
-use Rattle.storing.specs.Kept.{tableOf}
-use Rattle.storing.specs.Laws.Cases.{same-held, taken-declined, taken-done}
-use Rattle.storing.proofs.loads.load_sound.Statement.{statement}
-use Rattle.storing.proofs.loads.load_sound.Tie as tie
+use Rattle.keeping.specs.Kept.{tableOf}
+use Rattle.keeping.specs.Laws.Cases.{same-held, taken-declined, taken-done}
+use Rattle.keeping.proofs.loads.load_sound.Statement.{statement}
+use Rattle.keeping.proofs.loads.load_sound.Tie as tie
 
 slice-aggregate-start-held : tie.Need-slice-aggregate-start-held
 slice-aggregate-start-held c =

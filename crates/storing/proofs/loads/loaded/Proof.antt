@@ -1,10 +1,10 @@
--- `storing::loads::loaded` meets its contract.
+-- `keeping::loads::loaded` meets its contract.
 -- Assumes nothing.
 use borrow.Author.Needs.{needs}
 use Rattle.reader.specs.Laws.Cases.{refuses-by}
-use Rattle.storing.specs.Laws.Cases.{accepted-by, standing, refused-answer, kept-answer}
-use Rattle.storing.proofs.loads.loaded.Statement.{statement}
-use Rattle.storing.proofs.loads.loaded.Tie as tie
+use Rattle.keeping.specs.Laws.Cases.{accepted-by, standing, refused-answer, kept-answer}
+use Rattle.keeping.proofs.loads.loaded.Statement.{statement}
+use Rattle.keeping.proofs.loads.loaded.Tie as tie
 
 load-accepted-requires : tie.Need-load-accepted-requires
 load-accepted-requires c κs =

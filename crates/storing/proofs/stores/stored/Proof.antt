@@ -1,10 +1,10 @@
--- `storing::stores::stored` meets its contract.
+-- `keeping::stores::stored` meets its contract.
 -- Assumes nothing.
 use borrow.Author.Needs.{needs}
 use Rattle.reader.specs.Laws.Cases.{refuses-by}
-use Rattle.storing.specs.Laws.Cases.{accepted-by, standing, refused-answer, kept-answer}
-use Rattle.storing.proofs.stores.stored.Statement.{statement}
-use Rattle.storing.proofs.stores.stored.Tie as tie
+use Rattle.keeping.specs.Laws.Cases.{accepted-by, standing, refused-answer, kept-answer}
+use Rattle.keeping.proofs.stores.stored.Statement.{statement}
+use Rattle.keeping.proofs.stores.stored.Tie as tie
 
 store-accepted-requires : tie.Need-store-accepted-requires
 store-accepted-requires c κs = standing (accepted-by (c .before .before .before .before .before .before .before .before .before .before .before .before .before .before .check .ensures) (c .before .before .before .before .before .m .given .1))
