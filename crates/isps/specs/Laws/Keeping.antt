@@ -6,12 +6,13 @@ use mathlib.Core.Bool.{Bool, true, false}
 use mathlib.Core.List.{List}
 use mathlib.Core.Option.{Option, none, some}
 use native.Mathlib.Omega.{arith}
+use lib.Dec.{eqb}
 use lib.ListN.{length, getD, take, drop, set}
 use Rattle.rules.specs.Limits.{longestText}
-use Rattle.rules.specs.Declarations.{Table}
+use Rattle.rules.specs.Declarations.{Table, totalWords}
 use Rattle.rules.specs.Faults.Fault.{Fault}
-use Rattle.rules.specs.Answers.{refusedNumbers}
-use Rattle.rules.specs.Images.{blockSize, payloadSize, checkedSize, isChecked, isFormed, faultBy, orFault, blocksFault, blocksFor, imageOf, imageFault}
+use Rattle.rules.specs.Answers.{wordsFrom, wordLengths, longWord, refusedNumbers}
+use Rattle.rules.specs.Images.{blockSize, payloadSize, checkedSize, isChecked, isFormed, faultBy, orFault, blocksFault, blocksFor, imageSize, imageOf}
 use Rattle.rules.specs.Keeping.{Kept, declined, kept, refusedOr, faultUnless, at61, carriersSize, fault60, fault61, fault62, storing, loading, Keeps, not-accepted, kept-by, keptIn}
 use Rattle.rules.specs.Calls.Memory.{Memory, Enough, settled}
 use Rattle.rules.specs.Calls.Keep.{KeepCall, StoreCall, LoadCall, short-memory, long-text, answer, keptNumber, keptNumbers}
@@ -78,15 +79,15 @@ blocks-numbered n (suc k) size image g e =
 module _ (ds : Table) (carriers : List ℕ) where
   numbered-60 : (g : Fault) → fault60 ds carriers ≡ some g → 0 < g .number
   unfolding fault60
-  numbered-60 g e = unless-numbered _ 60 0 (omega arith) g e
+  numbered-60 g e = unless-numbered (eqb (length carriers) (carriersSize ds)) 60 0 (omega arith) g e
 
   numbered-61 : (g : Fault) → fault61 ds carriers ≡ some g → 0 < g .number
   unfolding fault61
-  numbered-61 g e = at61-numbered _ g e
+  numbered-61 g e = at61-numbered (longWord 0 (wordLengths ds) (wordsFrom (totalWords ds) carriers)) g e
 
 numbered-62 : (ds : Table) (image : List ℕ) (g : Fault) → fault62 ds image ≡ some g → 0 < g .number
 unfolding fault62
-numbered-62 ds image g e = unless-numbered _ 62 0 (omega arith) g e
+numbered-62 ds image g e = unless-numbered (eqb (length image) (imageSize (carriersSize ds))) 62 0 (omega arith) g e
 
 storing-numbered : (carriers image : List ℕ) (ds : Table) → Numbered (storing carriers image ds)
 unfolding storing
@@ -110,16 +111,16 @@ record Kept-by (text : List ℕ) (call : Table → Kept) (left : List ℕ) : Typ
   pub short : length text ≤ longestText
   pub keeps : Keeps text call (kept left)
 
-zero-by : {text target left : List ℕ} {call : Table → Kept} (k : Kept) → Numbered k → Keeps text call k → 0 ≡ keptNumber k → left ≡ keptIn target k
+zero-by : {text left : List ℕ} {call : Table → Kept} (target : List ℕ) (k : Kept) → Numbered k → Keeps text call k → 0 ≡ keptNumber k → left ≡ keptIn target k
     → Keeps text call (kept left)
-zero-by (declined m p) h r e c = absurd (omega arith)
-zero-by {text} {call = call} (kept bytes) h r e c = subst (λ b. Keeps text call (kept b)) (sym c) r
+zero-by target (declined m p) h r e c = absurd (omega arith)
+zero-by {text} {call = call} target (kept bytes) h r e c = subst (λ b. Keeps text call (kept b)) (sym c) r
 
 returned-0 : {text target left : List ℕ} {call : Table → Kept} {before after : Memory} → ((ds : Table) → Numbered (call ds)) → KeepCall text call target before after left 0
     → Kept-by text call left
 returned-0 h (short-memory s e a c) = absurd (omega arith)
 returned-0 h (long-text m l e a c) = absurd (omega arith)
-returned-0 {target = target} h (answer k m l r e a c) = record { short = l; keeps = zero-by {target = target} k (keeps-numbered h r) r e c }
+returned-0 {target = target} h (answer k m l r e a c) = record { short = l; keeps = zero-by target k (keeps-numbered h r) r e c }
 
 -- a call whose answer is known
 record Answered (text : List ℕ) (k : Kept) (target : List ℕ) (before after : Memory) (left : List ℕ) (n : ℕ) : Type 0 where
