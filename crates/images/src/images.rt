@@ -94,13 +94,13 @@ pub fn write(image: &mut [u8], carriers: &[u8])
 {
     let size = carriers.len();
     let blocks = blocks_for(size);
-    let mut i: usize = 0;
-    while i < blocks {
-        let from = PAYLOAD_SIZE * i;
-        let until = from + used_in(size, i);
-        let at = BLOCK_SIZE * i;
+    let mut number: usize = 0;
+    while number < blocks {
+        let from = PAYLOAD_SIZE * number;
+        let until = from + used_in(size, number);
+        let at = BLOCK_SIZE * number;
         let end = at + BLOCK_SIZE;
-        put_block(&mut image[at..end], i, &carriers[from..until]);
-        i += 1;
+        put_block(&mut image[at..end], number, &carriers[from..until]);
+        number += 1;
     }
 }

@@ -78,10 +78,11 @@ fn load_accepted(
         → Keeping (loading (now (image .entry)) (now (carriers .entry)) (tableOf v)) (now (carriers .entry)) (now (carriers .exit)) r) ⌝ }
 {
     let size = 8 * words;
+    let needed = image_size(size);
     if carriers.len() != size {
         return Ending::Refused(60, 0);
     }
-    if image.len() != image_size(size) {
+    if image.len() != needed {
         return Ending::Refused(62, 0);
     }
     match judge(image, size) {

@@ -10,10 +10,10 @@ use Rattle.images.proofs.images.write.Statement.{statement}
 use Rattle.images.proofs.images.write.Tie as tie
 
 abbrev Inv-loop : tie.InvT-loop
-Inv-loop image₀ carriers size blocks i₀ image i = Writing size blocks carriers image i
+Inv-loop image₀ carriers size blocks number₀ image number = Writing size blocks carriers image number
 
 abbrev μ-loop : tie.MeasureT-loop
-μ-loop image₀ carriers size blocks i₀ image i = blocks - i
+μ-loop image₀ carriers size blocks number₀ image number = blocks - number
 
 put-block-requires : tie.Need-put-block-requires Inv-loop μ-loop
 put-block-requires c κs =
