@@ -1,7 +1,9 @@
 // The public calls, each with its answer.
 use isps::isps_check;
+use isps::isps_load;
 use isps::isps_profile;
 use isps::isps_run;
+use isps::isps_store;
 use lines::answers::Answer;
 use lines::answers::answer_of;
 ghost use Prim.Native.Nat.{_≤_};
@@ -38,6 +40,32 @@ pub fn profile(
 ) -> Answer {
     let mut answer = [0u8; 32];
     let number = isps_profile(text, test, output, a, b, c, &mut answer);
+    answer_of(number, &answer)
+}
+
+pub fn store(
+    text: &[u8],
+    carriers: &[u8],
+    image: &mut [u8],
+    a: &mut [u8],
+    b: &mut [u8],
+    c: &mut [u8],
+) -> Answer {
+    let mut answer = [0u8; 32];
+    let number = isps_store(text, carriers, image, a, b, c, &mut answer);
+    answer_of(number, &answer)
+}
+
+pub fn load(
+    text: &[u8],
+    image: &[u8],
+    carriers: &mut [u8],
+    a: &mut [u8],
+    b: &mut [u8],
+    c: &mut [u8],
+) -> Answer {
+    let mut answer = [0u8; 32];
+    let number = isps_load(text, image, carriers, a, b, c, &mut answer);
     answer_of(number, &answer)
 }
 

@@ -7,9 +7,7 @@ use lines::answers::Answer;
 use lines::answers::REFUSED;
 use lines::bytes::put_byte;
 use lines::endings::put_ending;
-use listing::listing::put_listing;
-use reader::declaring::Standing;
-use reader::declaring::read;
+use showing::put_words;
 ghost use Prim.Native.Nat.{_≤_};
 ghost use lib.ListN.{length};
 ghost use Rattle.rules.specs.Limits.{longestText};
@@ -25,26 +23,6 @@ fn put_first(out: &mut [u8], a: Answer) -> usize
 {
     let next = put_ending(out, 0, a);
     put_byte(out, next, 10)
-}
-
-// The other lines: the text is read once more, for the names of its words.
-fn put_rest(
-    out: &mut [u8],
-    at: usize,
-    text: &[u8],
-    carriers: &[u8],
-    a: &mut [u8],
-    b: &mut [u8],
-    c: &mut [u8],
-) -> usize
-    requires { ⌜ (length (now text) ≤ longestText) × ((65536 ≤ length (now a)) × ((65536 ≤ length (now b)) × (65536 ≤ length (now c)))) ⌝ }
-    requires { ⌜ (at ≤ 128) × ((524544 ≤ length (now out)) × (32768 ≤ length (now carriers))) ⌝ }
-    ensures { λ r. ⌜ r ≤ length (now (out .exit)) ⌝ }
-{
-    match read(text, a, b, c) {
-        Standing::Refused(_, _) => at,
-        Standing::Fine(m, _) => put_listing(out, at, text, a, b, c, m, carriers),
-    }
 }
 
 // The run of a text, from as many zero carriers as it asks for.
@@ -74,7 +52,7 @@ fn put_report(
     if ended.ending == REFUSED {
         return next;
     }
-    put_rest(out, next, text, carriers, a, b, c)
+    put_words(out, next, text, carriers, a, b, c)
 }
 
 // The run and its report.

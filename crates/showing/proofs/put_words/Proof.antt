@@ -1,13 +1,13 @@
--- `bench::put_rest` meets its contract: what is read is ready to be listed.
+-- `showing::put_words` meets its contract: what is read is ready to be listed.
 -- Assumes nothing.
 use borrow.Author.Needs.{needs}
 use native.Mathlib.Omega.{arith}
-use Rattle.bench.proofs.Reading.{ready-there}
-use Rattle.bench.proofs.put_rest.Statement.{statement}
-use Rattle.bench.proofs.put_rest.Tie as tie
+use Rattle.showing.proofs.Reading.{ready-there}
+use Rattle.showing.proofs.put_words.Statement.{statement}
+use Rattle.showing.proofs.put_words.Tie as tie
 
-pub put-rest-spec : {M : Type 1} → statement M
-put-rest-spec =
+pub put-words-spec : {M : Type 1} → statement M
+put-words-spec =
     tie.close
     (tie.spec
     (λ c κs. search needs)

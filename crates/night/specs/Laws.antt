@@ -1,0 +1,3 @@
+-- The laws of night.
+pub mod Said
+pub mod Sizes
