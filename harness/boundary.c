@@ -1,9 +1,11 @@
-/* The edges of the calls: lengths off by one, every byte value, each carrier bit, names of every kind. Prints what fails, and `N passed, M failed`. */
+/* The edges of the calls: lengths off by one, every byte value, each carrier bit, names of every kind, images of
+ * every shape. Prints what fails, and `N passed, M failed`. */
 #include <stdbool.h>
 #include <stdio.h>
 #include <string.h>
 
 #include "../include/isps.h"
+#include "blocks.h"
 #include "lent.h"
 
 static unsigned passed, failed;
@@ -58,17 +60,39 @@ static void judge_refusal(const char *what, unsigned detail, const uint32_t answ
     judge_position(what, detail, answer, line, column);
 }
 
+/* A refusal at a place in no text: line and column are 1. */
+static void judge_elsewhere(const char *what, unsigned detail, const uint32_t answer[8], uint32_t number, uint32_t place, const char *broken)
+{
+    judge(what, detail, answer, ISPS_REFUSED, number, place, 0, broken);
+    judge_position(what, detail, answer, 1, 1);
+}
+
+/* The image of one word that holds 15. */
+static void make_image_of_15(uint8_t image[BLOCK_SIZE])
+{
+    memset(image, 0, BLOCK_SIZE);
+    image[1] = 1;
+    image[2] = 8;
+    image[4] = 15;
+    image[BLOCK_CHECK] = 1 * 2 + 8 * 3 + 15 * 5;
+}
+
 /* All calls on a text, with lengths of one's own. */
 static void all_refuse(const char *what, unsigned detail, const Lengths *lengths, const uint8_t *text, size_t len, uint32_t number, uint32_t place)
 {
     uint32_t answer[8];
     const char *broken;
-    uint8_t carriers[8] = {0};
+    uint8_t carriers[8] = {0}, image[BLOCK_SIZE];
+    make_image_of_15(image);
     lent_check_with(lengths, text, len, answer, &broken);
     judge_refusal(what, detail, answer, text, number, place, broken);
     lent_run_with(lengths, text, len, carriers, sizeof carriers, 5, answer, &broken);
     judge_refusal(what, detail, answer, text, number, place, broken);
     lent_profile_with(lengths, text, len, (const uint8_t *)"P", 1, (const uint8_t *)"A", 1, answer, &broken);
+    judge_refusal(what, detail, answer, text, number, place, broken);
+    lent_store_with(lengths, text, len, carriers, sizeof carriers, image, sizeof image, answer, &broken);
+    judge_refusal(what, detail, answer, text, number, place, broken);
+    lent_load_with(lengths, text, len, image, sizeof image, carriers, sizeof carriers, answer, &broken);
     judge_refusal(what, detail, answer, text, number, place, broken);
 }
 
@@ -77,13 +101,18 @@ static void all_accept(const char *what, unsigned detail, const Lengths *lengths
     uint32_t answer[8];
     const char *broken;
     const uint8_t *text = (const uint8_t *)accepted;
-    uint8_t carriers[8] = {15};
+    uint8_t carriers[8] = {15}, fifteen[8] = {15}, image[BLOCK_SIZE] = {0}, image_of_15[BLOCK_SIZE];
+    make_image_of_15(image_of_15);
     lent_check_with(lengths, text, strlen(accepted), answer, &broken);
     judge(what, detail, answer, ISPS_DONE, 0, 0, 0, broken);
     lent_run_with(lengths, text, strlen(accepted), carriers, sizeof carriers, 5, answer, &broken);
     judge(what, detail, answer, ISPS_DONE, 0, 0, 1, carriers[0] != 0 ? "wrong carriers" : broken);
     lent_profile_with(lengths, text, strlen(accepted), (const uint8_t *)"P", 1, (const uint8_t *)"A", 1, answer, &broken);
     judge_refusal(what, detail, answer, text, 92, place_in(accepted, "A = A"), broken);
+    lent_store_with(lengths, text, strlen(accepted), fifteen, sizeof fifteen, image, sizeof image, answer, &broken);
+    judge(what, detail, answer, ISPS_DONE, 0, 0, 0, memcmp(image, image_of_15, BLOCK_SIZE) != 0 ? "wrong image" : broken);
+    lent_load_with(lengths, text, strlen(accepted), image, sizeof image, carriers, sizeof carriers, answer, &broken);
+    judge(what, detail, answer, ISPS_DONE, 0, 0, 0, memcmp(carriers, fifteen, 8) != 0 ? "wrong carriers" : broken);
 }
 
 static size_t *length_number(Lengths *lengths, unsigned number)
@@ -338,6 +367,151 @@ static void try_names(void)
     judge_refusal("refused text and names of nothing", 0, answer, blanks, 20, 7, broken);
 }
 
+/* ---- Images ---- */
+
+enum { MOST_WORDS = 4096, MOST_BLOCKS = 66 };
+
+static uint8_t kept[8 * MOST_WORDS + 8], image[MOST_BLOCKS * BLOCK_SIZE + 1], loaded[8 * MOST_WORDS + 8];
+
+static const char *text_of_words(unsigned words)
+{
+    static char text[128];
+    if (words == 0)
+        return "N := BEGIN MAIN P := BEGIN NO.OP() END END";
+    snprintf(text, sizeof text, "N := BEGIN\nM[0:%u]<59:0>,\nMAIN P := BEGIN NO.OP() END END", words - 1);
+    return text;
+}
+
+static void store_and_judge(const char *what, unsigned detail, const char *text, size_t carriers_len, size_t image_len, uint32_t number, uint32_t place)
+{
+    uint32_t answer[8];
+    const char *broken;
+    lent_store((const uint8_t *)text, strlen(text), kept, carriers_len, image, image_len, answer, &broken);
+    if (number == 0)
+        judge(what, detail, answer, ISPS_DONE, 0, 0, 0, broken);
+    else
+        judge_elsewhere(what, detail, answer, number, place, broken);
+}
+
+static void load_and_judge(const char *what, unsigned detail, const char *text, size_t image_len, size_t carriers_len, uint32_t number, uint32_t place)
+{
+    uint32_t answer[8];
+    const char *broken;
+    memset(loaded, 0xEE, sizeof loaded);
+    lent_load((const uint8_t *)text, strlen(text), image, image_len, loaded, carriers_len, answer, &broken);
+    if (number == 0)
+        judge(what, detail, answer, ISPS_DONE, 0, 0, 0, memcmp(loaded, kept, carriers_len) != 0 ? "wrong carriers" : broken);
+    else
+        judge_elsewhere(what, detail, answer, number, place, broken);
+}
+
+/* Words of 60 bits that differ from each other, all bits in use. */
+static void fill_words(unsigned words)
+{
+    memset(kept, 0, sizeof kept);
+    for (unsigned i = 0; i < 8 * words; i++)
+        kept[i] = (uint8_t)(i * 37 + i / 256 + 1);
+    for (unsigned word = 0; word < words; word++)
+        kept[8 * word + 7] = 15;
+}
+
+/* Numbers of words around those that fill their last block, the most, and none, each with every other length of carriers and image nearby. */
+static void try_numbers_of_words(void)
+{
+    static const unsigned numbers[] = {0, 1, 2, 62, 63, 64, 125, 126, 127, 4095, 4096};
+    for (size_t i = 0; i < sizeof numbers / sizeof numbers[0]; i++) {
+        unsigned words = numbers[i];
+        const char *text = text_of_words(words);
+        size_t size = 8 * (size_t)words, blocks = ISPS_IMAGE_SIZE(words);
+        fill_words(words);
+        memset(image, 0xEE, sizeof image);
+        store_and_judge("words stored", words, text, size, blocks, 0, 0);
+        load_and_judge("words loaded", words, text, blocks, size, 0, 0);
+        store_and_judge("carriers one byte longer", words, text, size + 1, blocks, 60, 0);
+        load_and_judge("carriers one byte longer", words, text, blocks, size + 1, 60, 0);
+        store_and_judge("image one byte longer", words, text, size, blocks + 1, 62, 0);
+        load_and_judge("image one byte longer", words, text, blocks + 1, size, 62, 0);
+        load_and_judge("both one byte longer", words, text, blocks + 1, size + 1, 60, 0);
+        if (words == 0)
+            continue;
+        store_and_judge("carriers one byte shorter", words, text, size - 1, blocks, 60, 0);
+        load_and_judge("carriers one byte shorter", words, text, blocks, size - 1, 60, 0);
+        store_and_judge("carriers one word shorter", words, text, size - 8, blocks, 60, 0);
+        load_and_judge("carriers one word shorter", words, text, blocks, size - 8, 60, 0);
+        store_and_judge("image one byte shorter", words, text, size, blocks - 1, 62, 0);
+        load_and_judge("image one byte shorter", words, text, blocks - 1, size, 62, 0);
+        store_and_judge("image one block shorter", words, text, size, blocks - BLOCK_SIZE, 62, 0);
+        load_and_judge("image one block shorter", words, text, blocks - BLOCK_SIZE, size, 62, 0);
+        kept[size - 1] = 16;
+        store_and_judge("a bit too many in the last word", words, text, size, blocks, 61, (uint32_t)size - 8);
+        store_and_judge("that and an image of no length", words, text, size, 0, 61, (uint32_t)size - 8);
+        store_and_judge("that and carriers one byte longer", words, text, size + 1, 0, 60, 0);
+    }
+}
+
+/* What a block of the image of 64 words is refused with if a byte of it differs and its check is right: its head and padding are 64, a payload of more bits
+ * than the word has is 61, and other payload is as good as what was there. */
+static void try_mended_byte(const char *text, unsigned block, unsigned at)
+{
+    unsigned used = block == 0 ? BLOCK_PAYLOAD : 8, payload_at = at - BLOCK_HEAD, word = 63 * block + payload_at / 8;
+    uint8_t *bytes = image + BLOCK_SIZE * block, before[BLOCK_SIZE];
+    memcpy(before, bytes, BLOCK_SIZE);
+    bytes[at] ^= 64;
+    mend_check(bytes);
+    if (at < BLOCK_HEAD || payload_at >= used) {
+        load_and_judge("a byte of head or padding, mended", BLOCK_SIZE * block + at, text, 2 * BLOCK_SIZE, 8 * 64, 64, BLOCK_SIZE * block);
+    } else if (payload_at % 8 == 7) {
+        load_and_judge("a payload byte with bits too many, mended", BLOCK_SIZE * block + at, text, 2 * BLOCK_SIZE, 8 * 64, 61, 8 * word);
+    } else {
+        kept[8 * word + payload_at % 8] ^= 64;
+        load_and_judge("a payload byte, mended", BLOCK_SIZE * block + at, text, 2 * BLOCK_SIZE, 8 * 64, 0, 0);
+        kept[8 * word + payload_at % 8] ^= 64;
+    }
+    memcpy(bytes, before, BLOCK_SIZE);
+}
+
+static void try_every_byte_of_an_image(void)
+{
+    const char *text = text_of_words(64);
+    fill_words(64);
+    store_and_judge("64 words", 64, text, 8 * 64, 2 * BLOCK_SIZE, 0, 0);
+    for (unsigned at = 0; at < 2 * BLOCK_SIZE; at++) {
+        static const uint8_t changes[] = {1, 128, 255};
+        for (size_t i = 0; i < sizeof changes; i++) {
+            image[at] ^= changes[i];
+            load_and_judge("one byte changed", at, text, 2 * BLOCK_SIZE, 8 * 64, 63, at / BLOCK_SIZE * BLOCK_SIZE);
+            image[at] ^= changes[i];
+        }
+        if (at % BLOCK_SIZE < BLOCK_CHECK)
+            try_mended_byte(text, at / BLOCK_SIZE, at % BLOCK_SIZE);
+    }
+    load_and_judge("nothing changed", 64, text, 2 * BLOCK_SIZE, 8 * 64, 0, 0);
+}
+
+/* The lowest block first, then the lowest number; 61 behind them all. */
+static void try_order_of_blocks(void)
+{
+    const char *text = text_of_words(64);
+    uint8_t *second = image + BLOCK_SIZE;
+    fill_words(64);
+    store_and_judge("64 words", 64, text, 8 * 64, 2 * BLOCK_SIZE, 0, 0);
+    second[0] = 2;
+    load_and_judge("number and check of the second block", 0, text, 2 * BLOCK_SIZE, 8 * 64, 63, BLOCK_SIZE);
+    mend_check(second);
+    load_and_judge("number of the second block", 0, text, 2 * BLOCK_SIZE, 8 * 64, 64, BLOCK_SIZE);
+    image[BLOCK_HEAD + 7] |= 128;
+    mend_check(image);
+    load_and_judge("that, and a bit too many in the first", 0, text, 2 * BLOCK_SIZE, 8 * 64, 64, BLOCK_SIZE);
+    image[1] = 2;
+    mend_check(image);
+    second[BLOCK_CHECK] ^= 1;
+    load_and_judge("edition of the first, check of the second", 0, text, 2 * BLOCK_SIZE, 8 * 64, 64, 0);
+    image[BLOCK_CHECK] ^= 1;
+    load_and_judge("edition and check of the first", 0, text, 2 * BLOCK_SIZE, 8 * 64, 63, 0);
+    load_and_judge("that and carriers too long", 0, text, 2 * BLOCK_SIZE, 8 * 64 + 8, 60, 0);
+    load_and_judge("that and an image too short", 0, text, BLOCK_SIZE, 8 * 64, 62, 0);
+}
+
 int main(void)
 {
     memset(blanks, ' ', sizeof blanks);
@@ -349,6 +523,9 @@ int main(void)
     try_lengths_of_carriers();
     try_every_carrier_bit();
     try_names();
+    try_numbers_of_words();
+    try_every_byte_of_an_image();
+    try_order_of_blocks();
     printf("%u passed, %u failed\n", passed, failed);
     return failed == 0 ? 0 : 1;
 }

@@ -1,17 +1,19 @@
 /* compare [SEED [COUNT [ORDERS]]]: makes COUNT texts, carriers and budgets at random and compares the library with the reference: all numbers of
  * all calls, carriers and work memory. What ends Done or Stopped is also run in ORDERS orders of single steps, each of which must agree; what
  * faults or pauses must not end Done or Stopped in any of them. Profiles are asked for PROFILES pairs of names for each text and must also agree with a search
- * over all paths; where that is given up, it may not have found a transfer that is lower. Shows the first difference and ends with 1 if there is one. */
+ * over all paths; where that is given up, it may not have found a transfer that is lower. The carriers are stored and, from an image that is sound or damaged,
+ * loaded. Shows the first difference and ends with 1 if there is one. */
 #include <stdio.h>
 #include <stdlib.h>
 #include <string.h>
 
 #include "../include/isps.h"
 #include "../reference/reference.h"
+#include "blocks.h"
 #include "generate.h"
 #include "lent.h"
 
-enum { MOST_WORDS = 4096, ROOM = 8 * MOST_WORDS + 16, PROFILES = 4, MOST_SPOTS = 20000, LONGEST_ASKED = 40 };
+enum { MOST_WORDS = 4096, ROOM = 8 * MOST_WORDS + 16, PROFILES = 4, MOST_SPOTS = 20000, LONGEST_ASKED = 40, IMAGE_ROOM = 68 * BLOCK_SIZE };
 
 typedef struct {
     uint8_t bytes[LONGEST_ASKED + 1];
@@ -20,11 +22,12 @@ typedef struct {
 
 static Generated text;
 static uint8_t start[ROOM], expected[ROOM], got[ROOM];
-static size_t carriers_len;
+static uint8_t image[IMAGE_ROOM], expected_image[IMAGE_ROOM], got_image[IMAGE_ROOM];
+static size_t carriers_len, image_len;
 static uint32_t budget;
 static Asked test, output;
 static unsigned differences, orders_run, paths_searched, searches_given_up;
-static unsigned checks_by_number[100], runs_by_number[100], runs_by_ending[5], profiles_by_number[100];
+static unsigned checks_by_number[100], runs_by_number[100], runs_by_ending[5], profiles_by_number[100], stores_by_number[100], loads_by_number[100];
 
 static void print_answer(const char *who, const uint32_t answer[8])
 {
@@ -50,6 +53,7 @@ static void differ(const char *what, const uint32_t wanted[8], const uint32_t an
     print_answer("reference", wanted);
     print_answer("got", answer);
     print_bytes("carriers at the start", start, carriers_len);
+    print_bytes("image at the start", image, image_len);
     print_bytes("name of the test", test.bytes, test.len);
     print_bytes("name of the output", output.bytes, output.len);
     printf("text of %u bytes:\n", (unsigned)text.len);
@@ -196,6 +200,88 @@ static void compare_profile(void)
         differ("the search over all paths", wanted, answer);
 }
 
+static void fill_by_chance(uint8_t *bytes, size_t len)
+{
+    for (size_t i = 0; i < len; i++)
+        bytes[i] = (uint8_t)below(256);
+}
+
+/* As long as the carriers need, mostly. */
+static void choose_image_len(void)
+{
+    image_len = (carriers_len + BLOCK_PAYLOAD - 1) / BLOCK_PAYLOAD * BLOCK_SIZE;
+    if (chance(4))
+        image_len += chance(50) ? 1 : BLOCK_SIZE;
+    else if (image_len > 0 && chance(4))
+        image_len -= chance(50) ? 1 : BLOCK_SIZE;
+}
+
+static void compare_store(void)
+{
+    uint32_t wanted[8], answer[8];
+    const char *broken;
+    choose_image_len();
+    fill_by_chance(image, image_len);
+    memcpy(expected_image, image, image_len);
+    memcpy(got_image, image, image_len);
+    reference_store(text.bytes, text.len, start, carriers_len, expected_image, image_len, wanted);
+    lent_store(text.bytes, text.len, start, carriers_len, got_image, image_len, answer, &broken);
+    stores_by_number[wanted[ISPS_NUMBER]]++;
+    if (memcmp(wanted, answer, sizeof answer) != 0)
+        differ("answers of Store", wanted, answer);
+    else if (memcmp(expected_image, got_image, image_len) != 0)
+        differ("image after Store", wanted, answer);
+    else if (broken != NULL)
+        differ(broken, wanted, answer);
+}
+
+/* Some byte of the block, its head, its payload or the check; what is left of it is mended at times, so that the check does not hide it. */
+static void damage_block(uint8_t *block)
+{
+    unsigned at = chance(40) ? below(BLOCK_HEAD) : below(BLOCK_SIZE);
+    block[at] = (uint8_t)(chance(50) ? block[at] ^ 1u << below(8) : below(256));
+    if (chance(60))
+        mend_check(block);
+}
+
+static void damage_image(void)
+{
+    unsigned blocks = (unsigned)(image_len / BLOCK_SIZE);
+    if (blocks == 0 || chance(40))
+        return;
+    if (blocks > 1 && chance(15)) {
+        uint8_t kept[BLOCK_SIZE], *one = image + BLOCK_SIZE * below(blocks), *other = image + BLOCK_SIZE * below(blocks);
+        memcpy(kept, one, BLOCK_SIZE);
+        memmove(one, other, BLOCK_SIZE);
+        memcpy(other, kept, BLOCK_SIZE);
+        return;
+    }
+    for (unsigned count = 1 + below(3); count > 0; count--)
+        damage_block(image + BLOCK_SIZE * below(blocks));
+}
+
+/* From what the reference stored, if it did, into carriers that hold anything. */
+static void compare_load(void)
+{
+    uint32_t wanted[8], answer[8];
+    const char *broken;
+    memcpy(image, expected_image, image_len);
+    damage_image();
+    if (chance(10))
+        choose_image_len();
+    fill_by_chance(expected, carriers_len);
+    memcpy(got, expected, carriers_len);
+    reference_load(text.bytes, text.len, image, image_len, expected, carriers_len, wanted);
+    lent_load(text.bytes, text.len, image, image_len, got, carriers_len, answer, &broken);
+    loads_by_number[wanted[ISPS_NUMBER]]++;
+    if (memcmp(wanted, answer, sizeof answer) != 0)
+        differ("answers of Load", wanted, answer);
+    else if (memcmp(expected, got, carriers_len) != 0)
+        differ("carriers after Load", wanted, answer);
+    else if (broken != NULL)
+        differ(broken, wanted, answer);
+}
+
 static void print_counts(const char *what, const unsigned *counts, unsigned size)
 {
     printf("%s:", what);
@@ -222,6 +308,8 @@ int main(int count, char **arguments)
             compare_order(wanted, order == 0 ? 0 : random_bits() | 1);
         for (unsigned pair = 0; pair < PROFILES; pair++)
             compare_profile();
+        compare_store();
+        compare_load();
     }
     print_counts("Check, by number (0 is accepted)", checks_by_number, 100);
     print_counts("Run, by number", runs_by_number, 100);
@@ -229,6 +317,8 @@ int main(int count, char **arguments)
            runs_by_ending[ISPS_PAUSED], runs_by_ending[ISPS_FAULT], runs_by_ending[ISPS_REFUSED]);
     print_counts("Profile, by number", profiles_by_number, 100);
     printf("Profile, searched: %u, of which given up %u\n", paths_searched, searches_given_up);
+    print_counts("Store, by number", stores_by_number, 100);
+    print_counts("Load, by number", loads_by_number, 100);
     printf("%lu texts, %u orders, %u differences\n", texts, orders_run, differences);
     return differences == 0 ? 0 : 1;
 }

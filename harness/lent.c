@@ -13,7 +13,7 @@ typedef struct {
     const uint8_t *before; /* what was lent; of rubbish nothing is kept */
 } Buffer;
 
-static Buffer lent_text, lent_names[2], lent_carriers, lent_work[3], lent_answer;
+static Buffer lent_text, lent_read[2], lent_written, lent_work[3], lent_answer;
 
 static uint8_t *bytes_of(Buffer *buffer)
 {
@@ -110,16 +110,16 @@ static const char *fault_of_call(uint32_t returned, const uint32_t answer[8])
     bool untouched = returned == ISPS_WORK_TOO_SHORT || returned == ISPS_TEXT_TOO_LONG;
     if (!is_left_alone(&lent_text))
         return "changed the text or the bytes around it";
-    if (!is_left_alone(&lent_names[0]) || !is_left_alone(&lent_names[1]))
-        return "changed a name or the bytes around it";
-    if (!guards_stand(&lent_carriers))
-        return "wrote outside the carriers";
+    if (!is_left_alone(&lent_read[0]) || !is_left_alone(&lent_read[1]))
+        return "changed a buffer that it may only read, or the bytes around it";
+    if (!guards_stand(&lent_written))
+        return "wrote outside the buffer that it may write";
     if (!guards_stand(&lent_answer))
         return "wrote outside the answer";
     if (untouched && !is_full_of(&lent_answer, RUBBISH))
         return "wrote an answer after 1 or 2";
-    if (answer[ISPS_ENDING] == ISPS_REFUSED && !is_unchanged(&lent_carriers))
-        return "changed carriers and refused";
+    if (answer[ISPS_ENDING] == ISPS_REFUSED && !is_unchanged(&lent_written))
+        return "changed a buffer and refused";
     if (answer[ISPS_NUMBER] != returned)
         return "returned another number than its answer has";
     if (!has_right_position(answer))
@@ -131,9 +131,9 @@ static const char *fault_of_call(uint32_t returned, const uint32_t answer[8])
 static void lend(const Lengths *lengths, const uint8_t *text, size_t text_len)
 {
     lend_copy(&lent_text, text, text_len);
-    lend_copy(&lent_names[0], NULL, 0);
-    lend_copy(&lent_names[1], NULL, 0);
-    lend_copy(&lent_carriers, NULL, 0);
+    lend_copy(&lent_read[0], NULL, 0);
+    lend_copy(&lent_read[1], NULL, 0);
+    lend_copy(&lent_written, NULL, 0);
     for (int i = 0; i < 3; i++)
         lend_rubbish(&lent_work[i], lengths->work[i]);
     lend_rubbish(&lent_answer, lengths->answer);
@@ -144,6 +144,12 @@ static uint32_t look_after(uint32_t returned, uint32_t answer[8], const char **b
     read_answer(returned, answer);
     *broken = fault_of_call(returned, answer);
     return returned;
+}
+
+static void take_back(uint8_t *bytes)
+{
+    if (lent_written.len > 0)
+        memcpy(bytes, bytes_of(&lent_written), lent_written.len);
 }
 
 #define LENT(buffer) pointer_to(&(buffer)), (buffer).len
@@ -159,10 +165,9 @@ uint32_t lent_run_with(const Lengths *lengths, const uint8_t *text, size_t text_
                        uint32_t answer[8], const char **broken)
 {
     lend(lengths, text, text_len);
-    lend_copy(&lent_carriers, carriers, carriers_len);
-    uint32_t returned = look_after(isps_run(LENT(lent_text), LENT(lent_carriers), budget, LENT_WORK_AND_ANSWER), answer, broken);
-    if (carriers_len > 0)
-        memcpy(carriers, bytes_of(&lent_carriers), carriers_len);
+    lend_copy(&lent_written, carriers, carriers_len);
+    uint32_t returned = look_after(isps_run(LENT(lent_text), LENT(lent_written), budget, LENT_WORK_AND_ANSWER), answer, broken);
+    take_back(carriers);
     return returned;
 }
 
@@ -170,9 +175,31 @@ uint32_t lent_profile_with(const Lengths *lengths, const uint8_t *text, size_t t
                            size_t output_len, uint32_t answer[8], const char **broken)
 {
     lend(lengths, text, text_len);
-    lend_copy(&lent_names[0], test, test_len);
-    lend_copy(&lent_names[1], output, output_len);
-    return look_after(isps_profile(LENT(lent_text), LENT(lent_names[0]), LENT(lent_names[1]), LENT_WORK_AND_ANSWER), answer, broken);
+    lend_copy(&lent_read[0], test, test_len);
+    lend_copy(&lent_read[1], output, output_len);
+    return look_after(isps_profile(LENT(lent_text), LENT(lent_read[0]), LENT(lent_read[1]), LENT_WORK_AND_ANSWER), answer, broken);
+}
+
+uint32_t lent_store_with(const Lengths *lengths, const uint8_t *text, size_t text_len, const uint8_t *carriers, size_t carriers_len, uint8_t *image,
+                         size_t image_len, uint32_t answer[8], const char **broken)
+{
+    lend(lengths, text, text_len);
+    lend_copy(&lent_read[0], carriers, carriers_len);
+    lend_copy(&lent_written, image, image_len);
+    uint32_t returned = look_after(isps_store(LENT(lent_text), LENT(lent_read[0]), LENT(lent_written), LENT_WORK_AND_ANSWER), answer, broken);
+    take_back(image);
+    return returned;
+}
+
+uint32_t lent_load_with(const Lengths *lengths, const uint8_t *text, size_t text_len, const uint8_t *image, size_t image_len, uint8_t *carriers,
+                        size_t carriers_len, uint32_t answer[8], const char **broken)
+{
+    lend(lengths, text, text_len);
+    lend_copy(&lent_read[0], image, image_len);
+    lend_copy(&lent_written, carriers, carriers_len);
+    uint32_t returned = look_after(isps_load(LENT(lent_text), LENT(lent_read[0]), LENT(lent_written), LENT_WORK_AND_ANSWER), answer, broken);
+    take_back(carriers);
+    return returned;
 }
 
 static const Lengths published = {{ISPS_WORK_SIZE, ISPS_WORK_SIZE, ISPS_WORK_SIZE}, ISPS_ANSWER_SIZE};
@@ -192,4 +219,16 @@ uint32_t lent_profile(const uint8_t *text, size_t text_len, const uint8_t *test,
                       uint32_t answer[8], const char **broken)
 {
     return lent_profile_with(&published, text, text_len, test, test_len, output, output_len, answer, broken);
+}
+
+uint32_t lent_store(const uint8_t *text, size_t text_len, const uint8_t *carriers, size_t carriers_len, uint8_t *image, size_t image_len,
+                    uint32_t answer[8], const char **broken)
+{
+    return lent_store_with(&published, text, text_len, carriers, carriers_len, image, image_len, answer, broken);
+}
+
+uint32_t lent_load(const uint8_t *text, size_t text_len, const uint8_t *image, size_t image_len, uint8_t *carriers, size_t carriers_len,
+                   uint32_t answer[8], const char **broken)
+{
+    return lent_load_with(&published, text, text_len, image, image_len, carriers, carriers_len, answer, broken);
 }

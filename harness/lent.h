@@ -15,6 +15,10 @@ uint32_t lent_run(const uint8_t *text, size_t text_len, uint8_t *carriers, size_
                   const char **broken);
 uint32_t lent_profile(const uint8_t *text, size_t text_len, const uint8_t *test, size_t test_len, const uint8_t *output, size_t output_len,
                       uint32_t answer[8], const char **broken);
+uint32_t lent_store(const uint8_t *text, size_t text_len, const uint8_t *carriers, size_t carriers_len, uint8_t *image, size_t image_len,
+                    uint32_t answer[8], const char **broken);
+uint32_t lent_load(const uint8_t *text, size_t text_len, const uint8_t *image, size_t image_len, uint8_t *carriers, size_t carriers_len,
+                   uint32_t answer[8], const char **broken);
 
 /* The same with lengths of the work buffers and of `answer` of one's own. */
 typedef struct {
@@ -27,5 +31,9 @@ uint32_t lent_run_with(const Lengths *lengths, const uint8_t *text, size_t text_
                        uint32_t answer[8], const char **broken);
 uint32_t lent_profile_with(const Lengths *lengths, const uint8_t *text, size_t text_len, const uint8_t *test, size_t test_len, const uint8_t *output,
                            size_t output_len, uint32_t answer[8], const char **broken);
+uint32_t lent_store_with(const Lengths *lengths, const uint8_t *text, size_t text_len, const uint8_t *carriers, size_t carriers_len, uint8_t *image,
+                         size_t image_len, uint32_t answer[8], const char **broken);
+uint32_t lent_load_with(const Lengths *lengths, const uint8_t *text, size_t text_len, const uint8_t *image, size_t image_len, uint8_t *carriers,
+                        size_t carriers_len, uint32_t answer[8], const char **broken);
 
 #endif

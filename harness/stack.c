@@ -8,7 +8,7 @@
 
 enum { PAINTED = 4 << 20, PAINT = 0x5A, MOST_WORDS = 4096, BUDGET = 20000 };
 
-static uint8_t text[ISPS_LONGEST_TEXT], carriers[8 * MOST_WORDS], work[3][ISPS_WORK_SIZE], answer[ISPS_ANSWER_SIZE];
+static uint8_t text[ISPS_LONGEST_TEXT], carriers[8 * MOST_WORDS], image[ISPS_IMAGE_SIZE(MOST_WORDS)], work[3][ISPS_WORK_SIZE], answer[ISPS_ANSWER_SIZE];
 static size_t text_len, carriers_len;
 static uintptr_t far_end; /* of the painted stretch */
 
@@ -30,11 +30,23 @@ static void call_profile(void)
                  answer, ISPS_ANSWER_SIZE);
 }
 
-/* Check comes first, since it says how many words the carriers of the others have. */
+static void call_store(void)
+{
+    isps_store(text, text_len, carriers, carriers_len, image, ISPS_IMAGE_SIZE(carriers_len / 8), work[0], ISPS_WORK_SIZE, work[1], ISPS_WORK_SIZE, work[2],
+               ISPS_WORK_SIZE, answer, ISPS_ANSWER_SIZE);
+}
+
+static void call_load(void)
+{
+    isps_load(text, text_len, image, ISPS_IMAGE_SIZE(carriers_len / 8), carriers, carriers_len, work[0], ISPS_WORK_SIZE, work[1], ISPS_WORK_SIZE, work[2],
+              ISPS_WORK_SIZE, answer, ISPS_ANSWER_SIZE);
+}
+
+/* Check comes first, since it says how many words the carriers of the others have. Load has the image that Store left. */
 static const struct {
     const char *name;
     void (*call)(void);
-} calls[] = {{"Check", call_check}, {"Run", call_run}, {"Profile", call_profile}};
+} calls[] = {{"Check", call_check}, {"Run", call_run}, {"Profile", call_profile}, {"Store", call_store}, {"Load", call_load}};
 
 enum { CALLS = sizeof calls / sizeof calls[0] };
 

@@ -5,7 +5,9 @@
  *     check EIGHT run EIGHT carriers HASH
  * where the hash is that of the carriers, whatever the ending.
  * vectors profile: reads a text, the name of a test and that of an output, each after its length, over and over, and writes for each its eight numbers.
- * Ends with 1 if a call did with its buffers what it may not do. */
+ * vectors image: reads a text, 0 for Store or 1 for Load in 4 bytes, carriers and an image, each after its length, over and over, and writes for each one line:
+ *     store EIGHT image HASH, or load EIGHT carriers HASH
+ * where the hash is that of the buffer that the call may write. Ends with 1 if a call did with its buffers what it may not do. */
 #include <stdbool.h>
 #include <stdio.h>
 #include <string.h>
@@ -13,10 +15,11 @@
 #include "../include/isps.h"
 #include "lent.h"
 
-enum { BUDGET = 1000, MOST_WORDS = 4096 };
+enum { BUDGET = 1000, MOST_WORDS = 4096, STORE = 0 };
 
 static uint8_t text[LONGEST_LENT];
 static uint8_t carriers[8 * MOST_WORDS + 16];
+static uint8_t image[LONGEST_LENT];
 static uint8_t test[LONGEST_LENT], output[LONGEST_LENT]; /* the names of a profile */
 static bool all_good = true;
 
@@ -108,6 +111,27 @@ static void answer_profiles(void)
     }
 }
 
+static void answer_images(void)
+{
+    size_t len, carriers_len, image_len;
+    uint32_t which;
+    while (read_bytes(text, sizeof text, &len) && read_number(&which) && read_bytes(carriers, sizeof carriers, &carriers_len)
+           && read_bytes(image, sizeof image, &image_len)) {
+        uint32_t answer[8];
+        const char *broken;
+        if (which == STORE) {
+            lent_store(text, len, carriers, carriers_len, image, image_len, answer, &broken);
+            print_numbers("store", answer);
+            printf(" image %016llx\n", hash(image, image_len));
+        } else {
+            lent_load(text, len, image, image_len, carriers, carriers_len, answer, &broken);
+            print_numbers("load", answer);
+            printf(" carriers %016llx\n", hash(carriers, carriers_len));
+        }
+        report(broken);
+    }
+}
+
 static void answer_texts(void)
 {
     size_t len;
@@ -132,6 +156,8 @@ int main(int count, char **arguments)
         answer_positions();
     else if (strcmp(set, "profile") == 0)
         answer_profiles();
+    else if (strcmp(set, "image") == 0)
+        answer_images();
     else
         answer_texts();
     return all_good ? 0 : 1;

@@ -1,4 +1,4 @@
-/* The calls of the reader and runner for a bench subset of ISPS: Check and Run, and Profile.
+/* The calls of the reader and runner for a bench subset of ISPS: Check and Run; Profile; Store and Load.
  *
  * Each byte buffer is lent as a pointer and a length. Where the length is 0, the pointer may be anything, NULL included: it is not followed. The calls keep
  * nothing from one call to the next, allocate nothing, and write only to the three work buffers, `answer`, and where a call's comment says so.
@@ -43,6 +43,26 @@ uint32_t isps_profile(const uint8_t *text, size_t text_len,
                       uint8_t *work_a, size_t a_len, uint8_t *work_b, size_t b_len, uint8_t *work_c, size_t c_len,
                       uint8_t *answer, size_t answer_len);
 
+/* Stored carriers: an image of blocks of 512 bytes, each with its own check. Byte 0 of a block is its number from 0, byte 1 the edition, 1; bytes 2 and 3 are the
+ * payload bytes used, little-endian; bytes 4 to 507 the payload, of which the unused part is zero; bytes 508 to 511, little-endian, the sum over bytes 0
+ * to 507 of byte times (position + 1). Every block but the last is full, and no words have no blocks. */
+#define ISPS_IMAGE_SIZE(words) (((size_t)(words) + 62) / 63 * 512) /* length of the image of so many words: 63 of them fill a block */
+
+/* Writes the image of the carriers to `image`. Returns the refusal number, 0 if there is none, and fills `answer`: ISPS_DONE, or ISPS_REFUSED with the text's
+ * own refusal, else 60, 61, 62, in this order. A refusal leaves `image` unchanged. */
+uint32_t isps_store(const uint8_t *text, size_t text_len,
+                    const uint8_t *carriers, size_t carriers_len, uint8_t *image, size_t image_len,
+                    uint8_t *work_a, size_t a_len, uint8_t *work_b, size_t b_len, uint8_t *work_c, size_t c_len,
+                    uint8_t *answer, size_t answer_len);
+
+/* Writes the carriers that the image holds to `carriers`, whatever stood there. Returns and fills `answer` as isps_store does. The refusals behind the text's
+ * own are 60 of the length of `carriers`, 62, then 63 or 64 of the lowest block at fault, then 61 of the words that the image holds. A refusal leaves
+ * `carriers` unchanged. */
+uint32_t isps_load(const uint8_t *text, size_t text_len,
+                   const uint8_t *image, size_t image_len, uint8_t *carriers, size_t carriers_len,
+                   uint8_t *work_a, size_t a_len, uint8_t *work_b, size_t b_len, uint8_t *work_c, size_t c_len,
+                   uint8_t *answer, size_t answer_len);
+
 /* Work memory may hold anything before a call. After it, it is zero over its whole length, also where it is longer than the published size.
  * Refusals 1 and 2 are the exception: they write nothing anywhere, not even the answer, so that the returned number is all there is. It stands for
  * place 0, line 1 and column 1. */
@@ -51,7 +71,7 @@ uint32_t isps_profile(const uint8_t *text, size_t text_len,
 enum {
     ISPS_ENDING,       /* one of the endings below */
     ISPS_NUMBER,       /* of the refusal or fault, else 0; the call returns it too */
-    ISPS_PLACE,        /* of the refusal or fault, else 0: an offset into the text (for 61 into the carriers), in bytes */
+    ISPS_PLACE,        /* of the refusal or fault, else 0: an offset in bytes into the text (for 61 into the carriers, for 63 and 64 into the image) */
     ISPS_STEPS,        /* that Run took, 0 after a refusal */
     ISPS_DECLARATIONS, /* number of declarations, in Check's answer to an accepted text, else 0 */
     ISPS_WORDS,        /* number of words of all carriers, likewise */
@@ -60,15 +80,15 @@ enum {
 };
 
 /* Line and column are counted from 1. Byte 10 ends a line; every other byte, tab and 13 included, is one column. The end of the text has what the next
- * byte would have. Where the place is no offset into the text (1, 2, 60, 61, 90, 91), line and column are 1. */
+ * byte would have. Where the place is no offset into the text (1, 2, 60 to 64, 90, 91), line and column are 1. */
 
 /* Endings. */
 enum {
-    ISPS_DONE,    /* the run came to its end; or Check accepted the text, or Profile the profile */
+    ISPS_DONE,    /* the run came to its end; or Check accepted the text, Profile the profile, or Store and Load wrote their buffer */
     ISPS_STOPPED, /* the run came to a STOP() */
     ISPS_PAUSED,  /* more steps than the budget were needed */
     ISPS_FAULT,   /* a step could not be taken: 70 or 71 */
-    ISPS_REFUSED  /* 1 to 61, 90 to 92 */
+    ISPS_REFUSED  /* 1 to 64, 90 to 92 */
 };
 
 /* Numbers. The comment says when, and the place where it is not the thing itself. */
@@ -108,9 +128,14 @@ enum {
     ISPS_ESCAPES = 52,      /* in a group of two or more: LEAVE or RESTART aims outside its member (at the keyword), or STOP below a member (at it) */
     ISPS_RACE = 53,         /* two members of a group race; at the later one */
 
-    /* carriers, in Run only */
+    /* carriers, in Run, Store and Load */
     ISPS_CARRIERS_LENGTH = 60, /* carriers not 8 bytes a word; at 0 */
     ISPS_CARRIER_BITS = 61,    /* a carrier bit above its length is set; at the word's offset in the carriers */
+
+    /* images, in Store and Load: 63 and 64 at the block's offset in the image */
+    ISPS_IMAGE_LENGTH = 62, /* image not of the blocks that the words need; at 0 */
+    ISPS_BLOCK_CHECK = 63,  /* a block's check is not that of its bytes */
+    ISPS_BLOCK_HEAD = 64,   /* a block's number, edition or used count is wrong, or its unused payload not zero */
 
     /* faults of a run, with the steps before it */
     ISPS_NO_SUCH_WORD = 70,   /* word name outside the declaration; at the carrier's name */

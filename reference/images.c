@@ -86,7 +86,7 @@ uint32_t reference_load(const uint8_t *text, size_t text_len, const uint8_t *ima
     }
     if (r.fault.number == 0)
         load_carriers(&r, words, held, carriers_len);
-    if (r.fault.number == 0)
+    if (r.fault.number == 0 && carriers_len > 0)
         memcpy(carriers, held, carriers_len);
     give(answer, text, r.fault.number == 0 ? DONE : REFUSED, r.fault, 0);
     give_back_memory(r.memory);
