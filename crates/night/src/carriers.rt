@@ -7,17 +7,40 @@ use images::images::image_size;
 use libc::STDOUT_FILENO;
 use lines::answers::Answer;
 use lines::answers::REFUSED;
-use lines::endings::put_labelled;
 use lines::bytes::put_byte;
-ghost use Prim.Native.Nat.{_≤_};
+use lines::bytes::put_bytes;
+use lines::endings::put_labelled;
+ghost use Prim.Native.Nat.{_+_, _≤_};
 ghost use lib.ListN.{length};
+
+// What a refusal of an image means.
+fn put_reason(out: &mut [u8], at: usize, number: u64) -> usize
+    requires { ⌜ at + 64 ≤ length (now out) ⌝ }
+    ensures { λ r. ⌜ r ≤ at + 64 ⌝ }
+{
+    if number == 62 {
+        return put_bytes(
+            out,
+            at,
+            b": not as long as the image of this description's words",
+        );
+    }
+    if number == 63 {
+        return put_bytes(out, at, b": a byte of this block was changed");
+    }
+    if number == 64 {
+        return put_bytes(out, at, b": this block belongs to another image");
+    }
+    put_bytes(out, at, b": a word has a bit above its length")
+}
 
 // Says why the image is refused, and at which byte of it, or of the carriers for 61.
 fn say_refused(a: Answer) {
-    let mut out = [0u8; 128];
+    let mut out = [0u8; 192];
     let second = put_labelled(&mut out, 0, b"image refused ", a.number);
     let third = put_labelled(&mut out, second, b" at byte ", a.place);
-    let end = put_byte(&mut out, third, b'\n');
+    let fourth = put_reason(&mut out, third, a.number);
+    let end = put_byte(&mut out, fourth, b'\n');
     io::write_all(STDOUT_FILENO, &out[..end]);
 }
 
@@ -66,14 +89,7 @@ fn store_in(
 }
 
 // Keeps the carriers in the file.
-pub fn finish(
-    path: &[u8],
-    text: &[u8],
-    carriers: &[u8],
-    a: &mut [u8],
-    b: &mut [u8],
-    c: &mut [u8],
-)
+pub fn finish(path: &[u8], text: &[u8], carriers: &[u8], a: &mut [u8], b: &mut [u8], c: &mut [u8])
     requires { ⌜ (length (now path) ≤ 4096) × (length (now carriers) ≤ 32768) ⌝ }
 {
     let mut image = [0u8; 33792];

@@ -1,6 +1,6 @@
 // The file that keeps an image. A new image is written beside it and takes its name when it is whole, so that a night that breaks off leaves the old one.
-use lines::bytes::put_bytes;
 use libc::STDOUT_FILENO;
+use lines::bytes::put_bytes;
 ghost use Prim.Native.Nat.{_+_, _≤_};
 ghost use mathlib.Core.Path.{_≡_};
 ghost use lib.ListN.{length};

@@ -19,6 +19,8 @@ say-refused-spec =
     (λ c. search needs)
     (λ c κs. search needs)
     (λ c. search needs)
+    (λ c κs. search needs)
+    (λ c. search needs)
     (λ c. simp length-take (omega arith))
     (λ c κs. search needs)
     (λ c. search needs))
