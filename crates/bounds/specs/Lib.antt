@@ -1,0 +1,4 @@
+pub mod Closing
+pub mod Owed
+pub mod Counted
+pub mod Longest
