@@ -2,3 +2,5 @@ pub mod Closing
 pub mod Owed
 pub mod Counted
 pub mod Longest
+pub mod Walk
+pub mod WalkLaws

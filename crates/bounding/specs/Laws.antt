@@ -1,0 +1,2 @@
+-- The laws of bounding.
+pub mod Machine

@@ -1,0 +1,6 @@
+pub mod Machine
+pub mod Holding
+pub mod Walking
+pub mod Going
+pub mod Levels
+pub mod Laws
