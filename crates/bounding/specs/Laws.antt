@@ -1,2 +1,6 @@
 -- The laws of bounding.
 pub mod Machine
+pub mod Holding
+pub mod Acting
+pub mod Going
+pub mod Levels

@@ -22,9 +22,9 @@ pub record Blank (old new : List ℕ) (k : ℕ) : Type 0 where
   pub clear : (j : ℕ) → j < k → cell 8 new j ≡ 0
 
 pub record Rooms (table next room : List ℕ) : Type 0 where
-  pub table : tableSize ≤ length table
-  pub next : tableSize ≤ length next
-  pub frames : enough ≤ length room
+  pub table-room : tableSize ≤ length table
+  pub next-room : tableSize ≤ length next
+  pub space : enough ≤ length room
 
 pub record Levelled (records decls table next room : List ℕ) (m n : ℕ) : Type 0 where
   pub reading : Reading records decls m n

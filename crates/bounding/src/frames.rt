@@ -22,10 +22,7 @@ pub fn open(room: &mut [u8], s: Nest) -> Nest
     let depth = s.depth;
     let count = s.count;
     if DEEPEST <= depth {
-        return Nest {
-            depth: 0,
-            count,
-        };
+        return Nest { depth: 0, count };
     }
     let at = 2 * depth;
     put64(room, at, count);
@@ -65,8 +62,5 @@ pub fn another(room: &mut [u8], s: Nest) -> Nest
     let base = get64(room, at - 1);
     let best = get64(room, at);
     put64(room, at, greater(best, s.count));
-    Nest {
-        depth,
-        count: base,
-    }
+    Nest { depth, count: base }
 }

@@ -6,21 +6,11 @@ use table::records::kind_at;
 ghost use Rattle.bounding.specs.Going.{Beginning, Walked};
 
 // The count of the body at `from`.
-pub fn walk(
-    records: &[u8],
-    table: &[u8],
-    room: &mut [u8],
-    m: usize,
-    n: usize,
-    from: usize,
-) -> u64
+pub fn walk(records: &[u8], table: &[u8], room: &mut [u8], m: usize, n: usize, from: usize) -> u64
     requires { ⌜ Beginning (now records) (now table) (now room) m n ⌝ }
     ensures { λ r. ⌜ Walked (now (records .entry)) (now (table .entry)) m n from r ⌝ }
 {
-    let mut s = Nest {
-        depth: 0,
-        count: 0,
-    };
+    let mut s = Nest { depth: 0, count: 0 };
     let mut reading: usize = 0;
     let mut i = from;
     while i < n {

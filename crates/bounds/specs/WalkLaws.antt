@@ -30,7 +30,7 @@ up-more : (x k : ℕ) → x ≤ endless → x ≤ up x k
 unfolding up
 up-more x k h = omega arith
 
-up-low : (x k : ℕ) → up x k ≤ endless
+pub up-low : (x k : ℕ) → up x k ≤ endless
 unfolding up
 up-low x k = omega arith
 
@@ -149,7 +149,6 @@ module _ (costs : Name → ℕ) (turning : Name → Bool) (counts : Name → ℕ
         let more : x ≤ z = cut-more (T y) x (C y) h in
         let g = whole (groups (actOf a) m) in
         ap (walkMembers counts m best) (walk-is a z low) ∙ (members-is m (actOf a) best z low (omega arith) ∙ cut-along (T y) (T g) x (C y) (C g))
-
 
     -- with the greatest count so far
     alternatives-is : (v : Alternatives) (x best : ℕ) → x ≤ endless → x ≤ best
