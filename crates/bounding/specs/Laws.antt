@@ -4,3 +4,4 @@ pub mod Holding
 pub mod Acting
 pub mod Going
 pub mod Levels
+pub mod Mains

@@ -2,6 +2,7 @@
 pub mod counts;
 pub mod frames;
 pub mod kinds;
+pub mod mains;
 pub mod names;
 pub mod rounds;
 pub mod steps;

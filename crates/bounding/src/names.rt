@@ -18,7 +18,7 @@ ghost use Rattle.bounding.specs.Walking.{indexOf, Acting, Named, Activat
 pub const UNDECLARED: usize = 256;
 
 // Where a table has the count of the name i.
-fn index_of(records: &[u8], m: usize, i: usize) -> usize
+pub fn index_of(records: &[u8], m: usize, i: usize) -> usize
     requires { ⌜ (8 * i + 8 ≤ length (now records)) × (m ≤ 256) ⌝ }
     ensures { λ r. ⌜ (r ≤ 256) × ((decls : List ℕ) (n : ℕ) (v : Reading (now (records .entry)) decls m n) → i < n → kindByte (now (records .entry)) i ≡ 0
         → r ≡ indexOf (tableOf v) (wordAt (v .tokens) i)) ⌝ }
