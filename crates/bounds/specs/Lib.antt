@@ -4,3 +4,4 @@ pub mod Counted
 pub mod Longest
 pub mod Walk
 pub mod WalkLaws
+pub mod Answers

@@ -1,0 +1,2 @@
+-- The laws of lasting.
+pub mod Bounded

@@ -1,0 +1,58 @@
+// The bound of a text, as an answer.
+use bounding::counts::ENDLESS;
+use bounding::mains::longest;
+use lent::answers::Answer;
+use lent::answers::refusal;
+use reader::judging::Verdict;
+ghost use mathlib.Core.Path.{_≡_};
+ghost use mathlib.Core.List.{List, [], _∷_};
+ghost use Prim.Native.Nat.{ℕ, _≤_};
+ghost use lib.ListN.{length};
+ghost use Rattle.rules.specs.Limits.{longestText};
+ghost use Rattle.rules.specs.Calls.Bound.{boundNumbers};
+ghost use Rattle.bounds.specs.Answers.{boundBy};
+ghost use Rattle.lent.specs.Numbers.{numbersOf};
+ghost use Rattle.lasting.specs.Bounded.{Told};
+
+// The ending of a bound, and that of none.
+const BOUND: u32 = 0;
+
+const NO_BOUND: u32 = 5;
+
+fn found(ending: u32, steps: u32) -> Answer
+    ensures { λ r. ⌜ numbersOf r ≡ ending ∷ 0 ∷ 0 ∷ steps ∷ 0 ∷ 0 ∷ 0 ∷ 0 ∷ [] ⌝ }
+{
+    Answer {
+        ending,
+        number: 0,
+        place: 0,
+        steps,
+        fourth: 0,
+        fifth: 0,
+        line: 0,
+        column: 0,
+    }
+}
+
+// The numbers of MAIN's count.
+fn count_answer(count: u64) -> Answer
+    requires { ⌜ count ≤ 4294967296 ⌝ }
+    ensures { λ r. ⌜ ((text : List ℕ) → numbersOf r ≡ boundNumbers text (boundBy count)) ⌝ }
+{
+    if count == ENDLESS {
+        return found(NO_BOUND, 0);
+    }
+    found(BOUND, count as u32)
+}
+
+// What is answered to a text. The work memory may hold anything afterwards.
+pub fn bounded(text: &[u8], a: &mut [u8], b: &mut [u8], c: &mut [u8]) -> Answer
+    requires { ⌜ (length (now text) ≤ longestText) × ((65536 ≤ length (now a)) × ((65536 ≤ length (now b)) × (65536 ≤ length (now c)))) ⌝ }
+    ensures { λ r. ⌜ Told (now (text .entry)) r ⌝ }
+{
+    let mut decls: [u8; 512] = [0; 512];
+    match reader::check(text, a, b, c, &mut decls) {
+        Verdict::Refused(number, place) => refusal(text, number, place),
+        Verdict::Accepted(m, _, n) => count_answer(longest(a, &decls, b, c, m, n)),
+    }
+}
