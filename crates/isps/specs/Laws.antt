@@ -2,3 +2,4 @@ pub mod Calls
 pub mod Orders
 pub mod Profile
 pub mod Keeping
+pub mod Bound

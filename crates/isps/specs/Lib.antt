@@ -2,4 +2,5 @@ pub mod Demands
 pub mod Late
 pub mod Profile
 pub mod Images
+pub mod Bound
 pub mod Laws

@@ -4,6 +4,7 @@ ghost use Rattle.rules.specs.Calls.Check.{CheckCall};
 ghost use Rattle.rules.specs.Calls.Run.{RunCall};
 ghost use Rattle.rules.specs.Calls.Profile.{ProfileCall};
 ghost use Rattle.rules.specs.Calls.Keep.{StoreCall, LoadCall};
+ghost use Rattle.rules.specs.Calls.Bound.{BoundCall};
 
 // Check: judges a text. Returns the number of the answer, which stands in `answer` unless it is 1 or 2.
 #[no_mangle]
@@ -86,4 +87,19 @@ pub extern "C" fn isps_load(
         (memory (now (a .exit)) (now (b .exit)) (now (c .exit)) (now (answer .exit))) (now (carriers .exit)) r ⌝ }
 {
     keeping::load(text, image, carriers, a, b, c, answer)
+}
+
+// Bound: how many steps a run of a text can take at most, from any carriers.
+#[no_mangle]
+pub extern "C" fn isps_bound(
+    text: &[u8],
+    a: &mut [u8],
+    b: &mut [u8],
+    c: &mut [u8],
+    answer: &mut [u8],
+) -> u32
+    ensures { λ r. ⌜ BoundCall (now (text .entry)) (memory (now (a .entry)) (now (b .entry)) (now (c .entry)) (now (answer .entry)))
+        (memory (now (a .exit)) (now (b .exit)) (now (c .exit)) (now (answer .exit))) r ⌝ }
+{
+    lasting::bound(text, a, b, c, answer)
 }

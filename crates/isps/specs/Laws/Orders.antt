@@ -26,7 +26,7 @@ use Rattle.rules.specs.Calls.Memory.{Memory, Enough, answered}
 use Rattle.rules.specs.Calls.Run.{RunCall, carriersLeft, short-memory, long-text, answer}
 use Rattle.isps.specs.Laws.Calls.{result-code, ran-steps}
 
-abbrev runOf : Table → List ℕ → ℕ → Run
+abbrev pub runOf : Table → List ℕ → ℕ → Run
 runOf ds buffer budget = steps.run ds (mainName ds) budget (wordsFrom (totalWords ds) buffer)
 
 -- a result that is no refusal is that of the run
@@ -44,13 +44,13 @@ run-ended ds buffer budget {e} {n} {b} is = by (eqb (length buffer) (8 * totalWo
     by false t = let z : refusal 60 0 ≡ ended e n b = rw (runOn, t) at is in let y : _≡_ {A = ℕ} 0 1 = cc in absurd (omega arith)
 
 -- the run behind a result of Run that is no refusal
-record Ran (text carriers : List ℕ) (budget : ℕ) (d : Description) (e : Ending) (n : ℕ) (left : List ℕ) : Type 0 where
+pub record Ran (text carriers : List ℕ) (budget : ℕ) (d : Description) (e : Ending) (n : ℕ) (left : List ℕ) : Type 0 where
   pub declarations-count : ℕ
   pub words-count : ℕ
   pub checks : Checks text (accepted declarations-count words-count)
   pub is : resultOf (runOf (declarations d) carriers budget) ≡ ended e n left
 
-ran-by : {text carriers : List ℕ} {budget : ℕ} {x : Result} {e : Ending} {n : ℕ} {left : List ℕ} (d : Description) → flatten d ≡ scan text .tokens
+pub ran-by : {text carriers : List ℕ} {budget : ℕ} {x : Result} {e : Ending} {n : ℕ} {left : List ℕ} (d : Description) → flatten d ≡ scan text .tokens
     → Runs text carriers budget x → x ≡ ended e n left → Ran text carriers budget d e n left
 ran-by d stands (not-accepted c) q = let y : _≡_ {A = ℕ} 0 1 = cc in absurd (omega arith)
 ran-by {carriers = carriers} {budget} {e = e} {n} {left} d stands (ran d′ reads c) q =
@@ -75,14 +75,14 @@ not-well paused l w = w
 not-well (faulted m p) l w = w
 
 -- what a call has answered that was lent enough
-record Answers (text carriers : List ℕ) (budget : ℕ) (before after : Memory) (left : List ℕ) : Type 0 where
+pub record Answers (text carriers : List ℕ) (budget : ℕ) (before after : Memory) (left : List ℕ) : Type 0 where
   pub result : Result
   pub runs : Runs text carriers budget result
   pub ending : endingIn (after .answer) ≡ resultCode result
   pub answer : after .answer ≡ answered (resultNumbers text result) (before .answer)
   pub left-is : left ≡ carriersLeft carriers result
 
-answers : {text carriers left : List ℕ} {budget n : ℕ} {before after : Memory} → RunCall text carriers budget before after left n → Enough before
+pub answers : {text carriers left : List ℕ} {budget n : ℕ} {before after : Memory} → RunCall text carriers budget before after left n → Enough before
     → length text ≤ longestText → Answers text carriers budget before after left
 answers (short-memory s e a c) enough short = absurd (s enough)
 answers (long-text m l e a c) enough short = absurd (omega arith)
