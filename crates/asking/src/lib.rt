@@ -1,4 +1,5 @@
 // The public calls, each with its answer.
+use isps::isps_bound;
 use isps::isps_check;
 use isps::isps_load;
 use isps::isps_profile;
@@ -66,6 +67,12 @@ pub fn load(
 ) -> Answer {
     let mut answer = [0u8; 32];
     let number = isps_load(text, image, carriers, a, b, c, &mut answer);
+    answer_of(number, &answer)
+}
+
+pub fn bound(text: &[u8], a: &mut [u8], b: &mut [u8], c: &mut [u8]) -> Answer {
+    let mut answer = [0u8; 32];
+    let number = isps_bound(text, a, b, c, &mut answer);
     answer_of(number, &answer)
 }
 

@@ -1,6 +1,7 @@
 pub mod Closing
 pub mod Owed
 pub mod Counted
+pub mod Reaching
 pub mod Longest
 pub mod Walk
 pub mod WalkLaws

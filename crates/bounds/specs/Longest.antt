@@ -21,6 +21,7 @@ use Rattle.laws_grammar.specs.Answers.{one-verdict, accepted-iff-lawful}
 use Rattle.laws_grammar.specs.Grammar.Exact.{unique}
 use Rattle.laws_accepted.specs.Accepted.Orderly.{accepted-orderly}
 use Rattle.bounds.specs.Counted.{steps-bounded, never-paused}
+use Rattle.bounds.specs.Reaching.{Reached, turns-reached}
 
 -- what a bound says
 pub record Bounding (ds : Table) (n : ℕ) : Type 0 where
@@ -69,6 +70,10 @@ module _ (text : List ℕ) (n w : ℕ) (accepts : Checks text (accepted n w)) (d
   orderly =
       let l = accepted-iff-lawful text n w .0 accepts in
       subst (λ x. Orderly (declarations x)) (unique (l .description) d (l .stands ∙ sym stands)) (accepted-orderly (l .description) n w (l .faultless))
+
+  -- "a REPEAT or RESTART can be reached by activations from MAIN": it stands in a body to which they lead
+  pub reached-exactly : (turnsFrom ds (mainName ds) ≡ true) ↔ Reached ds (mainName ds)
+  reached-exactly = turns-reached ds orderly (mainName ds)
 
   module _ (b : ℕ) (bounded : boundOf ds ≡ bound b) where
     -- "from any start carriers, in any order, an accepted text's run counts no more than that";

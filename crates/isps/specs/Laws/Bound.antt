@@ -22,6 +22,7 @@ use Rattle.rules.specs.Calls.Bound.{BoundCall, boundNumber, boundNumbers, short
 use Rattle.laws_grammar.specs.Grammar.Exact.{unique}
 use Rattle.bounds.specs.Longest as longest
 use Rattle.bounds.specs.Longest.{Boundless, bounding, one-bound}
+use Rattle.bounds.specs.Reaching.{Reached}
 use Rattle.isps.specs.Laws.Calls.{ran-steps}
 use Rattle.isps.specs.Laws.Orders.{Answers, answers, runOf, ran-by}
 
@@ -104,6 +105,10 @@ module _ {text : List ℕ} {before after : Memory} {n : ℕ} (call : BoundCall t
       let f = none-coded (given .result) in
       let g = longest.no-bound-exactly ds in
       (λ e. g .0 (sym (s .is) ∙ f .0 (sym (given .ending) ∙ e)), λ b. given .ending ∙ f .1 (s .is ∙ g .1 b))
+
+  pub reached-exactly : (endingIn (after .answer) ≡ 4 → ⊥) → (turnsFrom ds (mainName ds) ≡ true) ↔ Reached ds (mainName ds)
+  reached-exactly n =
+      let s = stood d stands (given .bounds) (λ e. n (given .ending ∙ e)) in longest.reached-exactly text (s .declarations-count) (s .words-count) (s .checks) d stands
 
   -- a bound, and the text that has it
   record Bounded : Type 0 where

@@ -23,7 +23,7 @@ rounds-spec =
     (λ c κs. to-round-back (c .before .before .before .before .before .before .before .before .before .before .before .before .loop .inv) (c .before .before .before .before .before .before .before .round .ensures) (search needs) (search needs))
     (λ c. search needs)
     (λ c. search needs)
-    (λ c. turned-more (c .before .before .before .before .before .before .before .before .before .before .before .before .before .before .before .before .before .loop .inv) (c .before .before .before .before .before .before .before .before .before .before .before .before .round .ensures) (search needs) (c .before .before .before .before .before .before .before .before .before .before .before .before .before .before .before .before .loop-test .taken) (c .before .before .before .before .round2 .ensures) (search needs) (search needs))
+    (λ c. turned-more (c .before .before .before .before .before .before .before .before .before .before .before .before .before .before .before .before .before .loop .inv) (c .before .before .before .before .before .before .before .before .before .before .before .before .round .ensures) (search needs) (search needs) (c .before .before .before .before .round2 .ensures) (search needs) (search needs))
     (λ c. search needs)
     (λ c. search needs)
     (λ c. search needs)
