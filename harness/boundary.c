@@ -1,5 +1,5 @@
 /* The edges of the calls: lengths off by one, every byte value, each carrier bit, names of every kind, images of
- * every shape. Prints what fails, and `N passed, M failed`. */
+ * every shape, bounds around the most steps. Prints what fails, and `N passed, M failed`. */
 #include <stdbool.h>
 #include <stdio.h>
 #include <string.h>
@@ -94,6 +94,8 @@ static void all_refuse(const char *what, unsigned detail, const Lengths *lengths
     judge_refusal(what, detail, answer, text, number, place, broken);
     lent_load_with(lengths, text, len, image, sizeof image, carriers, sizeof carriers, answer, &broken);
     judge_refusal(what, detail, answer, text, number, place, broken);
+    lent_bound_with(lengths, text, len, answer, &broken);
+    judge_refusal(what, detail, answer, text, number, place, broken);
 }
 
 static void all_accept(const char *what, unsigned detail, const Lengths *lengths)
@@ -113,6 +115,8 @@ static void all_accept(const char *what, unsigned detail, const Lengths *lengths
     judge(what, detail, answer, ISPS_DONE, 0, 0, 0, memcmp(image, image_of_15, BLOCK_SIZE) != 0 ? "wrong image" : broken);
     lent_load_with(lengths, text, strlen(accepted), image, sizeof image, carriers, sizeof carriers, answer, &broken);
     judge(what, detail, answer, ISPS_DONE, 0, 0, 0, memcmp(carriers, fifteen, 8) != 0 ? "wrong carriers" : broken);
+    lent_bound_with(lengths, text, strlen(accepted), answer, &broken);
+    judge(what, detail, answer, ISPS_DONE, 0, 0, 1, broken);
 }
 
 static size_t *length_number(Lengths *lengths, unsigned number)
@@ -512,6 +516,87 @@ static void try_order_of_blocks(void)
     load_and_judge("that and an image too short", 0, text, BLOCK_SIZE, 8 * 64, 62, 0);
 }
 
+/* ---- Bounds ---- */
+
+enum { NO_BOUND = 0 }; /* no text has a bound of 0 */
+
+static void bound_and_judge(const char *what, unsigned detail, const char *text, uint32_t bound)
+{
+    uint32_t answer[8];
+    const char *broken;
+    lent_bound((const uint8_t *)text, strlen(text), answer, &broken);
+    judge(what, detail, answer, bound == NO_BOUND ? ISPS_NO_BOUND : ISPS_DONE, 0, 0, bound, broken);
+}
+
+/* MAIN with this block, behind bodies of 3 and of 10 steps, one with a REPEAT, one with a RESTART, and one that only activates such a body. */
+static void bound_of_block(const char *block, uint32_t bound)
+{
+    static char text[1024];
+    snprintf(text, sizeof text,
+             "N := BEGIN A<3:0>, B<3:0>, P3 := BEGIN A = 1; B = 2 NEXT NO.OP() END, P10 := BEGIN P3() NEXT P3() NEXT A = B; NO.OP() END, "
+             "TURNS := BEGIN L := REPEAT LEAVE L END, AGAIN := BEGIN IF A => RESTART AGAIN END, BELOW := BEGIN TURNS() END, MAIN P := %s END",
+             block);
+    bound_and_judge(block, bound, text, bound);
+}
+
+static void try_kinds_of_steps(void)
+{
+    bound_of_block("BEGIN NO.OP() END", 1);
+    bound_of_block("BEGIN STOP() END", 1);
+    bound_of_block("BEGIN LEAVE P END", 1);
+    bound_of_block("BEGIN A = B END", 1);
+    bound_of_block("BEGIN A @ B = A EQL (B AND (A + B)) END", 1);
+    bound_of_block("BEGIN L := BEGIN BEGIN K := NO.OP() END END END", 1);
+    bound_of_block("BEGIN P3() END", 4);
+    bound_of_block("BEGIN P10() END", 11);
+    bound_of_block("BEGIN IF A => A = 1 END", 2);
+    bound_of_block("BEGIN IF A => IF B => P3() END", 6);
+    bound_of_block("BEGIN DECODE A => BEGIN NO.OP(), P10(), P3() END END", 12);
+    bound_of_block("BEGIN DECODE A => BEGIN P10(), NO.OP(), P10() END NEXT DECODE A => BEGIN OTHERWISE := P3() END END", 17);
+    bound_of_block("BEGIN DECODE A => BEGIN DECODE B => BEGIN P3(), P10() END, BEGIN P10() NEXT A = 1 END END END", 13);
+    bound_of_block("BEGIN DECODE A => BEGIN DECODE B => BEGIN P10(), P3() END, P10() END; NO.OP() END", 14);
+    bound_of_block("BEGIN A = 1; B = 2; NO.OP() NEXT A = 2 NEXT B = 3 END", 5);
+    bound_of_block("BEGIN L := BEGIN LEAVE L NEXT P10() END NEXT STOP() NEXT P3() END", 17);
+    bound_of_block("BEGIN TURNS() END", NO_BOUND);
+    bound_of_block("BEGIN AGAIN() END", NO_BOUND);
+    bound_of_block("BEGIN BELOW() END", NO_BOUND);
+    bound_of_block("BEGIN STOP() NEXT BELOW() END", NO_BOUND);
+    bound_of_block("BEGIN IF 0 => AGAIN() END", NO_BOUND);
+    bound_of_block("BEGIN DECODE A => BEGIN NO.OP(), REPEAT STOP(), P10() END END", NO_BOUND);
+    bound_of_block("BEGIN NO.OP(); L := BEGIN A = 1 NEXT RESTART L END END", NO_BOUND);
+    bound_of_block("BEGIN LEAVE P NEXT REPEAT NO.OP() END", NO_BOUND);
+}
+
+/* As many bodies as a chain may have, MAIN last. Each activates the one before it so many times and has two steps fewer of its own, at least one: the n-th then
+ * has times^n - 2 steps. MAIN has `besides` of its own, which makes times^16 - times + besides. */
+static const char *text_of_powers(unsigned times, unsigned besides)
+{
+    enum { BODIES = 16 };
+    static char text[8192];
+    size_t len = (size_t)snprintf(text, sizeof text, "N := BEGIN ");
+    for (unsigned body = 0; body < BODIES; body++) {
+        bool is_main = body + 1 == BODIES;
+        len += (size_t)snprintf(text + len, sizeof text - len, "%s P%u := BEGIN ", is_main ? "MAIN" : "", body);
+        for (unsigned i = 0; body > 0 && i < times; i++)
+            len += (size_t)snprintf(text + len, sizeof text - len, "P%u(); ", body - 1);
+        for (unsigned i = is_main ? besides : times - 2; i > 1; i--)
+            len += (size_t)snprintf(text + len, sizeof text - len, "NO.OP(); ");
+        len += (size_t)snprintf(text + len, sizeof text - len, "NO.OP() END%s", is_main ? " END" : ", ");
+    }
+    return text;
+}
+
+/* 4^16 is one more than the most steps. 16^16 has 65 bits: who counts with 64 of them, or 32, gets small numbers around it. */
+static void try_large_bounds(void)
+{
+    bound_and_judge("one step fewer than the most", 2, text_of_powers(4, 2), 4294967294u);
+    bound_and_judge("the most steps", 3, text_of_powers(4, 3), 4294967295u);
+    bound_and_judge("one step more than the most", 4, text_of_powers(4, 4), NO_BOUND);
+    bound_and_judge("one activation more", 5, text_of_powers(5, 3), NO_BOUND);
+    for (unsigned besides = 14; besides < 20; besides++)
+        bound_and_judge("around 2 to the 64", besides, text_of_powers(16, besides), NO_BOUND);
+}
+
 int main(void)
 {
     memset(blanks, ' ', sizeof blanks);
@@ -526,6 +611,8 @@ int main(void)
     try_numbers_of_words();
     try_every_byte_of_an_image();
     try_order_of_blocks();
+    try_kinds_of_steps();
+    try_large_bounds();
     printf("%u passed, %u failed\n", passed, failed);
     return failed == 0 ? 0 : 1;
 }

@@ -2,7 +2,7 @@
  * all calls, carriers and work memory. What ends Done or Stopped is also run in ORDERS orders of single steps, each of which must agree; what
  * faults or pauses must not end Done or Stopped in any of them. Profiles are asked for PROFILES pairs of names for each text and must also agree with a search
  * over all paths; where that is given up, it may not have found a transfer that is lower. The carriers are stored and, from an image that is sound or damaged,
- * loaded. Shows the first difference and ends with 1 if there is one. */
+ * loaded. Where a text has a bound, a run with that budget and ORDERS orders of it are not Paused. Shows the first difference and ends with 1 if there is one. */
 #include <stdio.h>
 #include <stdlib.h>
 #include <string.h>
@@ -26,7 +26,7 @@ static uint8_t image[IMAGE_ROOM], expected_image[IMAGE_ROOM], got_image[IMAGE_RO
 static size_t carriers_len, image_len;
 static uint32_t budget;
 static Asked test, output;
-static unsigned differences, orders_run, paths_searched, searches_given_up;
+static unsigned differences, orders_run, paths_searched, searches_given_up, bounds_by_ending[6], runs_in_bound;
 static unsigned checks_by_number[100], runs_by_number[100], runs_by_ending[5], profiles_by_number[100], stores_by_number[100], loads_by_number[100];
 
 static void print_answer(const char *who, const uint32_t answer[8])
@@ -282,6 +282,36 @@ static void compare_load(void)
         differ(broken, wanted, answer);
 }
 
+static void must_not_pause(const char *what, const uint32_t bound[8], const uint32_t answer[8])
+{
+    runs_in_bound += answer[ISPS_ENDING] != ISPS_REFUSED;
+    if (answer[ISPS_ENDING] == ISPS_PAUSED || answer[ISPS_STEPS] > bound[ISPS_STEPS])
+        differ(what, bound, answer);
+}
+
+static void compare_bound(unsigned long orders)
+{
+    uint32_t wanted[8], answer[8];
+    const char *broken;
+    reference_bound(text.bytes, text.len, wanted);
+    lent_bound(text.bytes, text.len, answer, &broken);
+    bounds_by_ending[wanted[ISPS_ENDING]]++;
+    if (memcmp(wanted, answer, sizeof answer) != 0)
+        differ("answers of Bound", wanted, answer);
+    else if (broken != NULL)
+        differ(broken, wanted, answer);
+    if (wanted[ISPS_ENDING] != ISPS_DONE)
+        return;
+    memcpy(got, start, carriers_len);
+    lent_run(text.bytes, text.len, got, carriers_len, wanted[ISPS_STEPS], answer, &broken);
+    must_not_pause("a run within its bound", wanted, answer);
+    for (unsigned long order = 0; order < orders; order++) {
+        memcpy(got, start, carriers_len);
+        reference_run_order(text.bytes, text.len, got, carriers_len, wanted[ISPS_STEPS], order == 0 ? 0 : random_bits() | 1, answer);
+        must_not_pause("an order within its bound", wanted, answer);
+    }
+}
+
 static void print_counts(const char *what, const unsigned *counts, unsigned size)
 {
     printf("%s:", what);
@@ -310,6 +340,7 @@ int main(int count, char **arguments)
             compare_profile();
         compare_store();
         compare_load();
+        compare_bound(orders);
     }
     print_counts("Check, by number (0 is accepted)", checks_by_number, 100);
     print_counts("Run, by number", runs_by_number, 100);
@@ -319,6 +350,8 @@ int main(int count, char **arguments)
     printf("Profile, searched: %u, of which given up %u\n", paths_searched, searches_given_up);
     print_counts("Store, by number", stores_by_number, 100);
     print_counts("Load, by number", loads_by_number, 100);
+    printf("Bound: some %u, none %u, refused %u; runs and orders with that budget %u\n", bounds_by_ending[ISPS_DONE], bounds_by_ending[ISPS_NO_BOUND],
+           bounds_by_ending[ISPS_REFUSED], runs_in_bound);
     printf("%lu texts, %u orders, %u differences\n", texts, orders_run, differences);
     return differences == 0 ? 0 : 1;
 }

@@ -202,6 +202,12 @@ uint32_t lent_load_with(const Lengths *lengths, const uint8_t *text, size_t text
     return returned;
 }
 
+uint32_t lent_bound_with(const Lengths *lengths, const uint8_t *text, size_t text_len, uint32_t answer[8], const char **broken)
+{
+    lend(lengths, text, text_len);
+    return look_after(isps_bound(LENT(lent_text), LENT_WORK_AND_ANSWER), answer, broken);
+}
+
 static const Lengths published = {{ISPS_WORK_SIZE, ISPS_WORK_SIZE, ISPS_WORK_SIZE}, ISPS_ANSWER_SIZE};
 
 uint32_t lent_check(const uint8_t *text, size_t text_len, uint32_t answer[8], const char **broken)
@@ -231,4 +237,9 @@ uint32_t lent_load(const uint8_t *text, size_t text_len, const uint8_t *image, s
                    uint32_t answer[8], const char **broken)
 {
     return lent_load_with(&published, text, text_len, image, image_len, carriers, carriers_len, answer, broken);
+}
+
+uint32_t lent_bound(const uint8_t *text, size_t text_len, uint32_t answer[8], const char **broken)
+{
+    return lent_bound_with(&published, text, text_len, answer, broken);
 }

@@ -19,6 +19,7 @@ uint32_t lent_store(const uint8_t *text, size_t text_len, const uint8_t *carrier
                     uint32_t answer[8], const char **broken);
 uint32_t lent_load(const uint8_t *text, size_t text_len, const uint8_t *image, size_t image_len, uint8_t *carriers, size_t carriers_len,
                    uint32_t answer[8], const char **broken);
+uint32_t lent_bound(const uint8_t *text, size_t text_len, uint32_t answer[8], const char **broken);
 
 /* The same with lengths of the work buffers and of `answer` of one's own. */
 typedef struct {
@@ -35,5 +36,6 @@ uint32_t lent_store_with(const Lengths *lengths, const uint8_t *text, size_t tex
                          size_t image_len, uint32_t answer[8], const char **broken);
 uint32_t lent_load_with(const Lengths *lengths, const uint8_t *text, size_t text_len, const uint8_t *image, size_t image_len, uint8_t *carriers,
                         size_t carriers_len, uint32_t answer[8], const char **broken);
+uint32_t lent_bound_with(const Lengths *lengths, const uint8_t *text, size_t text_len, uint32_t answer[8], const char **broken);
 
 #endif

@@ -1,5 +1,5 @@
 /* speed [MILLISECONDS]: times the library against the reference, which is built at -O2 for the same target, side by side in one run.
- * Check and Profile: nanoseconds for a byte of text, the ratio of the two, and the library's time relative to its time for a typical text.
+ * Check, Profile and Bound: nanoseconds for a byte of text, the ratio of the two, and the library's time relative to its time for a typical text.
  * Run: million steps a second, and the ratio; for a short run, which reading dominates, thousand runs a second. */
 #define _POSIX_C_SOURCE 200809L
 
@@ -53,6 +53,16 @@ static void reference_profile_once(void)
 {
     Word test = name_of_main(text, text_len), output = name_of_carrier(text, text_len);
     reference_profile(text, text_len, test.bytes, test.len, output.bytes, output.len, numbers);
+}
+
+static void library_bound(void)
+{
+    isps_bound(text, text_len, work[0], ISPS_WORK_SIZE, work[1], ISPS_WORK_SIZE, work[2], ISPS_WORK_SIZE, answer, ISPS_ANSWER_SIZE);
+}
+
+static void reference_bound_once(void)
+{
+    reference_bound(text, text_len, numbers);
 }
 
 /* Time of the processor in nanoseconds, so that other work on the machine counts little. */
@@ -162,6 +172,7 @@ int main(int count, char **arguments)
     least_time = (count > 1 ? (double)strtoul(arguments[1], NULL, 10) : 50) * 1e6;
     time_by_byte("Check, nanoseconds a byte", library_check, reference_check_once);
     time_by_byte("Profile, nanoseconds a byte", library_profile, reference_profile_once);
+    time_by_byte("Bound, nanoseconds a byte", library_bound, reference_bound_once);
     printf("%-36s %6s %9s %9s %7s\n", "Run, million steps a second", "steps", "library", "reference", "ratio");
     time_long_run("transfers and tests", transfers_and_tests);
     time_long_run("DECODE", choices);

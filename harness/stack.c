@@ -42,11 +42,16 @@ static void call_load(void)
               ISPS_WORK_SIZE, answer, ISPS_ANSWER_SIZE);
 }
 
+static void call_bound(void)
+{
+    isps_bound(text, text_len, work[0], ISPS_WORK_SIZE, work[1], ISPS_WORK_SIZE, work[2], ISPS_WORK_SIZE, answer, ISPS_ANSWER_SIZE);
+}
+
 /* Check comes first, since it says how many words the carriers of the others have. Load has the image that Store left. */
 static const struct {
     const char *name;
     void (*call)(void);
-} calls[] = {{"Check", call_check}, {"Run", call_run}, {"Profile", call_profile}, {"Store", call_store}, {"Load", call_load}};
+} calls[] = {{"Check", call_check}, {"Run", call_run}, {"Profile", call_profile}, {"Store", call_store}, {"Load", call_load}, {"Bound", call_bound}};
 
 enum { CALLS = sizeof calls / sizeof calls[0] };
 

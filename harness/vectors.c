@@ -7,7 +7,8 @@
  * vectors profile: reads a text, the name of a test and that of an output, each after its length, over and over, and writes for each its eight numbers.
  * vectors image: reads a text, 0 for Store or 1 for Load in 4 bytes, carriers and an image, each after its length, over and over, and writes for each one line:
  *     store EIGHT image HASH, or load EIGHT carriers HASH
- * where the hash is that of the buffer that the call may write. Ends with 1 if a call did with its buffers what it may not do. */
+ * where the hash is that of the buffer that the call may write.
+ * vectors bound: reads texts, each after its length, and writes for each its eight numbers. Ends with 1 if a call did with its buffers what it may not do. */
 #include <stdbool.h>
 #include <stdio.h>
 #include <string.h>
@@ -132,6 +133,19 @@ static void answer_images(void)
     }
 }
 
+static void answer_bounds(void)
+{
+    size_t len;
+    while (read_bytes(text, sizeof text, &len)) {
+        uint32_t answer[8];
+        const char *broken;
+        lent_bound(text, len, answer, &broken);
+        print_eight(answer);
+        printf("\n");
+        report(broken);
+    }
+}
+
 static void answer_texts(void)
 {
     size_t len;
@@ -158,6 +172,8 @@ int main(int count, char **arguments)
         answer_profiles();
     else if (strcmp(set, "image") == 0)
         answer_images();
+    else if (strcmp(set, "bound") == 0)
+        answer_bounds();
     else
         answer_texts();
     return all_good ? 0 : 1;

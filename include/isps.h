@@ -1,4 +1,4 @@
-/* The calls of the reader and runner for a bench subset of ISPS: Check and Run; Profile; Store and Load.
+/* The calls of the reader and runner for a bench subset of ISPS: Check and Run; Profile; Store and Load; Bound.
  *
  * Each byte buffer is lent as a pointer and a length. Where the length is 0, the pointer may be anything, NULL included: it is not followed. The calls keep
  * nothing from one call to the next, allocate nothing, and write only to the three work buffers, `answer`, and where a call's comment says so.
@@ -63,6 +63,14 @@ uint32_t isps_load(const uint8_t *text, size_t text_len,
                    uint8_t *work_a, size_t a_len, uint8_t *work_b, size_t b_len, uint8_t *work_c, size_t c_len,
                    uint8_t *answer, size_t answer_len);
 
+/* The longest run: a bound on the steps of a run from any carriers, in any order, so that a budget of that size never ends Paused. A transfer, test, activation
+ * or other step is 1; a group or sequence adds up; IF adds its action; DECODE its dearest alternative; an activation its body. LEAVE cuts nothing off.
+ * Returns the text's refusal number, 0 if it is accepted, and fills `answer`: ISPS_DONE with the bound as ISPS_STEPS; ISPS_NO_BOUND where a REPEAT or RESTART
+ * stands in MAIN or in a body that activations from MAIN reach, or where the number passes 4,294,967,295; or ISPS_REFUSED. */
+uint32_t isps_bound(const uint8_t *text, size_t text_len,
+                    uint8_t *work_a, size_t a_len, uint8_t *work_b, size_t b_len, uint8_t *work_c, size_t c_len,
+                    uint8_t *answer, size_t answer_len);
+
 /* Work memory may hold anything before a call. After it, it is zero over its whole length, also where it is longer than the published size.
  * Refusals 1 and 2 are the exception: they write nothing anywhere, not even the answer, so that the returned number is all there is. It stands for
  * place 0, line 1 and column 1. */
@@ -72,7 +80,7 @@ enum {
     ISPS_ENDING,       /* one of the endings below */
     ISPS_NUMBER,       /* of the refusal or fault, else 0; the call returns it too */
     ISPS_PLACE,        /* of the refusal or fault, else 0: an offset in bytes into the text (for 61 into the carriers, for 63 and 64 into the image) */
-    ISPS_STEPS,        /* that Run took, 0 after a refusal */
+    ISPS_STEPS,        /* that Run took, or Bound's bound; 0 after a refusal */
     ISPS_DECLARATIONS, /* number of declarations, in Check's answer to an accepted text, else 0 */
     ISPS_WORDS,        /* number of words of all carriers, likewise */
     ISPS_LINE,         /* of the place of a refusal or fault, else 0; see below */
@@ -84,11 +92,12 @@ enum {
 
 /* Endings. */
 enum {
-    ISPS_DONE,    /* the run came to its end; or Check accepted the text, Profile the profile, or Store and Load wrote their buffer */
+    ISPS_DONE,    /* the run came to its end; or Check accepted the text, Profile the profile; Store and Load wrote their buffer; Bound has one */
     ISPS_STOPPED, /* the run came to a STOP() */
     ISPS_PAUSED,  /* more steps than the budget were needed */
     ISPS_FAULT,   /* a step could not be taken: 70 or 71 */
-    ISPS_REFUSED  /* 1 to 64, 90 to 92 */
+    ISPS_REFUSED, /* 1 to 64, 90 to 92 */
+    ISPS_NO_BOUND /* Bound has none */
 };
 
 /* Numbers. The comment says when, and the place where it is not the thing itself. */

@@ -21,7 +21,7 @@ enum {
 };
 
 enum { ENDING, NUMBER, PLACE, STEPS, DECLARATIONS, WORDS, LINE, COLUMN };
-enum { DONE, STOPPED, PAUSED, FAULTED, REFUSED };
+enum { DONE, STOPPED, PAUSED, FAULTED, REFUSED, NO_BOUND };
 
 #include "memory.c"
 #include "description.h"
@@ -38,3 +38,4 @@ enum { DONE, STOPPED, PAUSED, FAULTED, REFUSED };
 #include "images.c"
 #include "profile.c"
 #include "paths.c"
+#include "bound.c"

@@ -32,4 +32,7 @@ uint32_t reference_profile(const uint8_t *text, size_t text_len, const uint8_t *
 bool reference_profile_search(const uint8_t *text, size_t text_len, const uint8_t *test, size_t test_len, const uint8_t *output, size_t output_len,
                               uint32_t most_spots, uint32_t answer[8]);
 
+/* The bound on the steps of a run. */
+uint32_t reference_bound(const uint8_t *text, size_t text_len, uint32_t answer[8]);
+
 #endif
