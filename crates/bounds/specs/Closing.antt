@@ -7,7 +7,7 @@ use Rattle.rules.specs.Steps.Actions.{Act, seq, par, label, ins, Ins, iff, deco
 use Rattle.rules.specs.Steps.Runs.{bodyAct}
 use Rattle.rules.specs.Whole.Sets.{callsIn, callsI, callsAlts, anyName, chainOver}
 use Rattle.rules.specs.Limits.{longestChain}
-use Rattle.rules.specs.Bound.{cost, inside, dearest, turns, turnsIn, anyTurns, costDown, turnsDown, costOf, turnsFrom}
+use Rattle.rules.specs.Bound.{cost, costIn, dearest, turns, turnsIn, anyTurns, costDown, turnsDown, costOf, turnsFrom}
 use Rattle.laws_orders.specs.Orders.Orderly.{Orderly}
 use Rattle.laws_orders.specs.Orders.Chains.{none-of, not-this}
 
@@ -15,7 +15,7 @@ use Rattle.laws_orders.specs.Orders.Chains.{none-of, not-this}
 module _ (p : Name → Bool) where
   module _ (f g : Name → ℕ) (same : (n : Name) → p n ≡ false → f n ≡ g n) where
     mutual
-      unfolding cost inside dearest callsIn callsI callsAlts
+      unfolding cost costIn dearest callsIn callsI callsAlts
 
       cost-same : (a : Act) → anyName p (callsIn a) ≡ false → cost f a ≡ cost g a
       cost-same (seq a b) h = let n = none-of p (callsIn a) (callsIn b) h in ap₂ _+_ (cost-same a (n .0)) (cost-same b (n .1))
@@ -23,7 +23,7 @@ module _ (p : Name → Bool) where
       cost-same (label l a) h = cost-same a h
       cost-same (ins i) h = ap (λ k. 1 + k) (inside-same i h)
 
-      inside-same : (i : Ins) → anyName p (callsI i) ≡ false → inside f i ≡ inside g i
+      inside-same : (i : Ins) → anyName p (callsI i) ≡ false → costIn f i ≡ costIn g i
       inside-same (iff e a) h = cost-same a h
       inside-same (decode q e bs) h = dearest-same bs h
       inside-same (repeat a) h = cost-same a h

@@ -6,7 +6,7 @@ use native.Mathlib.Omega.{arith}
 use Rattle.rules.specs.Declarations.{Name, Table}
 use Rattle.rules.specs.Steps.Evaluation.{Carriers, Outcome, gives, faulty}
 use Rattle.rules.specs.Steps.Control.{Live, callL, start, Mv, leftmost, Sig, ends, goes, leaves, restarts, stops, faults, work, next}
-use Rattle.rules.specs.Steps.Runs.{Conf, running, finished, stopped, fault, Worked, perform, told, after, bodyAct, step, Steps, begin, paused, run, runFrom}
+use Rattle.rules.specs.Steps.Runs.{Conf, running, finished, stopped, failed, Worked, perform, told, after, bodyAct, step, Steps, begin, paused, run, runFrom}
 use Rattle.rules.specs.Bound.{cost, turns, costOf, turnsFrom}
 use Rattle.laws_orders.specs.Orders.Orderly.{Orderly}
 use Rattle.laws_orders.specs.Orders.Budget.{onward}
@@ -25,7 +25,7 @@ module _ (ds : Table) (o : Orderly ds) where
   Within n (running r s) = StraightOn r × (owes r ≤ n)
   Within n (finished s) = Unit {0}
   Within n (stopped s) = Unit {0}
-  Within n (fault m p s) = Unit {0}
+  Within n (failed m p s) = Unit {0}
 
   told-within : (k n : ℕ) (s u : Carriers) (x : Sig) → k ≤ suc n → Falls (costOf ds) (turnsFrom ds) k x → Within n (told s u x)
   told-within k n s u ends l f = tt
@@ -51,7 +51,7 @@ module _ (ds : Table) (o : Orderly ds) where
       let l : k ≤ n = steps-within k n (step ds r (q .0) s) d (step-within n r (q .0) s (w .0) (w .1)) (q .1) in omega arith
   steps-within (suc k) n (finished s) d w q = absurd q
   steps-within (suc k) n (stopped s) d w q = absurd q
-  steps-within (suc k) n (fault m p s) d w q = absurd q
+  steps-within (suc k) n (failed m p s) d w q = absurd q
 
   -- left to right, a budget of what is owed is enough
   enough : (b n : ℕ) (r : Live) (s : Carriers) → StraightOn r → owes r ≤ b → runFrom ds b n (running r s) .ending ≡ paused → ⊥
@@ -66,7 +66,7 @@ module _ (ds : Table) (o : Orderly ds) where
       by (running t u) w ih z = ih t u (w .0) (w .1) z
       by (finished u) w ih z = let x : _≡_ {A = ℕ} 0 1 = cc in omega arith
       by (stopped u) w ih z = let x : _≡_ {A = ℕ} 0 1 = cc in omega arith
-      by (fault m p u) w ih z = let x : _≡_ {A = ℕ} 0 1 = cc in omega arith
+      by (failed m p u) w ih z = let x : _≡_ {A = ℕ} 0 1 = cc in omega arith
 
   -- of a body from which no REPEAT or RESTART can be reached
   module _ (p : Name) (straight : turnsFrom ds p ≡ false) where

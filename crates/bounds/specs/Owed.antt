@@ -12,12 +12,12 @@ use Rattle.rules.specs.Steps.Actions.{Act, seq, par, label, ins, Ins, iff, deco
 use Rattle.rules.specs.Steps.Control.{Live, one, seqL, both, left, right, labL, loopL, callL, start, Mv, choose, pickS}
 use Rattle.rules.specs.Steps.Control.{Sig, ends, goes, leaves, restarts, stops, faults, lost, nextI, next}
 use Rattle.rules.specs.Steps.Control.{seqS, bothL, bothR, leftS, rightS, labS, callS}
-use Rattle.rules.specs.Bound.{cost, inside, dearest, turns, turnsIn, anyTurns}
+use Rattle.rules.specs.Bound.{cost, costIn, dearest, turns, turnsIn, anyTurns}
 use Rattle.laws_orders.specs.Orders.Tests.{or-neither}
 
 module _ (costs : Name → ℕ) (turning : Name → Bool) where
   abbrev pub owed : Live → ℕ
-  owed (one i) = 1 + inside costs i
+  owed (one i) = 1 + costIn costs i
   owed (seqL r a) = owed r + cost costs a
   owed (both r t) = owed r + owed t
   owed (left r) = owed r
@@ -152,8 +152,8 @@ module _ (costs : Name → ℕ) (turning : Name → Bool) where
     callS-falls n p stops f = f
     callS-falls n p (faults m q) f = f
 
-    ins-falls : (i : Ins) (v : ℕ) → turnsIn turning i ≡ false → Falls (1 + inside costs i) (nextI body i v)
-    unfolding nextI inside turnsIn
+    ins-falls : (i : Ins) (v : ℕ) → turnsIn turning i ≡ false → Falls (1 + costIn costs i) (nextI body i v)
+    unfolding nextI costIn turnsIn
     ins-falls (iff e a) zero h = omega arith
     ins-falls (iff e a) (suc v) h = begins a (1 + cost costs a) h (omega arith)
     ins-falls (decode p e bs) v h = picked p bs (choose bs v) (chosen bs v h)

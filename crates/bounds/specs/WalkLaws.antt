@@ -9,7 +9,7 @@ use Rattle.rules.specs.Grammar.Trees.{Alternatives, counted, selected, Counted,
 use Rattle.rules.specs.Declarations.{Name, Table, bodyOf}
 use Rattle.rules.specs.Steps.Actions.{Act, par, actOf, inTurn, Groups, groups, whole, altsOf, countedAlts, selectedAlts, moreAlts}
 use Rattle.rules.specs.Steps.Runs.{bodyAct, actOr}
-use Rattle.rules.specs.Bound.{cost, inside, dearest, turns, turnsIn, anyTurns, costDown, turnsDown}
+use Rattle.rules.specs.Bound.{cost, costIn, dearest, turns, turnsIn, anyTurns, costDown, turnsDown}
 use Rattle.bounds.specs.Walk.{endless, up, walk, walkMembers, walkAlternatives, walkCounted, walkSelected, walkMore}
 
 -- a cost, cut; endless where a REPEAT or RESTART can be reached
@@ -113,7 +113,7 @@ module _ (costs : Name → ℕ) (turning : Name → Bool) (counts : Name → ℕ
       q ∙ ap (max best) (ap (λ k. max k (cut u (x + d))) e ∙ cut-max (T a) u x (C a) d)
 
   mutual
-    unfolding walk walkMembers walkAlternatives walkCounted walkSelected walkMore actOf groups altsOf countedAlts selectedAlts moreAlts cost inside dearest turns turnsIn anyTurns
+    unfolding walk walkMembers walkAlternatives walkCounted walkSelected walkMore actOf groups altsOf countedAlts selectedAlts moreAlts cost costIn dearest turns turnsIn anyTurns
 
     pub walk-is : (a : Action) (x : ℕ) → x ≤ endless → walk counts a x ≡ cut (T (actOf a)) (x + C (actOf a))
     walk-is (block i a m) x h = ap (walkMembers counts m x) (walk-is a x h) ∙ members-is m (actOf a) x x h (omega arith)
@@ -186,7 +186,7 @@ module _ (costs : Name → ℕ) (turning : Name → Bool) (counts : Name → ℕ
 
     -- a body that is not there does nothing, which is a step
     pub no-body : bodyOf ds p ≡ none → 1 ≡ cut (T (bodyAct ds p)) (C (bodyAct ds p))
-    unfolding bodyAct cost turns inside turnsIn cut
+    unfolding bodyAct cost turns costIn turnsIn cut
     no-body e = rw e
 
 -- the count of a body down chains of k activations
