@@ -1,5 +1,5 @@
-/* The edges of the calls: lengths off by one, every byte value, each carrier bit, names of every kind, images of
- * every shape, bounds around the most steps. Prints what fails, and `N passed, M failed`. */
+/* The edges of the calls: lengths off by one, every byte value, each carrier bit, names of every kind, paths past a test,
+ * images of every shape, bounds around the most steps. Prints what fails, and `N passed, M failed`. */
 #include <stdbool.h>
 #include <stdio.h>
 #include <string.h>
@@ -360,6 +360,66 @@ static void try_lengths_of_names(void)
     }
 }
 
+/* MAIN with this block, behind a test T, bodies that activate it, write A, never end or are left, and TR, which two members may have at the same time. The transfer that is
+ * too early begins with the given words; none is where they are NULL. */
+static void profile_of_block(const char *test, const char *block, const char *early)
+{
+    static char text[1024];
+    uint32_t answer[8];
+    const char *broken;
+    snprintf(text, sizeof text,
+             "N := BEGIN A<3:0>, B<3:0>, M<1:0> := A<1:0>,\nOPEN := BEGIN A = 7 END, CLOSED := BEGIN REPEAT NO.OP() END, LEFT := BEGIN LEAVE LEFT NEXT CLOSED() END,\n"
+             "T := BEGIN NO.OP() NEXT IF B => LEAVE T NEXT B = 1 END, TR := BEGIN NO.OP() END, BOTH := BEGIN T() END,\nMAIN P := %s END",
+             block);
+    lent_profile((const uint8_t *)text, strlen(text), (const uint8_t *)test, strlen(test), (const uint8_t *)"A", 1, answer, &broken);
+    if (early == NULL)
+        judge(block, 0, answer, ISPS_DONE, 0, 0, 0, broken);
+    else
+        judge_refusal(block, 0, answer, (const uint8_t *)text, 92, place_in(text, early), broken);
+}
+
+static void try_paths(void)
+{
+    profile_of_block("T", "BEGIN T() NEXT A = 1 END", NULL);
+    profile_of_block("T", "BEGIN B = A NEXT T() NEXT A = 1 NEXT T() END", NULL);
+    profile_of_block("T", "BEGIN BOTH() NEXT OPEN() END", NULL);
+    profile_of_block("T", "BEGIN IF B => BEGIN T() NEXT A = 1 END END", NULL);
+    profile_of_block("T", "BEGIN DECODE B => BEGIN T(), BOTH() END NEXT A = 1 END", NULL);
+    profile_of_block("T", "BEGIN DECODE B => BEGIN STOP(), T(), LEAVE P END NEXT A = 1 END", NULL);
+    profile_of_block("T", "BEGIN REPEAT BEGIN T() NEXT A = 1 END END", NULL);
+    profile_of_block("T", "BEGIN L := REPEAT BEGIN T() NEXT LEAVE L END NEXT A = 1 END", NULL);
+    profile_of_block("T", "BEGIN L := REPEAT BEGIN T() NEXT A = 2 NEXT LEAVE L END; BEGIN NO.OP() END END", NULL);
+    profile_of_block("T", "BEGIN L := BEGIN IF B => RESTART L NEXT T() END NEXT A = 1 END", NULL);
+    profile_of_block("T", "BEGIN REPEAT NO.OP() NEXT A = 1 END", NULL);
+    profile_of_block("T", "BEGIN CLOSED() NEXT A = 1 END", NULL);
+    profile_of_block("T", "BEGIN RESTART P NEXT A = 1 END", NULL);
+    profile_of_block("T", "BEGIN LEAVE P NEXT A = 1 END", NULL);
+    profile_of_block("T", "BEGIN STOP() NEXT A = 1 END", NULL);
+    profile_of_block("T", "BEGIN T(); NO.OP() NEXT A = 1 END", NULL);
+    profile_of_block("T", "BEGIN NO.OP(); BEGIN T() NEXT A = 1 END END", NULL);
+    profile_of_block("TR", "BEGIN TR(); BEGIN TR() NEXT A = 1 END END", NULL);
+    profile_of_block("T", "BEGIN A = 1 NEXT T() END", "A = 1");
+    profile_of_block("T", "BEGIN L := A = 1 NEXT T() END", "A = 1");
+    profile_of_block("T", "BEGIN A = 1 NEXT OPEN() NEXT T() END", "A = 7");
+    profile_of_block("T", "BEGIN IF B => A = 2 NEXT A = 1 NEXT T() END", "A = 2");
+    profile_of_block("T", "BEGIN M<0> = 1 NEXT T() END", "M<0> = 1");
+    profile_of_block("T", "BEGIN B @ M = 1 NEXT T() END", "B @ M");
+    profile_of_block("T", "BEGIN T(); A = 1 END", "A = 1");
+    profile_of_block("T", "BEGIN A = 1; T() END", "A = 1");
+    profile_of_block("T", "BEGIN T(); BEGIN NO.OP() NEXT A = 1 END END", "A = 1");
+    profile_of_block("T", "BEGIN IF B => T() NEXT A = 1 END", "A = 1");
+    profile_of_block("T", "BEGIN DECODE B => BEGIN T(), NO.OP() END NEXT A = 1 END", "A = 1");
+    profile_of_block("T", "BEGIN IF B => STOP() NEXT A = 1 END", "A = 1");
+    profile_of_block("T", "BEGIN L := BEGIN IF B => LEAVE L NEXT T() END NEXT A = 1 END", "A = 1");
+    profile_of_block("T", "BEGIN L := REPEAT BEGIN IF B => LEAVE L NEXT T() END NEXT A = 1 END", "A = 1");
+    profile_of_block("T", "BEGIN LEFT() NEXT A = 1 END", "A = 1");
+    profile_of_block("OPEN", "BEGIN OPEN() END", "A = 7");
+    profile_of_block("OPEN", "BEGIN OPEN() NEXT A = 1 END", "A = 7");
+    profile_of_block("CLOSED", "BEGIN CLOSED() NEXT A = 1 END", NULL);
+    profile_of_block("P", "BEGIN T() NEXT A = 1 END", "A = 1");
+    profile_of_block("BOTH", "BEGIN T() NEXT A = 1 NEXT BOTH() END", "A = 1");
+}
+
 static void try_names(void)
 {
     uint32_t answer[8];
@@ -608,6 +668,7 @@ int main(void)
     try_lengths_of_carriers();
     try_every_carrier_bit();
     try_names();
+    try_paths();
     try_numbers_of_words();
     try_every_byte_of_an_image();
     try_order_of_blocks();
