@@ -29,7 +29,7 @@ fn put_answer(out: &mut [u8], a: Answer) -> usize
 // The line of an answer.
 fn put_line(out: &mut [u8], a: Answer) -> usize
     requires { ⌜ 128 ≤ length (now out) ⌝ }
-    ensures { λ r. ⌜ r ≤ 128 ⌝ }
+    ensures { λ r. ⌜ r ≤ length (now (out .exit)) ⌝ }
 {
     let next = put_answer(out, a);
     put_byte(out, next, 10)

@@ -1,13 +1,13 @@
 -- A run, in any order, counts no more than its body costs, where no REPEAT or RESTART can be reached.
 use Prim.Native.Nat.{ℕ, zero, suc, _+_, _≤_}
 use mathlib.Core.Path.{_≡_, sym, _∙_}
-use mathlib.Core.Bool.{Bool, false}
+use mathlib.Core.Bool.{false}
 use native.Mathlib.Omega.{arith}
 use Rattle.rules.specs.Declarations.{Name, Table}
 use Rattle.rules.specs.Steps.Evaluation.{Carriers, Outcome, gives, faulty}
 use Rattle.rules.specs.Steps.Control.{Live, callL, start, Mv, leftmost, Sig, ends, goes, leaves, restarts, stops, faults, work, next}
-use Rattle.rules.specs.Steps.Runs.{Conf, running, finished, stopped, failed, Worked, perform, told, after, bodyAct, step, Steps, begin, paused, run, runFrom}
-use Rattle.rules.specs.Bound.{cost, turns, costOf, turnsFrom}
+use Rattle.rules.specs.Steps.Runs.{Conf, running, finished, stopped, fault, Worked, perform, told, after, bodyAct, step, Steps, begin, paused, run, runFrom}
+use Rattle.rules.specs.Bound.{costOf, turnsFrom}
 use Rattle.laws_orders.specs.Orders.Orderly.{Orderly}
 use Rattle.laws_orders.specs.Orders.Budget.{onward}
 use Rattle.bounds.specs.Closing.{cost-of-body, turns-of-body}

@@ -14,8 +14,8 @@ use Rattle.rules.specs.Limits.{mostSteps}
 use Rattle.rules.specs.Steps.Evaluation.{Carriers}
 use Rattle.rules.specs.Steps.Runs.{Conf, Steps, begin, paused, run}
 use Rattle.rules.specs.Faults.Whole.{mainName}
-use Rattle.rules.specs.Answers.{accepted, refused, Checks}
-use Rattle.rules.specs.Bound.{costOf, turnsFrom, Bound, bound, no-bound, not-bounded, boundIf, boundOf, Bounds, not-accepted, bounded-by}
+use Rattle.rules.specs.Answers.{accepted, Checks}
+use Rattle.rules.specs.Bound.{costOf, turnsFrom, Bound, bound, no-bound, boundIf, boundOf, Bounds, not-accepted, bounded-by}
 use Rattle.laws_orders.specs.Orders.Orderly.{Orderly}
 use Rattle.laws_grammar.specs.Answers.{one-verdict, accepted-iff-lawful}
 use Rattle.laws_grammar.specs.Grammar.Exact.{unique}

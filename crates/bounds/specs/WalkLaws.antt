@@ -7,7 +7,7 @@ use native.Mathlib.Omega.{arith}
 use Rattle.rules.specs.Grammar.Trees.{Action, block, labelled, if-then, decode, repeat, leave, restart, activate, stop, no-op, transfer, Members, end, also, next}
 use Rattle.rules.specs.Grammar.Trees.{Alternatives, counted, selected, Counted, counted-end, counted-more, Selected, select, otherwise, SelectedMore, selected-end, selected-more}
 use Rattle.rules.specs.Declarations.{Name, Table, bodyOf}
-use Rattle.rules.specs.Steps.Actions.{Act, par, actOf, inTurn, Groups, groups, whole, altsOf, countedAlts, selectedAlts, moreAlts}
+use Rattle.rules.specs.Steps.Actions.{Act, par, actOf, inTurn, groups, whole, altsOf, countedAlts, selectedAlts, moreAlts}
 use Rattle.rules.specs.Steps.Runs.{bodyAct, actOr}
 use Rattle.rules.specs.Bound.{cost, costIn, dearest, turns, turnsIn, anyTurns, costDown, turnsDown}
 use Rattle.bounds.specs.Walk.{endless, up, walk, walkMembers, walkAlternatives, walkCounted, walkSelected, walkMore}
@@ -25,10 +25,6 @@ cut-low false n = omega arith
 up-cut : (x k : ℕ) → up x k ≡ cut false (x + k)
 unfolding up cut
 up-cut x k = refl
-
-up-more : (x k : ℕ) → x ≤ endless → x ≤ up x k
-unfolding up
-up-more x k h = omega arith
 
 pub up-low : (x k : ℕ) → up x k ≤ endless
 unfolding up

@@ -1,12 +1,11 @@
 -- The walk along the tokens of a body.
-use Prim.Native.Nat.{ℕ, _+_, _*_, _<_, _≤_}
+use Prim.Native.Nat.{ℕ, _+_, _<_, _≤_}
 use mathlib.Core.Path.{_≡_, refl, sym, ap, _∙_}
 use mathlib.Core.Bool.{Bool, true, false}
 use mathlib.Core.List.{List, [], _∷_}
 use native.Mathlib.Omega.{arith}
 use lib.ListN.{length, drop}
 use Rattle.rules.specs.Grammar.Trees.{Tokens}
-use Rattle.bounds.specs.Walk.{endless}
 use Rattle.table.specs.Holds.{kindByte, tokenAt}
 use Rattle.table.specs.Scans.{no as kindOf}
 use Rattle.reading.specs.Kinds.{mode as modeOf}

@@ -1,7 +1,6 @@
 -- What stays shown while counts go up and frames are written.
 use Prim.Native.Nat.{ℕ, suc, _+_, _*_, _-_, _<_, _≤_, max}
 use mathlib.Core.Path.{_≡_, refl, sym, ap, _∙_, subst}
-use mathlib.Core.Bool.{Bool, true, false}
 use mathlib.Core.List.{List, [], _∷_}
 use native.Mathlib.Omega.{arith}
 use native.Mathlib.Decide.{decLt}
@@ -13,7 +12,7 @@ use Rattle.cells.specs.Laws.{length-put, le-put-same, le-put-below, le-put-abov
 use Rattle.rules.specs.Limits.{deepest}
 use Rattle.bounds.specs.Walk.{endless, up}
 use Rattle.bounds.specs.WalkLaws.{up-low}
-use Rattle.bounding.specs.Machine.{Frame, frame, State, state, opened, closed, another, counted, turned}
+use Rattle.bounding.specs.Machine.{Frame, frame, State, opened, closed, another, counted, turned}
 use Rattle.bounding.specs.Holding.{FrameAt, Frames, no-frames, frames, Shows, Does}
 use Rattle.bounding.specs.declared.counts.Nest.{Nest}
 

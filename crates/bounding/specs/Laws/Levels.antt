@@ -11,20 +11,19 @@ use Rattle.rules.specs.Grammar.Trees.{Action, Declaration, actionTokens}
 use Rattle.rules.specs.Limits.{deepest, longestChain}
 use Rattle.rules.specs.Declarations.{Name as Word, Table, Declared, declaredOf, numberOf, bodyOf, bodyNumber}
 use Rattle.laws_grammar.specs.Cited.Nesting.{actionNest}
-use Rattle.bounds.specs.Walk.{endless, walk}
+use Rattle.bounds.specs.Walk.{walk}
 use Rattle.bounds.specs.WalkLaws.{cut-low, countDown, count-body, count-none, count-first}
 use Rattle.table.specs.Declarations.{declarationList, all-declared}
 use Rattle.links.specs.Laws.Layout.{body-shallow}
 use Rattle.reading.specs.Reading.{Reading, tableOf}
-use Rattle.reading.specs.Meanings.{Declares, declares}
+use Rattle.reading.specs.Meanings.{declares}
 use Rattle.reading.specs.Bodies.{Body}
 use Rattle.reading.specs.Laws.Names.{number-bound}
 use Rattle.reading.specs.Laws.Meanings.{table-size}
-use Rattle.rules.specs.Declarations.{declarations}
 use Rattle.bounding.specs.Machine.{run, outset}
 use Rattle.bounding.specs.Walking.{tableSize, numberOr, indexOf, Scene}
 use Rattle.bounding.specs.Going.{Beginning, Walked}
-use Rattle.bounding.specs.Levels.{Level, Blank, Rooms, Levelled, PartAt, Part, Parts, Rounded, Starting, Turned, Known16}
+use Rattle.bounding.specs.Levels.{Level, Blank, Levelled, PartAt, Part, Parts, Rounded, Starting, Turned, Known16}
 use Rattle.bounding.specs.Laws.Machine.{body-read}
 use Rattle.bounding.specs.Laws.Holding.{put-size, put-same, put-here}
 

@@ -1,6 +1,6 @@
 -- Reading the tokens of a body one by one does what the walk of its tree does.
 use Prim.Native.Nat.{ℕ, suc, _+_, _<_, _≤_, max}
-use mathlib.Core.Path.{_≡_, refl, sym, ap, _∙_}
+use mathlib.Core.Path.{_≡_, refl, ap, _∙_}
 use mathlib.Core.Bool.{true, false}
 use mathlib.Core.List.{List, [], _∷_}
 use native.Mathlib.Omega.{arith}

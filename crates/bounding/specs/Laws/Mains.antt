@@ -9,7 +9,7 @@ use Rattle.cells.specs.Cells.{cell}
 use Rattle.rules.specs.Text.Tokens.{Info, Token, kindNo}
 use Rattle.rules.specs.Grammar.Trees.{Declaration}
 use Rattle.rules.specs.Limits.{longestChain}
-use Rattle.rules.specs.Declarations.{Table, Declared, declaredOf}
+use Rattle.rules.specs.Declarations.{declaredOf}
 use Rattle.rules.specs.Faults.Whole.{mainName}
 use Rattle.bounds.specs.WalkLaws.{cut-low, countDown}
 use Rattle.table.specs.Holds.{kindByte}

@@ -1,11 +1,11 @@
 -- The longest run, from the contract of the call to the runs of the rules.
 use Prim.Native.Nat.{ℕ, _<_, _≤_}
-use mathlib.Core.Path.{_≡_, refl, sym, ap, _∙_, subst}
+use mathlib.Core.Path.{_≡_, refl, sym, ap, _∙_}
 use mathlib.Core.Bool.{true, false}
 use mathlib.Core.List.{List}
 use mathlib.Core.Logic.{_⊎_, _↔_}
 use native.Mathlib.Omega.{arith}
-use lib.ListN.{length, drop}
+use lib.ListN.{length}
 use Rattle.rules.specs.Limits.{longestText, mostSteps}
 use Rattle.rules.specs.Text.Scan.{scan}
 use Rattle.rules.specs.Grammar.Trees.{Description, flatten}
@@ -21,7 +21,7 @@ use Rattle.rules.specs.Calls.Run.{RunCall}
 use Rattle.rules.specs.Calls.Bound.{BoundCall, boundNumber, boundNumbers, short-memory, long-text, answer}
 use Rattle.laws_grammar.specs.Grammar.Exact.{unique}
 use Rattle.bounds.specs.Longest as longest
-use Rattle.bounds.specs.Longest.{Boundless, bounding, one-bound}
+use Rattle.bounds.specs.Longest.{bounding, one-bound}
 use Rattle.bounds.specs.Reaching.{Reached}
 use Rattle.isps.specs.Laws.Calls.{ran-steps}
 use Rattle.isps.specs.Laws.Orders.{Answers, answers, runOf, ran-by}
