@@ -6,7 +6,7 @@ use native.Mathlib.Omega.{arith}
 use Rattle.rules.specs.Declarations.{Name, Table}
 use Rattle.rules.specs.Steps.Evaluation.{Carriers, Outcome, gives, faulty}
 use Rattle.rules.specs.Steps.Control.{Live, callL, start, Mv, leftmost, Sig, ends, goes, leaves, restarts, stops, faults, work, next}
-use Rattle.rules.specs.Steps.Runs.{Conf, running, finished, stopped, fault, Worked, perform, told, after, bodyAct, step, Steps, begin, paused, run, runFrom}
+use Rattle.rules.specs.Steps.Runs.{Conf, running, finished, stopped, failed, Worked, perform, told, after, bodyAct, step, Steps, begin, paused, run, runFrom}
 use Rattle.rules.specs.Bound.{costOf, turnsFrom}
 use Rattle.laws_orders.specs.Orders.Orderly.{Orderly}
 use Rattle.laws_orders.specs.Orders.Budget.{onward}
