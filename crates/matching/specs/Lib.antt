@@ -1,0 +1,4 @@
+pub mod Entries
+pub mod Matching
+pub mod Room
+pub mod Laws

@@ -1,0 +1,66 @@
+-- What lies where in the lent memory, in cells of two bytes, and the matching that stands in it.
+use Prim.Native.Nat.{ℕ, zero, suc, _+_, _*_, _<_, _≤_}
+use mathlib.Core.Path.{_≡_}
+use mathlib.Core.Bool.{cond}
+use mathlib.Core.List.{List, [], _∷_}
+use mathlib.Core.Option.{none, some}
+use lib.Dec.{eqb, ltb}
+use lib.ListN.{length}
+use Rattle.cells.specs.Cells.{cell}
+use Rattle.rules.specs.Stores.{Entry}
+use Rattle.traces.specs.Marking.{Pos, at, never, Cells}
+use Rattle.matching.specs.Entries.{mostEntries}
+use Rattle.matching.specs.Matching.{Group, group, Matching, matching}
+
+-- bytes of the memory, and the number that stands for none
+abbrev pub roomSize : ℕ
+roomSize = 65536
+
+abbrev pub endless : ℕ
+endless = 65535
+
+-- the groups that can be open: those of 16 bodies with 32 brackets each
+abbrev pub mostGroups : ℕ
+mostGroups = 512
+
+-- cells: one for each entry, whether it is taken; two for each open group; then three numbers
+abbrev pub groupsCell : ℕ
+groupsCell = 8192
+
+abbrev pub floorCell : ℕ
+floorCell = 9216
+
+abbrev pub badCell : ℕ
+badCell = 9217
+
+abbrev pub depthCell : ℕ
+depthCell = 9218
+
+unfoldable pub posOf : ℕ → Pos
+posOf n = cond (ltb n endless) (at n) never
+
+-- the entries that are not yet taken, from the cell k on
+unfoldable pub leftFrom : List ℕ → ℕ → List Entry → Cells
+leftFrom room k [] = []
+leftFrom room k (x ∷ l) = cond (eqb (cell 2 room k) 0) (some x) none ∷ leftFrom room (suc k) l
+
+-- the innermost first
+unfoldable pub groupsIn : List ℕ → ℕ → List Group
+groupsIn room zero = []
+groupsIn room (suc d) = group (posOf (cell 2 room (groupsCell + 2 * d))) (posOf (cell 2 room (groupsCell + 2 * d + 1))) ∷ groupsIn room d
+
+unfoldable pub matchingIn : List Entry → List ℕ → Matching
+matchingIn l room =
+    matching (leftFrom room 0 l) (posOf (cell 2 room floorCell)) (posOf (cell 2 room badCell)) (groupsIn room (cell 2 room depthCell))
+
+-- numbers are in their ranges
+pub record Sound (l : List Entry) (room : List ℕ) : Type 0 where
+  pub few : length l ≤ mostEntries
+  pub long : roomSize ≤ length room
+  pub near : cell 2 room floorCell < endless → cell 2 room floorCell ≤ length l
+  pub shallow : cell 2 room depthCell ≤ mostGroups
+
+-- a matching stands in the memory
+pub record Stands (l : List Entry) (room : List ℕ) (z : Matching) : Type 0 where
+  pub sound : Sound l room
+  pub is : matchingIn l room ≡ z

@@ -1,0 +1,1 @@
+// The matching of a designer's list of stores with a run, in lent memory.
