@@ -1,2 +1,5 @@
+pub mod Entries
 pub mod Groups
 pub mod Parts
+pub mod Seeking
+pub mod Room

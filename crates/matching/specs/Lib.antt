@@ -1,4 +1,6 @@
 pub mod Entries
+pub mod Named
 pub mod Matching
 pub mod Room
+pub mod Seeking
 pub mod Laws

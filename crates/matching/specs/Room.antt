@@ -5,9 +5,10 @@ use mathlib.Core.Bool.{cond}
 use mathlib.Core.List.{List, [], _∷_}
 use mathlib.Core.Option.{none, some}
 use lib.Dec.{eqb, ltb}
-use lib.ListN.{length}
+use lib.ListN.{length, getD}
 use Rattle.cells.specs.Cells.{cell}
-use Rattle.rules.specs.Stores.{Entry}
+use Rattle.rules.specs.Limits.{mostWords}
+use Rattle.rules.specs.Stores.{Entry, entry}
 use Rattle.traces.specs.Marking.{Pos, at, never, Cells}
 use Rattle.matching.specs.Entries.{mostEntries}
 use Rattle.matching.specs.Matching.{Group, group, Matching, matching}
@@ -23,7 +24,11 @@ endless = 65535
 abbrev pub mostGroups : ℕ
 mostGroups = 512
 
--- cells: one for each entry, whether it is taken; two for each open group; then three numbers
+-- cells: one for each entry, whether it is taken; one for each entry, the next one of its word; two for each open group; three numbers; one for each word,
+-- the first of its entries that may not be taken
+abbrev pub nextCell : ℕ
+nextCell = 4096
+
 abbrev pub groupsCell : ℕ
 groupsCell = 8192
 
@@ -35,6 +40,9 @@ badCell = 9217
 
 abbrev pub depthCell : ℕ
 depthCell = 9218
+
+abbrev pub firstCell : ℕ
+firstCell = 10240
 
 unfoldable pub posOf : ℕ → Pos
 posOf n = cond (ltb n endless) (at n) never
@@ -53,12 +61,29 @@ unfoldable pub matchingIn : List Entry → List ℕ → Matching
 matchingIn l room =
     matching (leftFrom room 0 l) (posOf (cell 2 room floorCell)) (posOf (cell 2 room badCell)) (groupsIn room (cell 2 room depthCell))
 
--- numbers are in their ranges
+abbrev pub wordAt : List Entry → ℕ → ℕ
+wordAt l k = getD l k (entry 0 0 0) .word
+
+-- of the entries from some one on, r is the first of the word w; the number of entries where there is none
+pub record Next (l : List Entry) (w from r : ℕ) : Type 0 where
+  pub least : from ≤ r
+  pub most : r ≤ length l
+  pub passed : (k : ℕ) → from ≤ k → k < r → wordAt l k ≡ w → ⊥
+  pub found : r < length l → wordAt l r ≡ w
+
+-- r is an entry of the word w, or the number of entries; what is before it of that word is taken
+pub record Reached (l : List Entry) (room : List ℕ) (w r : ℕ) : Type 0 where
+  pub most : r ≤ length l
+  pub passed : (k : ℕ) → k < r → wordAt l k ≡ w → cell 2 room k ≡ 0 → ⊥
+  pub found : r < length l → wordAt l r ≡ w
+
+-- numbers are in their ranges, and the entries of a word can be followed
 pub record Sound (l : List Entry) (room : List ℕ) : Type 0 where
   pub few : length l ≤ mostEntries
   pub long : roomSize ≤ length room
-  pub near : cell 2 room floorCell < endless → cell 2 room floorCell ≤ length l
   pub shallow : cell 2 room depthCell ≤ mostGroups
+  pub next : (i : ℕ) → i < length l → wordAt l i < mostWords → Next l (wordAt l i) (suc i) (cell 2 room (nextCell + i))
+  pub first : (w : ℕ) → w < mostWords → Reached l room w (cell 2 room (firstCell + w))
 
 -- a matching stands in the memory
 pub record Stands (l : List Entry) (room : List ℕ) (z : Matching) : Type 0 where

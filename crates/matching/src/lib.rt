@@ -1,1 +1,2 @@
-// The matching of a designer's list of stores with a run, in lent memory.
+// The matching of a list of stores with a run, in lent memory.
+pub mod entries;
