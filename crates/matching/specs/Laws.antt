@@ -3,3 +3,4 @@ pub mod Groups
 pub mod Parts
 pub mod Seeking
 pub mod Room
+pub mod Puts

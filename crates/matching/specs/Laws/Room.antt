@@ -104,7 +104,7 @@ unfolding leftFrom
 length-left room k [] = refl
 length-left room k (x ∷ l) = ap suc (length-left room (suc k) l)
 
-left-frame : (a b : List ℕ) (k : ℕ) (l : List Entry) → ((j : ℕ) → j < k + length l → cell 2 a j ≡ cell 2 b j) → leftFrom a k l ≡ leftFrom b k l
+pub left-frame : (a b : List ℕ) (k : ℕ) (l : List Entry) → ((j : ℕ) → j < k + length l → cell 2 a j ≡ cell 2 b j) → leftFrom a k l ≡ leftFrom b k l
 unfolding leftFrom
 left-frame a b k [] h = refl
 left-frame a b k (x ∷ l) h =
@@ -117,7 +117,7 @@ left-at room k [] i h = absurd (omega arith)
 left-at room k (x ∷ l) zero h = rw add-zero refl
 left-at room k (x ∷ l) (suc i) h = left-at room (suc k) l i (omega arith) ∙ ap (λ n. cond (eqb (cell 2 room n) 0) (some (getD l i (entry 0 0 0))) none) (omega arith)
 
-left-take : (room : List ℕ) (k : ℕ) (l : List Entry) (i : ℕ) → i < length l → 2 * (k + i) + 2 ≤ length room
+pub left-take : (room : List ℕ) (k : ℕ) (l : List Entry) (i : ℕ) → i < length l → 2 * (k + i) + 2 ≤ length room
     → leftFrom (putCell 2 room (k + i) 1) k l ≡ set (leftFrom room k l) i none
 unfolding leftFrom
 left-take room k [] i h s = absurd (omega arith)
