@@ -4,3 +4,6 @@ pub mod Parts
 pub mod Seeking
 pub mod Room
 pub mod Puts
+pub mod Telling
+pub mod Chains
+pub mod Answering

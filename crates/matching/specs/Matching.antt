@@ -60,6 +60,13 @@ abbrev pub partAt : Pos → Entry → Matching → Matching
 partAt (at k) x z = with (fitAt k x (z .cells)) z
 partAt never x z = z
 
+-- no entry is there for a store; the entry k is bad for it
+abbrev pub missed : Matching → Matching
+missed z = with (marked (z .cells) never never) z
+
+abbrev pub spoilt : ℕ → Matching → Matching
+spoilt k z = with (marked (z .cells) never (at k)) z
+
 -- one more part of the transfer that was told last: the floor is the end of its parts so far, or they do not stand together
 abbrev pub toldPart : Entry → Matching → Matching
 toldPart x z = partAt (z .floor) x z

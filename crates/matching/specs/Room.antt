@@ -89,3 +89,17 @@ pub record Sound (l : List Entry) (room : List ℕ) : Type 0 where
 pub record Stands (l : List Entry) (room : List ℕ) (z : Matching) : Type 0 where
   pub sound : Sound l room
   pub is : matchingIn l room ≡ z
+
+-- the entries from i on are linked, and none of them is taken
+pub record Linked (l : List Entry) (room : List ℕ) (i : ℕ) : Type 0 where
+  pub few : length l ≤ mostEntries
+  pub long : roomSize ≤ length room
+  pub within : i ≤ length l
+  pub clear : (k : ℕ) → i ≤ k → k < length l → cell 2 room k ≡ 0
+  pub next : (k : ℕ) → i ≤ k → k < length l → wordAt l k < mostWords → Next l (wordAt l k) (suc k) (cell 2 room (nextCell + k))
+  pub first : (w : ℕ) → w < mostWords → Next l w i (cell 2 room (firstCell + w))
+
+-- no word has an entry
+pub record Filled (before after : List ℕ) (v words : ℕ) : Type 0 where
+  pub long : length after ≡ length before
+  pub each : (w : ℕ) → w < words → cell 2 after (firstCell + w) ≡ v
