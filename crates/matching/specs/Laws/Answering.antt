@@ -12,7 +12,7 @@ use lib.Dec.{eqb}
 use lib.ListN.{length}
 use borrow.Author.Tests.{eq-eqb, ne-eqb}
 use Rattle.cells.specs.Cells.{cell}
-use Rattle.rules.specs.Stores.{Entry, TraceVerdict, all, upTo}
+use Rattle.rules.specs.Stores.{Entry, TraceVerdict, just-so, upTo}
 use Rattle.traces.specs.Marking.{Pos, at, never, raise, lesser, Cells, untaken, verdict}
 use Rattle.matching.specs.Matching.{answerIn}
 use Rattle.matching.specs.Room.{endless, floorCell, badCell, posOf, leftFrom, matchingIn, Sound}
@@ -86,6 +86,6 @@ module _ (l : List Entry) (b : List ℕ) {g : ℕ} (u r : ℕ) (is-g : g ≡ cel
     unfolding verdict
     says-missing k = ap (λ q. verdict never q n) (sym (pos-never f (omega arith))) ∙ fine-so-far
 
-    pub says-all : f < endless → all ≡ answerIn (matchingIn l b) n
+    pub says-all : f < endless → just-so ≡ answerIn (matchingIn l b) n
     unfolding verdict
     says-all k = ap (λ q. verdict never q n) (sym (pos-at f k)) ∙ fine-so-far
