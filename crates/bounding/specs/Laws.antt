@@ -3,5 +3,6 @@ pub mod Machine
 pub mod Holding
 pub mod Acting
 pub mod Going
-pub mod Levels
+pub mod Knowing
+pub mod Filling
 pub mod Mains

@@ -2,6 +2,6 @@ pub mod Machine
 pub mod Holding
 pub mod Walking
 pub mod Going
-pub mod Levels
+pub mod Filling
 pub mod Mains
 pub mod Laws

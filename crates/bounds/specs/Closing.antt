@@ -17,7 +17,7 @@ module _ (p : Name → Bool) where
     mutual
       unfolding cost costIn dearest callsIn callsI callsAlts
 
-      cost-same : (a : Act) → anyName p (callsIn a) ≡ false → cost f a ≡ cost g a
+      pub cost-same : (a : Act) → anyName p (callsIn a) ≡ false → cost f a ≡ cost g a
       cost-same (seq a b) h = let n = none-of p (callsIn a) (callsIn b) h in ap₂ _+_ (cost-same a (n .0)) (cost-same b (n .1))
       cost-same (par a b) h = let n = none-of p (callsIn a) (callsIn b) h in ap₂ _+_ (cost-same a (n .0)) (cost-same b (n .1))
       cost-same (label l a) h = cost-same a h
@@ -42,7 +42,7 @@ module _ (p : Name → Bool) where
     mutual
       unfolding turns turnsIn anyTurns callsIn callsI callsAlts
 
-      turns-same : (a : Act) → anyName p (callsIn a) ≡ false → turns f a ≡ turns g a
+      pub turns-same : (a : Act) → anyName p (callsIn a) ≡ false → turns f a ≡ turns g a
       turns-same (seq a b) h = let n = none-of p (callsIn a) (callsIn b) h in ap₂ _||_ (turns-same a (n .0)) (turns-same b (n .1))
       turns-same (par a b) h = let n = none-of p (callsIn a) (callsIn b) h in ap₂ _||_ (turns-same a (n .0)) (turns-same b (n .1))
       turns-same (label l a) h = turns-same a h
@@ -64,12 +64,12 @@ module _ (p : Name → Bool) where
       anyTurns-same (alt c a bs) h = let n = none-of p (callsIn a) (callsAlts bs) h in ap₂ _||_ (turns-same a (n .0)) (anyTurns-same bs (n .1))
 
 module _ (ds : Table) where
-  cost-closed : (k : ℕ) (n : Name) → chainOver ds k n ≡ false → cost (costDown ds k) (bodyAct ds n) ≡ costDown ds k n
+  pub cost-closed : (k : ℕ) (n : Name) → chainOver ds k n ≡ false → cost (costDown ds k) (bodyAct ds n) ≡ costDown ds k n
   unfolding chainOver costDown
   cost-closed zero n h = absurd (false≢true (sym h))
   cost-closed (suc k) n h = cost-same (chainOver ds k) (costDown ds (suc k)) (costDown ds k) (cost-closed k) (bodyAct ds n) h
 
-  turns-closed : (k : ℕ) (n : Name) → chainOver ds k n ≡ false → turns (turnsDown ds k) (bodyAct ds n) ≡ turnsDown ds k n
+  pub turns-closed : (k : ℕ) (n : Name) → chainOver ds k n ≡ false → turns (turnsDown ds k) (bodyAct ds n) ≡ turnsDown ds k n
   unfolding chainOver turnsDown
   turns-closed zero n h = absurd (false≢true (sym h))
   turns-closed (suc k) n h = turns-same (chainOver ds k) (turnsDown ds (suc k)) (turnsDown ds k) (turns-closed k) (bodyAct ds n) h

@@ -189,18 +189,6 @@ module _ (costs : Name → ℕ) (turning : Name → Bool) (counts : Name → ℕ
 abbrev pub countDown : Table → ℕ → Name → ℕ
 countDown ds k p = cut (turnsDown ds k p) (costDown ds k p)
 
-module _ (ds : Table) (k : ℕ) (p : Name) where
-  abbrev below : Name → ℕ
-  below = countDown ds k
-
-  pub count-body : (a : Action) → bodyOf ds p ≡ some a → walk below a 0 ≡ countDown ds (suc k) p
-  unfolding costDown turnsDown
-  count-body a e = walked-body (costDown ds k) (turnsDown ds k) below (λ n. refl) ds p a e
-
-  pub count-none : bodyOf ds p ≡ none → 1 ≡ countDown ds (suc k) p
-  unfolding costDown turnsDown
-  count-none e = no-body (costDown ds k) (turnsDown ds k) below (λ n. refl) ds p e
-
-pub count-first : (ds : Table) (p : Name) → 0 ≡ countDown ds 0 p
-unfolding costDown turnsDown cut
-count-first ds p = refl
+pub count-none : (ds : Table) (k : ℕ) (p : Name) → bodyOf ds p ≡ none → 1 ≡ countDown ds (suc k) p
+unfolding costDown turnsDown
+count-none ds k p e = no-body (costDown ds k) (turnsDown ds k) (countDown ds k) (λ n. refl) ds p e

@@ -1,5 +1,5 @@
 -- Laws of MAIN's name and its count.
-use Prim.Native.Nat.{ℕ, zero, suc, _+_, _*_, _<_, _≤_}
+use Prim.Native.Nat.{ℕ, zero, suc, _<_, _≤_}
 use mathlib.Core.Path.{_≡_, refl, sym, ap, _∙_, subst}
 use mathlib.Core.List.{List, [], _∷_, map}
 use mathlib.Core.Option.{Option, none, some, Option·none-ne-some, Option·some-injective}
@@ -9,11 +9,11 @@ use Rattle.cells.specs.Cells.{cell}
 use Rattle.rules.specs.Text.Tokens.{Info, Token, kindNo}
 use Rattle.rules.specs.Grammar.Trees.{Declaration}
 use Rattle.rules.specs.Limits.{longestChain}
-use Rattle.rules.specs.Declarations.{declaredOf}
+use Rattle.rules.specs.Declarations.{Name as Word, declaredOf, numberOf, bodyOf, bodyNumber}
 use Rattle.rules.specs.Faults.Whole.{mainName}
-use Rattle.bounds.specs.WalkLaws.{cut-low, countDown}
+use Rattle.bounds.specs.Walk.{endless}
+use Rattle.bounds.specs.WalkLaws.{cut-low, countDown, count-none}
 use Rattle.table.specs.Holds.{kindByte}
-use Rattle.table.specs.Laws.Positions.{record-within}
 use Rattle.table.specs.Words.{wordAt}
 use Rattle.table.specs.Declarations.{declarationList, all-declared}
 use Rattle.table.specs.Lookups.{nth}
@@ -22,9 +22,13 @@ use Rattle.table.specs.Laws.Views.{name-token}
 use Rattle.links.specs.Mains.{MainIn}
 use Rattle.links.specs.Laws.Mains.{Searching, view-at}
 use Rattle.reading.specs.Reading.{Reading, tableOf}
-use Rattle.bounding.specs.Walking.{tableSize, indexOf}
-use Rattle.bounding.specs.Levels.{Level, Known16}
-use Rattle.bounding.specs.Mains.{MainNamed, Ready, Finished, MainCounted, Longest}
+use Rattle.reading.specs.Laws.Names.{number-bound}
+use Rattle.reading.specs.Laws.Meanings.{table-size}
+use Rattle.bounding.specs.Holding.{enough}
+use Rattle.bounding.specs.Walking.{tableSize, numberOr, indexOf}
+use Rattle.bounding.specs.Filling.{Ready, countIn, ShortFrom, Blank, Fillable, Fills}
+use Rattle.bounding.specs.Mains.{MainNamed, Longest}
+use Rattle.bounding.specs.Laws.Knowing.{no-chains}
 
 -- the first declaration with MAIN before its name has MAIN's name
 main-named : (list : List Declaration) (k : ℕ) (x : Declaration) (i : Info)
@@ -74,31 +78,45 @@ main-in x =
       of50 = x .whole;
     }
 
-module _ {records decls table : List ℕ} {m n name : ℕ} (x : Finished records decls table m n) (found : (v : MainIn records decls m) → MainNamed v name) where
-  pub to-index : (8 * name + 8 ≤ length records) × (m ≤ 256)
-  to-index = (record-within (x .ready .reading .ready .holds) name (found (main-in (x .ready)) .within), x .ready .reading .ready .few)
+-- the table is blank
+pub to-fill : {records decls table new room : List ℕ} {m n : ℕ} → Ready records decls m n → tableSize ≤ length table → enough ≤ length room → Blank table new
+    → Fillable records decls new room m n
+unfolding bodyOf bodyNumber
+to-fill {records} {decls} {new = new} {m = m} {n} x h s b = record {
+  ready = x;
+  right = λ v. record { counts = λ w a. by v w a (numberOf (tableOf (v .reading)) w) refl };
+  last = λ z. let e = b .last in omega arith;
+  table-room = omega (arith, b .size);
+  space = s;
+}
+  where
+    by : (v : Ready records decls m n) (w : Word) → (countIn v new w ≡ 0 → ⊥) → (o : Option ℕ) → numberOf (tableOf (v .reading)) w ≡ o
+        → cell 8 new (numberOr o) ≡ countDown (tableOf (v .reading)) longestChain w
+    by v w a none e = b .last ∙ count-none (tableOf (v .reading)) 15 w (ap (bodyNumber (tableOf (v .reading))) e)
+    by v w a (some j) e =
+        let small = number-bound (tableOf (v .reading)) j w e in
+        absurd (a (ap (λ o. cell 8 new (numberOr o)) e ∙ b .clear j (omega (arith, table-size (v .reading), v .reading .ready .few))))
 
-  module _ {k c : ℕ}
+-- MAIN is filled in
+module _ {records decls table room : List ℕ} {m n name : ℕ} (x : Fillable records decls table room m n) (found : (v : MainIn records decls m) → MainNamed v name) where
+  pub main-within : name < n
+  main-within = omega (arith, found (main-in (x .ready)) .within, x .ready .reading .count)
+
+  pub main-kind : kindByte records name ≡ 0
+  main-kind = found (main-in (x .ready)) .kind
+
+  pub main-short : (v : Ready records decls m n) → ShortFrom v name 16
+  main-short v = no-chains (tableOf (v .reading)) (v .whole) (wordAt (v .reading .tokens) name)
+
+  module _ {new : List ℕ} {k c : ℕ} (f : Fills records decls table new m n name)
       (index : (decls : List ℕ) (n : ℕ) (v : Reading records decls m n) → name < n → kindByte records name ≡ 0 → k ≡ indexOf (tableOf v) (wordAt (v .tokens) name))
-      (at : c ≡ cell 8 table k) where
-    counted : (v : Ready records decls m n) → Level (v .reading) longestChain table → c ≡ countDown (tableOf (v .reading)) longestChain (mainName (tableOf (v .reading)))
-    counted v known =
-        let y = found (main-in v) in
-        let k-is : k ≡ indexOf (tableOf (v .reading)) (mainName (tableOf (v .reading))) =
-        index decls n (v .reading) (omega (arith, y .within, v .reading .count)) (y .kind) ∙ ap (indexOf (tableOf (v .reading))) (y .named) in
-        at ∙ (ap (cell 8 table) k-is ∙ known (mainName (tableOf (v .reading))))
+      (at : c ≡ cell 8 new k) where
+    counted : (v : Ready records decls m n) → c ≡ countDown (tableOf (v .reading)) longestChain (mainName (tableOf (v .reading)))
+    counted v =
+        let w = wordAt (v .reading .tokens) name in
+        at
+        ∙ (ap (cell 8 new) (index decls n (v .reading) main-within main-kind)
+        ∙ (f .grows .right v .counts w (f .done v .there) ∙ ap (countDown (tableOf (v .reading)) longestChain) (found (main-in v) .named)))
 
-    pub main-counted : MainCounted records decls table m n c
-    main-counted = record { low = subst (λ q. q ≤ 4294967296) (sym (counted (x .ready) (x .known))) (cut-low _ _); is = counted }
-
-pub count-room : {records decls table : List ℕ} {m n k : ℕ} → Finished records decls table m n → k ≤ 256 → 8 * k + 8 ≤ length table
-count-room x h = omega (arith, x .room)
-
--- the whole
-module _ {records decls : List ℕ} {m n : ℕ} (x : Ready records decls m n) where
-  module _ {table : List ℕ} (known : Known16 records decls table m n) where
-    pub finished : tableSize ≤ length table → Finished records decls table m n
-    finished h = record { ready = x; known = known (x .reading); room = h }
-
-    pub the-longest : {r : ℕ} → MainCounted records decls table m n r → Longest records decls m n r
-    the-longest c = record { low = c .low; is = λ v. c .is v (known (v .reading)) }
+    pub the-longest : Longest records decls m n c
+    the-longest = record { low = subst (λ q. q ≤ endless) (sym (counted (x .ready))) (cut-low _ _); is = counted }

@@ -13,7 +13,8 @@ use Rattle.rules.specs.Calls.Bound.{BoundCall, answer, boundNumber, boundNumber
 use Rattle.rules.specs.Calls.Bound as call
 use Rattle.bounds.specs.Walk.{endless}
 use Rattle.bounds.specs.Answers.{boundWhen, boundBy, bound-counted}
-use Rattle.bounding.specs.Mains.{Ready, Longest}
+use Rattle.bounding.specs.Filling.{Ready}
+use Rattle.bounding.specs.Mains.{Longest}
 use Rattle.lent.specs.Numbers.{numbersOf}
 use Rattle.lent.specs.Measured.{Unread, short-memory, long-text, none}
 use Rattle.lent.specs.Settled.{Settled}
