@@ -1,0 +1,5 @@
+pub mod Cited
+pub mod Passages
+pub mod Moves
+pub mod Holding
+pub mod Standing
