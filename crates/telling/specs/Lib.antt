@@ -3,3 +3,5 @@ pub mod Passages
 pub mod Moves
 pub mod Holding
 pub mod Standing
+pub mod Running
+pub mod Decides

@@ -12,13 +12,13 @@ use Rattle.rules.specs.Declarations.{Name}
 use Rattle.rules.specs.Steps.Actions.{Act, seq, par, label, ins, Ins, iff, decode, repeat, leave, restart, call, stop, noop, transfer, Alts, end, alt}
 use Rattle.rules.specs.Steps.Control.{Live, one, seqL, both, left, right, labL, loopL, callL, start, leftmost}
 use Rattle.rules.specs.Steps.Control.{Sig, ends, goes, leaves, restarts, stops, faults, seqS, bothL, rightS, labS, loopS, choose, pickS, lost, callS, nextI, next}
-use Rattle.laws_orders.specs.Cited.Flat.{Link, at, exit, Entries, Code, pc, halt, broken, find, Labels, bind, leaveTo, restartTo, Jumps, ownLabel, callI}
+use Rattle.laws_orders.specs.Cited.Flat.{Link, at, exit, Entries, Code, pc, over, halt, broken, push, find, Labels, bind, leaveTo, restartTo, Jumps, ownLabel, callI}
 use Rattle.laws_orders.specs.Orders.Foot.{Foot, Prints}
 use Rattle.laws_orders.specs.Orders.Ok.{Env, under, member, In, OkL, OkS, inBody, BodiesOk, next-ok}
 use Rattle.traces.specs.Machine.{Event, opens, turns, closes}
 use Rattle.traces.specs.Telling.{openings, fresh, atEnd, atRestart, stepEvents}
 use Rattle.telling.specs.Cited.Passing.{Grouping, Passing, opened, turned, closed, times, pairOpens, pairEvents, allPairs, passage}
-use Rattle.telling.specs.Cited.Tracing.{Told, told, behindAll, linkOf, return, follow, pickedT, nextT}
+use Rattle.telling.specs.Cited.Tracing.{Told, told, behindAll, linkOf, resume, return, follow, pickedT, nextT, addresses}
 use Rattle.telling.specs.Passages.{into, into-append, Lasts, Firsts, passage-on, passage-next}
 use Rattle.telling.specs.Moves.{Moves, moves-none, moves-append, moves-closed, moves-opened, moves-as, pairs-append}
 use Rattle.telling.specs.Holding.{Spot, alone, rest, base, entrance, onward, Leads, Joins, HoldsIn, HoldsInI, HoldsInAlts, HoldsGrouped}
@@ -63,6 +63,7 @@ module _ (C : Code) (M : Grouping) where
   pub record Entered (c : List ℕ) (k : Link) (τ κ : List ℕ) : Type 0 where
     pub back : return C M κ ≡ follow C M c k τ
     pub inside : whole κ ≡ c ++ whole τ
+    pub addressed : addresses C κ ≡ push k (addresses C τ)
     pub deeper : length κ ≤ suc (length τ)
 
   -- The residual's leftmost instruction is at n, with the stack κ; τ is the stack of the place where the residual stands, and k the link behind it.
@@ -436,19 +437,36 @@ module _ (C : Code) (M : Grouping) where
 
   -- An activation goes on behind its instruction.
   entered : (c : List ℕ) (k : Link) (τ : List ℕ) (n : ℕ) → M .around n ≡ c → linkOf (C .instr n) ≡ k → Entered c k τ (n ∷ τ)
-  unfolding return whole
-  entered c k τ n p q = record { back = rw (← p, ← q) (by (linkOf (C .instr n))); inside = ap (λ z. z ++ whole τ) p; deeper = omega arith }
+  unfolding return whole addresses
+  entered c k τ n p q =
+      record {
+        back = rw (← p, ← q) (by (linkOf (C .instr n)));
+        inside = ap (λ z. z ++ whole τ) p;
+        addressed = ap (λ z. push z (addresses C τ)) q;
+        deeper = omega arith;
+      }
     where
-      by :
-          (l : Link)
-          → elim l [ at g ↦ told (pc g τ) (passage M (M .around n) (M .around g)) | exit ↦ behindAll (map closed (M .around n)) (return C M τ) ]
-          ≡ follow C M (M .around n) l τ
+      by : (l : Link) → resume C M n τ (return C M τ) l ≡ follow C M (M .around n) l τ
       by (at g) = refl
       by exit = refl
 
   pub entered-main : Entered [] exit [] []
+  unfolding return whole addresses
+  entered-main = record { back = refl; inside = refl; addressed = refl; deeper = omega arith }
+
+  -- MAIN has ended: so has all
+  pub ends-over : {w : List ℕ} {es : List Event} {m : Told} → Ends (alone []) exit [] w es m → (m .control ≡ over) × Moves M w es (m .passed) []
   unfolding return whole
-  entered-main = record { back = refl; inside = refl; deeper = omega arith }
+  ends-over {w} {es} {m} e = (
+    ap (λ (z : Told). z .control) (e .control),
+    moves-as M (ends-events e)
+        (ap (λ (z : Told). z .passed) (e .control)
+        ∙ ap (λ z. e .before ++ z) (append-nil (map closed (e .passed ++ [])) ∙ ap (map closed) (append-nil (e .passed))))
+        refl (moves-append M (e .moves) (moves-closed M (e .passed) [] (e .lasts))),
+  )
+
+  pub no-jump : {s : Spot} {τ w : List ℕ} {es : List Event} {m : Told} → Jumping none s τ w es m → ⊥
+  no-jump q = q .jumped
 
   pick-says :
       (c : List ℕ) (ρ : Labels) (k : Link) (τ : List ℕ) (p : ℕ) (a : Act) (g : ℕ) (b : Bool) (o : Option Act) (o′ : Option ℕ) → HoldsIn M C (alone c) ρ g k a

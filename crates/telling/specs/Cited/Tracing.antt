@@ -2,15 +2,15 @@
 use Prim.Native.Nat.{ℕ, zero, suc}
 use mathlib.Core.List.{List, [], _∷_, _++_, map}
 use mathlib.Core.Option.{Option, none, some}
-use Rattle.rules.specs.Declarations.{Table}
-use Rattle.rules.specs.Stores.{made}
+use Rattle.rules.specs.Declarations.{Name, Table}
+use Rattle.rules.specs.Stores.{Entry, made}
 use Rattle.rules.specs.Steps.Evaluation.{Carriers, Outcome, gives, faulty}
 use Rattle.rules.specs.Steps.Runs.{Worked, perform, Run, ran, done, halted, paused, faulted}
 use Rattle.laws_orders.specs.Cited.Flat.{Link, at, exit, Instr, ifI, decodeI, goI, callI, stopI, moveI, Code, At, pc, over, halt, broken, push, find, workM}
 use Rattle.laws_orders.specs.Cited.Flat.{Machine, runs, ended, stood, broke, put}
-use Rattle.traces.specs.Machine.{Event}
-use Rattle.traces.specs.Telling.{storeEvent}
-use Rattle.telling.specs.Cited.Passing.{Grouping, Passing, closed, passage, allPairs}
+use Rattle.traces.specs.Members.{Block}
+use Rattle.traces.specs.Machine.{Event, stores}
+use Rattle.telling.specs.Cited.Passing.{Grouping, Passing, closed, groupEvent, pairEvents, passage}
 
 -- the control that a step has come to, and what it passed
 pub record Told : Type 0 where
@@ -33,15 +33,21 @@ linkOf (callI p k) = k
 linkOf stopI = exit
 linkOf (moveI d e k) = k
 
+module _ (C : Code) where
+  -- the stack of the flat machine: an activation that is the last thing in its body leaves no return address
+  unfoldable pub addresses : List ℕ → List ℕ
+  addresses [] = []
+  addresses (m ∷ κ) = push (linkOf (C .instr m)) (addresses κ)
+
 module _ (C : Code) (M : Grouping) where
-  -- a body that has ended closes its groups; control goes on behind its activation, from that instruction
+  -- a body that has ended closes its groups; control goes on behind its activation, from that instruction, by its link
+  abbrev pub resume : ℕ → List ℕ → Told → Link → Told
+  resume m κ t (at n) = told (pc n κ) (passage M (M .around m) (M .around n))
+  resume m κ t exit = behindAll (map closed (M .around m)) t
+
   unfoldable pub return : List ℕ → Told
   return [] = told over []
-  return (m ∷ κ) =
-      elim (linkOf (C .instr m)) [
-        | at n ↦ told (pc n κ) (passage M (M .around m) (M .around n))
-        | exit ↦ behindAll (map closed (M .around m)) (return κ)
-      ]
+  return (m ∷ κ) = resume m κ (return κ) (linkOf (C .instr m))
 
   -- from an instruction with the members xs around it, by a link
   abbrev pub follow : List ℕ → Link → List ℕ → Told
@@ -62,7 +68,73 @@ module _ (C : Code) (M : Grouping) where
   nextT n stopI κ v = told halt []
   nextT n (moveI d e k) κ v = follow (M .around n) k κ
 
-  -- the stack of the flat machine
-  unfoldable pub addresses : List ℕ → List ℕ
-  addresses [] = []
-  addresses (m ∷ κ) = push (linkOf (C .instr m)) (addresses κ)
+-- what a run tells: the stores of a transfer, and what it passes
+pub data Report : Type 0 where
+  stored : Entry → Block → Report
+  passes : Passing → Report
+
+abbrev pub storeReport : Block → List Report
+storeReport [] = []
+storeReport (x ∷ xs) = stored x xs ∷ []
+
+-- the events for a matching with nested pairs, and for one with whole groups
+abbrev pub pairsIn : Grouping → Report → List Event
+pairsIn M (stored x xs) = stores x xs ∷ []
+pairsIn M (passes p) = pairEvents M p
+
+unfoldable pub pairsOf : Grouping → List Report → List Event
+pairsOf M [] = []
+pairsOf M (r ∷ rs) = pairsIn M r ++ pairsOf M rs
+
+abbrev pub groupIn : Report → Event
+groupIn (stored x xs) = stores x xs
+groupIn (passes p) = groupEvent p
+
+abbrev pub groupsOf : List Report → List Event
+groupsOf rs = map groupIn rs
+
+-- what a step comes to, and what it reports
+pub record Stepped : Type 0 where
+  pub machine : Machine
+  pub reports : List Report
+
+abbrev pub stepped : Machine → List Report → Stepped
+stepped m rs = record { machine = m; reports = rs }
+
+pub record Traced : Type 0 where
+  pub run : Run
+  pub reports : List Report
+
+abbrev pub traced : Run → List Report → Traced
+traced r rs = record { run = r; reports = rs }
+
+abbrev pub reported : List Report → Traced → Traced
+reported rs t = traced (t .run) (rs ++ t .reports)
+
+abbrev pub putT : Carriers → Block → Carriers → Told → Stepped
+putT s b u t = stepped (put s u (t .control)) (storeReport b ++ map passes (t .passed))
+
+abbrev pub afterT : Carriers → Block → (ℕ → Told) → Outcome Worked → Stepped
+afterT s b f (gives w) = putT s b (w .carriers) (f (w .number))
+afterT s b f (faulty m p) = stepped (broke m p s) []
+
+module _ (ds : Table) (C : Code) (M : Grouping) where
+  abbrev pub stepT : ℕ → List ℕ → Carriers → Stepped
+  stepT n κ s = afterT s (made ds (workM (C .instr n)) s) (nextT C M n (C .instr n) κ) (perform ds (workM (C .instr n)) s)
+
+  -- the run with a budget b, after k steps, from an instruction with a stack
+  unfoldable pub runT : ℕ → ℕ → ℕ → List ℕ → Carriers → Traced
+  runT zero k n κ s = traced (ran paused k s) []
+  runT (suc b) k n κ s =
+      let t = stepT n κ s in
+      reported (t .reports)
+      (elim (t .machine) [
+        | runs n′ κ′ u ↦ runT b (suc k) n′ κ′ u
+        | ended u ↦ traced (ran done (suc k) u) []
+        | stood u ↦ traced (ran halted (suc k) u) []
+        | broke m p u ↦ traced (ran (faulted m p) k u) []
+      ])
+
+  -- the run of the body of a name, with the groups that open where it begins
+  unfoldable pub traceRun : Name → ℕ → Carriers → Traced
+  traceRun n b s = reported (map passes (passage M [] (M .around (C .first n)))) (runT b 0 (C .first n) [] s)

@@ -1,0 +1,58 @@
+-- REQUEST 10, a designer's trace: the tracing machine that follows the code of an accepted text tells the matching what it needs, and the matching then has
+-- the answer.
+use Prim.Native.Nat.{ℕ}
+use mathlib.Core.Path.{_≡_, sym, _∙_, ap, subst}
+use mathlib.Core.List.{List, [], map}
+use mathlib.Core.Option.{some}
+use lib.ListN.{length}
+use Rattle.rules.specs.Text.Scan.{scan}
+use Rattle.rules.specs.Grammar.Trees.{Description, flatten}
+use Rattle.rules.specs.Declarations.{Name, Table, declarations}
+use Rattle.rules.specs.Steps.Evaluation.{Carriers}
+use Rattle.rules.specs.Steps.Runs.{bodyAct, begin, run}
+use Rattle.rules.specs.Steps.Orders.{EndsWell, endOf}
+use Rattle.rules.specs.Faults.Whole.{mainName}
+use Rattle.rules.specs.Stores.{Entry, TraceAnswer}
+use Rattle.rules.specs.Answers.{accepted, Checks}
+use Rattle.laws_grammar.specs.Answers.{accepted-iff-lawful}
+use Rattle.laws_grammar.specs.Grammar.Exact.{unique}
+use Rattle.laws_orders.specs.Cited.Flat.{Code}
+use Rattle.laws_orders.specs.Orders.Orderly.{Orderly}
+use Rattle.laws_orders.specs.Orders.Carriers.{printsOf}
+use Rattle.laws_orders.specs.Orders.Static.{bodies-ok}
+use Rattle.laws_accepted.specs.Accepted.Orderly.{accepted-orderly}
+use Rattle.traces.specs.Marking.{at, never}
+use Rattle.traces.specs.Machine.{state, tellAll, answerOf}
+use Rattle.traces.specs.Traces.{left-to-right-decides}
+use Rattle.telling.specs.Cited.Passing.{Grouping}
+use Rattle.telling.specs.Cited.Tracing.{pairsOf, traceRun}
+use Rattle.telling.specs.Holding.{HoldsGrouped}
+use Rattle.telling.specs.Running.{Traces, FollowsAll, trace-agrees}
+
+-- a text that Check accepts, and the description that stands in it
+module _ (text : List ℕ) (n w : ℕ) (accepts : Checks text (accepted n w)) (d : Description) (stands : flatten d ≡ scan text .tokens) where
+  abbrev ds : Table
+  ds = declarations d
+
+  abbrev main : Name
+  main = mainName ds
+
+  orderly : Orderly ds
+  orderly =
+      let l = accepted-iff-lawful text n w .0 accepts in
+      let same : l .description ≡ d = unique (l .description) d (l .stands ∙ sym stands) in
+      subst (λ x. Orderly (declarations x)) same (accepted-orderly (l .description) n w (l .faultless))
+
+  -- a code and a grouping that hold its bodies
+  module _ (C : Code) (M : Grouping) (held : HoldsGrouped M C (bodyAct ds)) (s : Carriers) (b : ℕ) where
+    pub main-traces : Traces ds C M main b s
+    main-traces = trace-agrees ds C M (printsOf ds) (bodies-ok ds orderly) held main b s
+
+    -- Where the run ends well, the matching that is told what the tracing machine tells has the answer.
+    pub tracing-decides :
+        EndsWell (run ds main b s) → (l : List Entry)
+        → TraceAnswer ds main b s l (answerOf (tellAll (pairsOf M (traceRun ds C M main b s .reports)) (state (map some l) (at 0) never [])) (length l))
+    tracing-decides h l =
+        let t = main-traces .tells h in
+        subst (λ es. TraceAnswer ds main b s l (answerOf (tellAll es (state (map some l) (at 0) never [])) (length l))) (sym (t .3))
+        (left-to-right-decides text n w accepts d stands s b h (t .0) (t .1) (t .2) l)
