@@ -5,3 +5,4 @@ pub mod Holding
 pub mod Standing
 pub mod Running
 pub mod Decides
+pub mod Grouped
