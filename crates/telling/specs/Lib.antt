@@ -6,3 +6,4 @@ pub mod Standing
 pub mod Running
 pub mod Decides
 pub mod Grouped
+pub mod Assembled
