@@ -1,3 +1,4 @@
+pub mod Cells
 pub mod Grouped
 pub mod Passing
 pub mod Tracing

@@ -7,3 +7,4 @@ pub mod Running
 pub mod Decides
 pub mod Grouped
 pub mod Assembled
+pub mod Marked
