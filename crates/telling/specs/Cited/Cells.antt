@@ -8,6 +8,7 @@ use lib.Dec.{eqb}
 use lib.ListN.{getElem?}
 use Rattle.rules.specs.Grammar.Trees.{Action, block, labelled, if-then, decode, repeat, leave, restart, activate, stop, no-op, transfer, Members, end, also, next, Alternatives, counted, selected, Counted, counted-end, counted-more, Selected, select, otherwise, SelectedMore, selected-end, selected-more, Description}
 use Rattle.rules.specs.Declarations.{Declared, declarations}
+use Rattle.rules.specs.Limits.{deepest}
 use Rattle.laws_code.specs.Cited.Code.{actionSize, selectorSize, behindTest}
 use Rattle.laws_code.specs.Cited.Placed.{bodyStarts}
 use Rattle.telling.specs.Cited.Passing.{Grouping}
@@ -38,15 +39,16 @@ module _ (K : Cells) where
   abbrev pub memberOf : ℕ → ℕ
   memberOf n = memberBy (K .rank n) n
 
-  -- a member and those around it; each has a smaller number than the one inside it, so as many as its number are enough
+  -- a member and those around it, at most f
   unfoldable pub upFrom : ℕ → ℕ → List ℕ
   upFrom zero x = []
   upFrom (suc f) zero = []
   upFrom (suc f) (suc x) = suc x ∷ upFrom f (K .up (suc x))
 
+  -- brackets nest no deeper
   abbrev pub cellGrouping : Grouping
   cellGrouping = record {
-    around = λ n. upFrom (memberOf n) (memberOf n);
+    around = λ n. upFrom deepest (memberOf n);
     before = λ x. (K .rank x - 1) / 2;
     last = λ x. eqb ((K .rank x - 1) % 2) 1;
   }
