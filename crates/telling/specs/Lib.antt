@@ -8,3 +8,4 @@ pub mod Decides
 pub mod Grouped
 pub mod Assembled
 pub mod Marked
+pub mod Places

@@ -106,14 +106,14 @@ module _ (C : Code) (M : Grouping) where
     pub moves : Moves M w es (m .passed) (M .around n ++ whole κ)
 
   -- a jump to a label is made from the members c
-  abbrev Jumped : Option Link → List ℕ → List ℕ → Told → Type 0
+  abbrev pub Jumped : Option Link → List ℕ → List ℕ → Told → Type 0
   Jumped none c τ m = ⊥
   Jumped (some k) c τ m = m ≡ follow C M c k τ
 
   pub record Jumping (to : Option Link) (s : Spot) (τ w : List ℕ) (es : List Event) (m : Told) : Type 0 where
-    jumped : Jumped to (base s) τ m
-    same : w ≡ base s ++ whole τ
-    silent : es ≡ []
+    pub jumped : Jumped to (base s) τ m
+    pub same : w ≡ base s ++ whole τ
+    pub silent : es ≡ []
 
   -- what the machine has come to and told, by what the residual's step says and tells
   abbrev pub Says : Spot → Labels → Link → List ℕ → List ℕ → List Event → Sig → Told → Type 0
