@@ -1,7 +1,7 @@
 -- REQUEST 10, a designer's trace: the tracing machine that follows the code of an accepted text tells the matching what it needs, and the matching then has
 -- the answer.
-use Prim.Native.Nat.{ℕ}
-use mathlib.Core.Path.{_≡_, sym, _∙_, ap, subst}
+use Prim.Native.Nat.{ℕ, _≤_}
+use mathlib.Core.Path.{_≡_, sym, _∙_, subst}
 use mathlib.Core.List.{List, [], map}
 use mathlib.Core.Option.{some}
 use lib.ListN.{length}
@@ -13,21 +13,28 @@ use Rattle.rules.specs.Steps.Runs.{bodyAct, begin, run}
 use Rattle.rules.specs.Steps.Orders.{EndsWell, endOf}
 use Rattle.rules.specs.Faults.Whole.{mainName}
 use Rattle.rules.specs.Stores.{Entry, TraceAnswer}
-use Rattle.rules.specs.Answers.{accepted, Checks}
+use Rattle.rules.specs.Limits.{deepest}
+use Rattle.rules.specs.Answers.{accepted, Checks, judgement}
 use Rattle.laws_grammar.specs.Answers.{accepted-iff-lawful}
+use Rattle.laws_grammar.specs.Cited.Nesting.{nest}
 use Rattle.laws_grammar.specs.Grammar.Exact.{unique}
+use Rattle.laws_grammar.specs.Grammar.Nesting.{shallow-nest}
 use Rattle.laws_orders.specs.Cited.Flat.{Code}
 use Rattle.laws_orders.specs.Orders.Orderly.{Orderly}
 use Rattle.laws_orders.specs.Orders.Carriers.{printsOf}
 use Rattle.laws_orders.specs.Orders.Static.{bodies-ok}
 use Rattle.laws_accepted.specs.Accepted.Orderly.{accepted-orderly}
+use Rattle.laws_code.specs.Cited.Placed.{descriptionCode}
 use Rattle.traces.specs.Marking.{at, never}
 use Rattle.traces.specs.Machine.{state, tellAll, answerOf}
 use Rattle.traces.specs.Traces.{left-to-right-decides}
+use Rattle.telling.specs.Cited.Cells.{Cells, cellGrouping, AllMarked}
 use Rattle.telling.specs.Cited.Passing.{Grouping}
 use Rattle.telling.specs.Cited.Tracing.{pairsOf, traceRun}
 use Rattle.telling.specs.Holding.{HoldsGrouped}
-use Rattle.telling.specs.Running.{Traces, FollowsAll, trace-agrees}
+use Rattle.telling.specs.Running.{Traces, trace-agrees}
+use Rattle.telling.specs.Assembled.{grouped-assembled}
+use Rattle.telling.specs.Marked.{all-grouped}
 
 -- a text that Check accepts, and the description that stands in it
 module _ (text : List ℕ) (n w : ℕ) (accepts : Checks text (accepted n w)) (d : Description) (stands : flatten d ≡ scan text .tokens) where
@@ -37,11 +44,19 @@ module _ (text : List ℕ) (n w : ℕ) (accepts : Checks text (accepted n w)) (d
   abbrev main : Name
   main = mainName ds
 
-  orderly : Orderly ds
-  orderly =
+  -- what acceptance gives of it
+  record Lawfully (x : Description) : Type 0 where
+    faultless : judgement x ≡ accepted n w
+    shallow : nest x ≤ deepest
+
+  lawfully : Lawfully d
+  lawfully =
       let l = accepted-iff-lawful text n w .0 accepts in
       let same : l .description ≡ d = unique (l .description) d (l .stands ∙ sym stands) in
-      subst (λ x. Orderly (declarations x)) same (accepted-orderly (l .description) n w (l .faultless))
+      subst Lawfully same (record { faultless = l .faultless; shallow = shallow-nest (l .description) (l .shallow) })
+
+  orderly : Orderly ds
+  orderly = accepted-orderly d n w (lawfully .faultless)
 
   -- a code and a grouping that hold its bodies
   module _ (C : Code) (M : Grouping) (held : HoldsGrouped M C (bodyAct ds)) (s : Carriers) (b : ℕ) where
@@ -56,3 +71,14 @@ module _ (text : List ℕ) (n w : ℕ) (accepts : Checks text (accepted n w)) (d
         let t = main-traces .tells h in
         subst (λ es. TraceAnswer ds main b s l (answerOf (tellAll es (state (map some l) (at 0) never [])) (length l))) (sym (t .3))
         (left-to-right-decides text n w accepts d stands s b h (t .0) (t .1) (t .2) l)
+
+  -- Cells that are marked for the description are such a grouping for its code.
+  module _ (K : Cells) (marked : AllMarked K d (length (flatten d))) where
+    pub marked-held : HoldsGrouped (cellGrouping K) (descriptionCode d) (bodyAct ds)
+    marked-held = grouped-assembled (cellGrouping K) d n w (lawfully .faultless) (all-grouped K d (length (flatten d)) (lawfully .shallow) marked)
+
+    pub marked-decides :
+        (s : Carriers) (b : ℕ) → EndsWell (run ds main b s) → (l : List Entry)
+        → TraceAnswer ds main b s l
+        (answerOf (tellAll (pairsOf (cellGrouping K) (traceRun ds (descriptionCode d) (cellGrouping K) main b s .reports)) (state (map some l) (at 0) never [])) (length l))
+    marked-decides s b = tracing-decides (descriptionCode d) (cellGrouping K) marked-held s b

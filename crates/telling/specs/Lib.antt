@@ -1,11 +1,11 @@
+pub mod Assembled
 pub mod Cited
-pub mod Passages
-pub mod Moves
-pub mod Holding
-pub mod Standing
-pub mod Running
 pub mod Decides
 pub mod Grouped
-pub mod Assembled
+pub mod Holding
 pub mod Marked
+pub mod Moves
+pub mod Passages
 pub mod Places
+pub mod Running
+pub mod Standing
