@@ -17,7 +17,7 @@ use Rattle.laws_orders.specs.Cited.Flat.{exit, Instr, goI, Code, outer, bind}
 use Rattle.laws_accepted.specs.Accepted.Faultless.{no-faults, both-empty, each-empty}
 use Rattle.laws_accepted.specs.Accepted.Named.{Found, found}
 use Rattle.laws_code.specs.Cited.Code.{Numbered, size, actionSize, firstOf}
-use Rattle.laws_code.specs.Cited.Bodies.{tableCode, bodyCode, codeOf, firstIn, firstAt, firstNumber}
+use Rattle.laws_code.specs.Cited.Bodies.{tableCode, bodyCode, firstIn, firstAt, firstNumber}
 use Rattle.laws_code.specs.Cited.Placed.{bodyStart, restStarts, bodyStarts, descriptionCode}
 use Rattle.laws_code.specs.Links.Numbers.{size-before, Ascends, ascends-none, ascends-within, ascends-join, code-ascends, Has, has-left, has-right, fetched, fetched-past}
 use Rattle.telling.specs.Cited.Passing.{Grouping}

@@ -9,8 +9,8 @@ use Rattle.rules.specs.Text.Scan.{scan}
 use Rattle.rules.specs.Grammar.Trees.{Description, flatten}
 use Rattle.rules.specs.Declarations.{Name, Table, declarations}
 use Rattle.rules.specs.Steps.Evaluation.{Carriers}
-use Rattle.rules.specs.Steps.Runs.{bodyAct, begin, run}
-use Rattle.rules.specs.Steps.Orders.{EndsWell, endOf}
+use Rattle.rules.specs.Steps.Runs.{bodyAct, run}
+use Rattle.rules.specs.Steps.Orders.{EndsWell}
 use Rattle.rules.specs.Faults.Whole.{mainName}
 use Rattle.rules.specs.Stores.{Entry, TraceAnswer}
 use Rattle.rules.specs.Limits.{deepest}

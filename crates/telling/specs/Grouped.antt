@@ -8,7 +8,7 @@ use Rattle.rules.specs.Grammar.Trees.{Action, block, labelled, if-then, decode,
 use Rattle.rules.specs.Grammar.Trees.{Alternatives, counted, selected, Counted, counted-end, counted-more, Selected, select, otherwise, SelectedMore, selected-end, selected-more}
 use Rattle.rules.specs.Grammar.Precedence.{exprOf}
 use Rattle.rules.specs.Declarations.{Name, Table}
-use Rattle.rules.specs.Steps.Actions.{Act, par, inTurn, whole, actOf, groups, altsOf, countedAlts, selectedAlts, moreAlts}
+use Rattle.rules.specs.Steps.Actions.{Act, par, inTurn, actOf, groups, altsOf, countedAlts, selectedAlts, moreAlts}
 use Rattle.rules.specs.Faults.Bodies.{judge, faultsIn, alternativesFaults, actionFaults, membersFaults, insideFaults, insideCounted, insideSelected, insideMore}
 use Rattle.laws_orders.specs.Cited.Flat.{Link, at, no-entry, Code, Labels, bind}
 use Rattle.laws_accepted.specs.Accepted.Faultless.{both-empty}

@@ -1,23 +1,23 @@
 -- The places that the tracing machine can come to: there few activations go on and few groups are open.
 use Prim.Native.Nat.{ℕ, zero, suc, _+_, _*_, _≤_}
-use mathlib.Core.Path.{_≡_, refl, sym, _∙_, ap, subst, subst₂}
+use mathlib.Core.Path.{_≡_, ap, subst₂}
 use mathlib.Core.Bool.{Bool, true, false, cond}
 use mathlib.Core.List.{List, [], _∷_, _++_}
-use mathlib.Core.Option.{Option, none, some}
+use mathlib.Core.Option.{none, some}
 use native.Mathlib.Omega.{arith}
 use lib.ListN.{length, length-append}
 use Rattle.rules.specs.Text.Scan.{sameBytes}
 use Rattle.rules.specs.Declarations.{Name, Table}
-use Rattle.rules.specs.Limits.{deepest, longestChain}
+use Rattle.rules.specs.Limits.{deepest}
 use Rattle.rules.specs.Steps.Control.{Live, one, seqL, both, left, right, labL, loopL, callL, start, leftmost}
 use Rattle.rules.specs.Steps.Control.{Sig, ends, goes, leaves, restarts, stops, faults, next}
 use Rattle.rules.specs.Steps.Runs.{bodyAct}
-use Rattle.rules.specs.Whole.Sets.{callsIn, chainOver}
+use Rattle.rules.specs.Whole.Sets.{chainOver}
 use Rattle.laws_orders.specs.Orders.Tests.{impossible}
 use Rattle.laws_orders.specs.Orders.Foot.{Prints}
 use Rattle.laws_orders.specs.Orders.Ok.{OkL, OkS, inBody, BodiesOk, start-ok, next-ok}
-use Rattle.laws_orders.specs.Orders.Depth.{Short, Chained, ChainedS, call-chained, next-chained}
-use Rattle.laws_orders.specs.Cited.Flat.{Link, at, exit, Code, pc, Labels, bind, outer, leaveTo, restartTo, ownLabel}
+use Rattle.laws_orders.specs.Orders.Depth.{Chained, ChainedS, call-chained, next-chained}
+use Rattle.laws_orders.specs.Cited.Flat.{Link, at, exit, Code, pc, Labels, bind, leaveTo, restartTo, ownLabel}
 use Rattle.traces.specs.Machine.{Event}
 use Rattle.traces.specs.Telling.{stepEvents}
 use Rattle.telling.specs.Cited.Passing.{Grouping}
@@ -47,7 +47,7 @@ module _ (ds : Table) (C : Code) (M : Grouping) where
   stack-few (suc c) (callL p r) (rest z b) ρ k τ n κ h q = absurd q
   stack-few zero (callL p r) (rest z b) ρ k τ n κ h q = absurd q
 
-  whole-few : (κ : List ℕ) → ((n : ℕ) → length (M .around n) ≤ deepest) → length (whole C M κ) ≤ 32 * length κ
+  whole-few : (κ : List ℕ) → ((n : ℕ) → length (M .around n) ≤ deepest) → length (whole C M κ) ≤ deepest * length κ
   unfolding whole
   whole-few [] h = omega arith
   whole-few (m ∷ κ) h = omega (arith, length-append (M .around m) (whole C M κ), h m, whole-few κ h)
@@ -116,5 +116,5 @@ module _ (ds : Table) (C : Code) (M : Grouping) where
 
     -- and so few groups are open
     pub place-groups :
-        ((n : ℕ) → length (M .around n) ≤ deepest) → {n : ℕ} {κ : List ℕ} → TracePlace n κ → length (M .around n ++ whole C M κ) ≤ 32 * suc c
+        ((n : ℕ) → length (M .around n) ≤ deepest) → {n : ℕ} {κ : List ℕ} → TracePlace n κ → length (M .around n ++ whole C M κ) ≤ deepest * suc c
     place-groups few {n} {κ} h = omega (arith, length-append (M .around n) (whole C M κ), few n, whole-few κ few, place-stack h)

@@ -1,23 +1,20 @@
 -- The tracing machine makes the steps of the run from left to right and tells its events; it is the flat machine with more on its stack.
-use Prim.Native.Nat.{ℕ, zero, suc, _+_, _≤_}
+use Prim.Native.Nat.{ℕ, zero, suc, _+_}
 use mathlib.Core.Path.{_≡_, refl, sym, _∙_, ap, ap₂, subst}
 use mathlib.Core.Bool.{true}
-use mathlib.Core.List.{List, [], _∷_, _++_, append-assoc, append-nil, map}
+use mathlib.Core.List.{List, [], _∷_, _++_, append-assoc, map}
 use mathlib.Core.Option.{Option, none, some}
-use native.Mathlib.Omega.{arith}
-use lib.ListN.{length}
 use Rattle.rules.specs.Declarations.{Name, Table}
 use Rattle.rules.specs.Stores.{made}
 use Rattle.rules.specs.Steps.Evaluation.{Carriers, Outcome, gives, faulty}
-use Rattle.rules.specs.Steps.Actions.{Act, repeat}
-use Rattle.rules.specs.Steps.Control.{Live, one, seqL, both, left, right, labL, loopL, callL, start, leftmost, Work, work}
+use Rattle.rules.specs.Steps.Actions.{repeat}
+use Rattle.rules.specs.Steps.Control.{Live, one, seqL, both, left, right, labL, loopL, callL, start, leftmost, work}
 use Rattle.rules.specs.Steps.Control.{Sig, ends, goes, leaves, restarts, stops, faults, next}
 use Rattle.rules.specs.Steps.Runs.{Conf, running, finished, stopped, fault, Worked, perform, told as toldConf, after, bodyAct, step, begin}
 use Rattle.rules.specs.Steps.Runs.{Run, ran, done, halted, paused, faulted, runFrom, run}
 use Rattle.rules.specs.Steps.Orders.{EndsWell, endOf}
 use Rattle.laws_orders.specs.Orders.Budget.{onward as onwardRun}
-use Rattle.laws_orders.specs.Orders.Depth.{Chained}
-use Rattle.laws_orders.specs.Cited.Flat.{Link, at, exit, Instr, ifI, decodeI, goI, callI, stopI, moveI, Code, At, pc, over, halt, broken, go, push, find, picked, workM, nextM}
+use Rattle.laws_orders.specs.Cited.Flat.{Link, at, exit, Instr, ifI, decodeI, goI, callI, stopI, moveI, Code, At, pc, over, halt, broken, go, push, find, picked, nextM}
 use Rattle.laws_orders.specs.Cited.Flat.{return as returnM}
 use Rattle.laws_orders.specs.Cited.Flat.{Machine, runs, ended, stood, broke, put, Labels, outer, bind, leaveTo, restartTo, ownLabel}
 use Rattle.laws_orders.specs.Orders.Stands as Flat
@@ -29,8 +26,8 @@ use Rattle.traces.specs.Members.{Block}
 use Rattle.traces.specs.Machine.{Event}
 use Rattle.traces.specs.Telling.{openings, openingsC, stepEvents, storeEvent, Tells}
 use Rattle.telling.specs.Cited.Passing.{Grouping, Passing, opened, turned, closed, pairEvents, allPairs, passage}
-use Rattle.telling.specs.Cited.Tracing.{Told, told, behindAll, linkOf, addresses, resume, return, follow, pickedT, nextT}
-use Rattle.telling.specs.Cited.Tracing.{Report, stored, passes, storeReport, pairsIn, pairsOf, Stepped, stepped, Traced, traced, reported, putT, afterT, stepT, runT, traceRun}
+use Rattle.telling.specs.Cited.Tracing.{Told, linkOf, addresses, resume, return, follow, pickedT, nextT}
+use Rattle.telling.specs.Cited.Tracing.{Report, stored, passes, storeReport, pairsIn, pairsOf, Stepped, Traced, traced, reported, putT, afterT, runT, traceRun}
 use Rattle.telling.specs.Moves.{Follows, Moves, moves-none, moves-as}
 use Rattle.telling.specs.Holding.{Spot, alone, rest, base, onward, HoldsGrouped, holds, holdsI}
 use Rattle.telling.specs.Standing.{whole, entered-main, Stands, Says, next-says, ends-over, no-jump, call-stands, body-moves}

@@ -1,6 +1,6 @@
 -- Where the tracing machine stands for what is left of an action, and that it goes on and tells as left to right does.
 use Prim.Native.Nat.{ℕ, zero, suc, _+_, _≤_}
-use mathlib.Core.Path.{_≡_, refl, sym, _∙_, ap, ap₂, subst}
+use mathlib.Core.Path.{_≡_, refl, sym, _∙_, ap, subst}
 use mathlib.Core.Bool.{Bool, true, false, cond, false≢true}
 use mathlib.Core.List.{List, [], _∷_, _++_, append-assoc, append-nil, map}
 use mathlib.Core.Option.{Option, none, some}
@@ -12,12 +12,12 @@ use Rattle.rules.specs.Declarations.{Name}
 use Rattle.rules.specs.Steps.Actions.{Act, seq, par, label, ins, Ins, iff, decode, repeat, leave, restart, call, stop, noop, transfer, Alts, end, alt}
 use Rattle.rules.specs.Steps.Control.{Live, one, seqL, both, left, right, labL, loopL, callL, start, leftmost}
 use Rattle.rules.specs.Steps.Control.{Sig, ends, goes, leaves, restarts, stops, faults, seqS, bothL, rightS, labS, loopS, choose, pickS, lost, callS, nextI, next}
-use Rattle.laws_orders.specs.Cited.Flat.{Link, at, exit, Entries, Code, pc, over, halt, broken, push, find, Labels, bind, leaveTo, restartTo, Jumps, ownLabel, callI}
+use Rattle.laws_orders.specs.Cited.Flat.{Link, at, exit, Entries, Code, pc, over, halt, broken, push, find, Labels, bind, leaveTo, restartTo, Jumps, ownLabel}
 use Rattle.laws_orders.specs.Orders.Foot.{Foot, Prints}
-use Rattle.laws_orders.specs.Orders.Ok.{Env, under, member, In, OkL, OkS, inBody, BodiesOk, next-ok}
+use Rattle.laws_orders.specs.Orders.Ok.{Env, under, member, OkL, OkS, inBody, BodiesOk, next-ok}
 use Rattle.traces.specs.Machine.{Event, opens, turns, closes}
 use Rattle.traces.specs.Telling.{openings, fresh, atEnd, atRestart, stepEvents}
-use Rattle.telling.specs.Cited.Passing.{Grouping, Passing, opened, turned, closed, times, pairOpens, pairEvents, allPairs, passage}
+use Rattle.telling.specs.Cited.Passing.{Grouping, Passing, opened, turned, closed, times, pairOpens, allPairs, passage}
 use Rattle.telling.specs.Cited.Tracing.{Told, told, behindAll, linkOf, resume, return, follow, pickedT, nextT, addresses}
 use Rattle.telling.specs.Passages.{into, into-append, Lasts, Firsts, passage-on, passage-next}
 use Rattle.telling.specs.Moves.{Moves, moves-none, moves-append, moves-closed, moves-opened, moves-as, pairs-append}
