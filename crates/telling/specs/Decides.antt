@@ -1,9 +1,10 @@
 -- REQUEST 10, a designer's trace: the tracing machine that follows the code of an accepted text tells the matching what it needs, and the matching then has
 -- the answer.
-use Prim.Native.Nat.{ℕ, _≤_}
+use Prim.Native.Nat.{ℕ, _*_, _≤_, _<_}
 use mathlib.Core.Path.{_≡_, sym, _∙_, subst}
-use mathlib.Core.List.{List, [], map}
+use mathlib.Core.List.{List, [], _++_, map}
 use mathlib.Core.Option.{some}
+use native.Mathlib.Omega.{arith}
 use lib.ListN.{length}
 use Rattle.rules.specs.Text.Scan.{scan}
 use Rattle.rules.specs.Grammar.Trees.{Description, flatten}
@@ -13,13 +14,13 @@ use Rattle.rules.specs.Steps.Runs.{bodyAct, run}
 use Rattle.rules.specs.Steps.Orders.{EndsWell}
 use Rattle.rules.specs.Faults.Whole.{mainName}
 use Rattle.rules.specs.Stores.{Entry, TraceAnswer}
-use Rattle.rules.specs.Limits.{deepest}
+use Rattle.rules.specs.Limits.{deepest, longestChain}
 use Rattle.rules.specs.Answers.{accepted, Checks, judgement}
 use Rattle.laws_grammar.specs.Answers.{accepted-iff-lawful}
 use Rattle.laws_grammar.specs.Cited.Nesting.{nest}
 use Rattle.laws_grammar.specs.Grammar.Exact.{unique}
 use Rattle.laws_grammar.specs.Grammar.Nesting.{shallow-nest}
-use Rattle.laws_orders.specs.Cited.Flat.{Code}
+use Rattle.laws_orders.specs.Cited.Flat.{Code, pc}
 use Rattle.laws_orders.specs.Orders.Orderly.{Orderly}
 use Rattle.laws_orders.specs.Orders.Carriers.{printsOf}
 use Rattle.laws_orders.specs.Orders.Static.{bodies-ok}
@@ -28,13 +29,15 @@ use Rattle.laws_code.specs.Cited.Placed.{descriptionCode}
 use Rattle.traces.specs.Marking.{at, never}
 use Rattle.traces.specs.Machine.{state, tellAll, answerOf}
 use Rattle.traces.specs.Traces.{left-to-right-decides}
-use Rattle.telling.specs.Cited.Cells.{Cells, cellGrouping, AllMarked}
+use Rattle.telling.specs.Cited.Cells.{Cells, memberOf, cellGrouping, AllMarked}
 use Rattle.telling.specs.Cited.Passing.{Grouping}
-use Rattle.telling.specs.Cited.Tracing.{pairsOf, traceRun}
+use Rattle.telling.specs.Cited.Tracing.{nextT, pairsOf, traceRun}
 use Rattle.telling.specs.Holding.{HoldsGrouped}
 use Rattle.telling.specs.Running.{Traces, trace-agrees}
 use Rattle.telling.specs.Assembled.{grouped-assembled}
-use Rattle.telling.specs.Marked.{all-grouped}
+use Rattle.telling.specs.Marked.{from-few, all-grouped}
+use Rattle.telling.specs.Places.{TracePlace, place-first, place-next, place-stack, place-groups}
+use Rattle.telling.specs.Standing.{whole}
 
 -- a text that Check accepts, and the description that stands in it
 module _ (text : List ℕ) (n w : ℕ) (accepts : Checks text (accepted n w)) (d : Description) (stands : flatten d ≡ scan text .tokens) where
@@ -82,3 +85,21 @@ module _ (text : List ℕ) (n w : ℕ) (accepts : Checks text (accepted n w)) (d
         → TraceAnswer ds main b s l
         (answerOf (tellAll (pairsOf (cellGrouping K) (traceRun ds (descriptionCode d) (cellGrouping K) main b s .reports)) (state (map some l) (at 0) never [])) (length l))
     marked-decides s b = tracing-decides (descriptionCode d) (cellGrouping K) marked-held s b
+
+    -- the places to which a run of MAIN comes, and what is known there: few activations go on, few groups are open
+    abbrev pub MainPlace : ℕ → List ℕ → Type 0
+    MainPlace = TracePlace ds (descriptionCode d) (cellGrouping K) (printsOf ds) 15 main
+
+    pub main-first : MainPlace (descriptionCode d .first main) []
+    main-first = place-first ds (descriptionCode d) (cellGrouping K) (printsOf ds) 15 main (bodies-ok ds orderly) marked-held (orderly .chains main)
+
+    pub main-next :
+        {n : ℕ} {κ : List ℕ} → MainPlace n κ → (v n′ : ℕ) (κ′ : List ℕ)
+        → nextT (descriptionCode d) (cellGrouping K) n (descriptionCode d .instr n) κ v .control ≡ pc n′ κ′ → MainPlace n′ κ′
+    main-next = place-next ds (descriptionCode d) (cellGrouping K) (printsOf ds) 15 main (bodies-ok ds orderly) marked-held (orderly .chains main)
+
+    pub main-stack : {n : ℕ} {κ : List ℕ} → MainPlace n κ → length κ < longestChain
+    main-stack h = omega (arith, place-stack ds (descriptionCode d) (cellGrouping K) (printsOf ds) 15 main h)
+
+    pub main-groups : {n : ℕ} {κ : List ℕ} → MainPlace n κ → length (cellGrouping K .around n ++ whole (descriptionCode d) (cellGrouping K) κ) ≤ deepest * longestChain
+    main-groups = place-groups ds (descriptionCode d) (cellGrouping K) (printsOf ds) 15 main (λ n. from-few K deepest (memberOf K n))

@@ -52,63 +52,13 @@ module _ (ds : Table) (C : Code) (M : Grouping) where
   whole-few [] h = omega arith
   whole-few (m ∷ κ) h = omega (arith, length-append (M .around m) (whole C M κ), h m, whole-few κ h)
 
-  module _ (P : Prints) (ok : BodiesOk P (bodyAct ds)) (bodies : HoldsGrouped M C (bodyAct ds)) (c : ℕ) (p : Name) where
+  module _ (P : Prints) (c : ℕ) (p : Name) where
     -- something of a run of the body of p from left to right is left there, in which activations go at most c deep
     pub record TracePlace (n : ℕ) (κ : List ℕ) : Type 0 where
       left : Live
       sound : OkL P (inBody P p) left
       chained : Chained ds c left
       stands : Stands C M (alone []) (ownLabel C p) exit [] left n κ
-
-    pub place-first : chainOver ds (suc c) p ≡ false → TracePlace (C .first p) []
-    place-first h =
-        record {
-          left = start (bodyAct ds p);
-          sound = start-ok P (inBody P p) (bodyAct ds p) (ok p);
-          chained = call-chained ds (suc c) p h .1;
-          stands = start-stands C M (bodyAct ds p) (alone []) (ownLabel C p) (C .first p) exit [] (bodies p);
-        }
-
-    pub place-next :
-        chainOver ds (suc c) p ≡ false → {n : ℕ} {κ : List ℕ} → TracePlace n κ → (v n′ : ℕ) (κ′ : List ℕ)
-        → nextT C M n (C .instr n) κ v .control ≡ pc n′ κ′ → TracePlace n′ κ′
-    unfolding return leaveTo restartTo
-    place-next far {n} {κ} h v n′ κ′ e =
-        by (next (bodyAct ds) (h .left) (leftmost (h .left)) v) (nextT C M n (C .instr n) κ v) e (next-ok P (bodyAct ds) ok (inBody P p) (h .left) (leftmost (h .left)) v (h .sound))
-        (next-chained ds c (h .left) v (h .chained))
-        (next-says C M (bodyAct ds) bodies P ok (h .left) (inBody P p) (alone []) (ownLabel C p) exit [] n κ (h .sound) (h .stands) v)
-      where
-        w : List ℕ
-        w = M .around n ++ whole C M κ
-
-        es : List Event
-        es = stepEvents (bodyAct ds) (h .left) v
-
-        again : (b : Bool) (m : Told) → m .control ≡ pc n′ κ′ → Jumping C M (cond b (some (at (C .first p))) none) (alone []) [] w es m → TracePlace n′ κ′
-        again true m i q =
-            let d = q .jumped in
-            let x : C .first p ≡ n′ = cc in
-            let y : _≡_ {A = List ℕ} [] κ′ = cc in
-            subst₂ TracePlace x y (place-first far)
-        again false m i q = absurd (q .jumped)
-
-        gone : (b : Bool) (m : Told) → m .control ≡ pc n′ κ′ → Jumping C M (cond b (some exit) none) (alone []) [] w es m → TracePlace n′ κ′
-        gone true m i q = let d = q .jumped in impossible (cc)
-        gone false m i q = absurd (q .jumped)
-
-        by :
-            (x : Sig) (m : Told) → m .control ≡ pc n′ κ′ → OkS P (inBody P p) x → ChainedS ds c x → Says C M (alone []) (ownLabel C p) exit [] w es x m
-            → TracePlace n′ κ′
-        by ends m i o k q = let d = ends-over C M q .0 in impossible (cc)
-        by (goes r) m i o k q =
-            let d = q .control in
-            let x : q .n ≡ n′ = cc in
-            let y : q .κ ≡ κ′ = cc in
-            record { left = r; sound = o; chained = k; stands = subst₂ (λ x y. Stands C M (alone []) (ownLabel C p) exit [] r x y) x y (q .stands) }
-        by (leaves l) m i o k q = gone (sameBytes l p) m i q
-        by (restarts l) m i o k q = again (sameBytes l p) m i q
-        by stops m i o k q = let d = ap (λ (z : Told). z .control) (q .0) in impossible (cc)
-        by (faults x y) m i o k q = let d = ap (λ (z : Told). z .control) (q .0) in impossible (cc)
 
     -- so few activations go on
     pub place-stack : {n : ℕ} {κ : List ℕ} → TracePlace n κ → length κ ≤ c
@@ -118,3 +68,54 @@ module _ (ds : Table) (C : Code) (M : Grouping) where
     pub place-groups :
         ((n : ℕ) → length (M .around n) ≤ deepest) → {n : ℕ} {κ : List ℕ} → TracePlace n κ → length (M .around n ++ whole C M κ) ≤ deepest * suc c
     place-groups few {n} {κ} h = omega (arith, length-append (M .around n) (whole C M κ), few n, whole-few κ few, place-stack h)
+
+    module _ (ok : BodiesOk P (bodyAct ds)) (bodies : HoldsGrouped M C (bodyAct ds)) (far : chainOver ds (suc c) p ≡ false) where
+      pub place-first : TracePlace (C .first p) []
+      place-first =
+          record {
+            left = start (bodyAct ds p);
+            sound = start-ok P (inBody P p) (bodyAct ds p) (ok p);
+            chained = call-chained ds (suc c) p far .1;
+            stands = start-stands C M (bodyAct ds p) (alone []) (ownLabel C p) (C .first p) exit [] (bodies p);
+          }
+
+      pub place-next :
+          {n : ℕ} {κ : List ℕ} → TracePlace n κ → (v n′ : ℕ) (κ′ : List ℕ)
+          → nextT C M n (C .instr n) κ v .control ≡ pc n′ κ′ → TracePlace n′ κ′
+      unfolding return leaveTo restartTo
+      place-next {n} {κ} h v n′ κ′ e =
+          by (next (bodyAct ds) (h .left) (leftmost (h .left)) v) (nextT C M n (C .instr n) κ v) e (next-ok P (bodyAct ds) ok (inBody P p) (h .left) (leftmost (h .left)) v (h .sound))
+          (next-chained ds c (h .left) v (h .chained))
+          (next-says C M (bodyAct ds) bodies P ok (h .left) (inBody P p) (alone []) (ownLabel C p) exit [] n κ (h .sound) (h .stands) v)
+        where
+          w : List ℕ
+          w = M .around n ++ whole C M κ
+
+          es : List Event
+          es = stepEvents (bodyAct ds) (h .left) v
+
+          again : (b : Bool) (m : Told) → m .control ≡ pc n′ κ′ → Jumping C M (cond b (some (at (C .first p))) none) (alone []) [] w es m → TracePlace n′ κ′
+          again true m i q =
+              let d = q .jumped in
+              let x : C .first p ≡ n′ = cc in
+              let y : _≡_ {A = List ℕ} [] κ′ = cc in
+              subst₂ TracePlace x y place-first
+          again false m i q = absurd (q .jumped)
+
+          gone : (b : Bool) (m : Told) → m .control ≡ pc n′ κ′ → Jumping C M (cond b (some exit) none) (alone []) [] w es m → TracePlace n′ κ′
+          gone true m i q = let d = q .jumped in impossible (cc)
+          gone false m i q = absurd (q .jumped)
+
+          by :
+              (x : Sig) (m : Told) → m .control ≡ pc n′ κ′ → OkS P (inBody P p) x → ChainedS ds c x → Says C M (alone []) (ownLabel C p) exit [] w es x m
+              → TracePlace n′ κ′
+          by ends m i o k q = let d = ends-over C M q .0 in impossible (cc)
+          by (goes r) m i o k q =
+              let d = q .control in
+              let x : q .n ≡ n′ = cc in
+              let y : q .κ ≡ κ′ = cc in
+              record { left = r; sound = o; chained = k; stands = subst₂ (λ x y. Stands C M (alone []) (ownLabel C p) exit [] r x y) x y (q .stands) }
+          by (leaves l) m i o k q = gone (sameBytes l p) m i q
+          by (restarts l) m i o k q = again (sameBytes l p) m i q
+          by stops m i o k q = let d = ap (λ (z : Told). z .control) (q .0) in impossible (cc)
+          by (faults x y) m i o k q = let d = ap (λ (z : Told). z .control) (q .0) in impossible (cc)

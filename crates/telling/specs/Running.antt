@@ -14,9 +14,9 @@ use Rattle.rules.specs.Steps.Runs.{Conf, running, finished, stopped, fault, Wor
 use Rattle.rules.specs.Steps.Runs.{Run, ran, done, halted, paused, faulted, runFrom, run}
 use Rattle.rules.specs.Steps.Orders.{EndsWell, endOf}
 use Rattle.laws_orders.specs.Orders.Budget.{onward as onwardRun}
-use Rattle.laws_orders.specs.Cited.Flat.{Link, at, exit, Instr, ifI, decodeI, goI, callI, stopI, moveI, Code, At, pc, over, halt, broken, go, push, find, picked, nextM}
+use Rattle.laws_orders.specs.Cited.Flat.{Link, at, exit, Instr, ifI, decodeI, goI, callI, stopI, moveI, Code, At, pc, over, halt, broken, go, push, find, picked, workM, nextM}
 use Rattle.laws_orders.specs.Cited.Flat.{return as returnM}
-use Rattle.laws_orders.specs.Cited.Flat.{Machine, runs, ended, stood, broke, put, Labels, outer, bind, leaveTo, restartTo, ownLabel}
+use Rattle.laws_orders.specs.Cited.Flat.{Machine, runs, ended, stood, broke, put, putAfter, stepM, Labels, outer, bind, leaveTo, restartTo, ownLabel}
 use Rattle.laws_orders.specs.Orders.Stands as Flat
 use Rattle.laws_orders.specs.Orders.Stands.{work-says}
 use Rattle.laws_orders.specs.Orders.Foot.{Prints, Sub·refl}
@@ -27,7 +27,7 @@ use Rattle.traces.specs.Machine.{Event}
 use Rattle.traces.specs.Telling.{openings, openingsC, stepEvents, storeEvent, Tells}
 use Rattle.telling.specs.Cited.Passing.{Grouping, Passing, opened, turned, closed, pairEvents, allPairs, passage}
 use Rattle.telling.specs.Cited.Tracing.{Told, linkOf, addresses, resume, return, follow, pickedT, nextT}
-use Rattle.telling.specs.Cited.Tracing.{Report, stored, passes, storeReport, pairsIn, pairsOf, Stepped, Traced, traced, reported, putT, afterT, runT, traceRun}
+use Rattle.telling.specs.Cited.Tracing.{Report, stored, passes, storeReport, pairsIn, pairsOf, Stepped, Traced, traced, reported, putT, afterT, stepT, runT, traceRun}
 use Rattle.telling.specs.Moves.{Follows, Moves, moves-none, moves-as}
 use Rattle.telling.specs.Holding.{Spot, alone, rest, base, onward, HoldsGrouped, holds, holdsI}
 use Rattle.telling.specs.Standing.{whole, entered-main, Stands, Says, next-says, ends-over, no-jump, call-stands, body-moves}
@@ -38,6 +38,12 @@ flatAt C (pc n κ) = pc n (addresses C κ)
 flatAt C over = over
 flatAt C halt = halt
 flatAt C (broken m p) = broken m p
+
+abbrev pub flatMachine : Code → Machine → Machine
+flatMachine C (runs n κ s) = runs n (addresses C κ) s
+flatMachine C (ended s) = ended s
+flatMachine C (stood s) = stood s
+flatMachine C (broke m p s) = broke m p s
 
 module _ (C : Code) (M : Grouping) where
   pushed : (k : Link) (σ : List ℕ) → returnM (push k σ) ≡ go k σ
@@ -71,6 +77,23 @@ module _ (C : Code) (M : Grouping) where
   next-flat n (callI p k) κ v q = ap (λ j. pc (C .first p) (push (linkOf j) (addresses C κ))) q
   next-flat n stopI κ v q = refl
   next-flat n (moveI d e k) κ v q = follow-flat (M .around n) k κ
+
+  put-flat : (s u : Carriers) (a : At) → flatMachine C (put s u a) ≡ put s u (flatAt C a)
+  put-flat s u (pc n κ) = refl
+  put-flat s u over = refl
+  put-flat s u halt = refl
+  put-flat s u (broken m p) = refl
+
+  -- Its step is a step of the flat machine.
+  pub step-flat : (ds : Table) (n : ℕ) (κ : List ℕ) (s : Carriers) → flatMachine C (stepT ds C M n κ s .machine) ≡ stepM ds C n (addresses C κ) s
+  step-flat ds n κ s = by (perform ds (workM (C .instr n)) s)
+    where
+      by :
+          (o : Outcome Worked)
+          → flatMachine C (afterT s (made ds (workM (C .instr n)) s) (nextT C M n (C .instr n) κ) o .machine) ≡ putAfter s (nextM C (C .instr n) (addresses C κ)) o
+      by (gives w) =
+          put-flat s (w .carriers) (nextT C M n (C .instr n) κ (w .number) .control) ∙ ap (put s (w .carriers)) (next-flat n (C .instr n) κ (w .number) refl)
+      by (faulty m p) = refl
 
   -- where it stands, the flat machine stands
   pub stands-flat :
