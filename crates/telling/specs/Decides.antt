@@ -1,6 +1,6 @@
 -- REQUEST 10, a designer's trace: the tracing machine that follows the code of an accepted text tells the matching what it needs, and the matching then has
 -- the answer.
-use Prim.Native.Nat.{ℕ, _*_, _≤_, _<_}
+use Prim.Native.Nat.{ℕ, _-_, _*_, _≤_, _<_}
 use mathlib.Core.Path.{_≡_, sym, _∙_, subst}
 use mathlib.Core.List.{List, [], _++_, map}
 use mathlib.Core.Option.{some}
@@ -38,6 +38,10 @@ use Rattle.telling.specs.Assembled.{grouped-assembled}
 use Rattle.telling.specs.Marked.{from-few, all-grouped}
 use Rattle.telling.specs.Places.{TracePlace, place-first, place-next, place-stack, place-groups}
 use Rattle.telling.specs.Standing.{whole}
+
+-- how many activations can go on inside MAIN
+abbrev pub inMain : ℕ
+inMain = longestChain - 1
 
 -- a text that Check accepts, and the description that stands in it
 module _ (text : List ℕ) (n w : ℕ) (accepts : Checks text (accepted n w)) (d : Description) (stands : flatten d ≡ scan text .tokens) where
@@ -88,18 +92,18 @@ module _ (text : List ℕ) (n w : ℕ) (accepts : Checks text (accepted n w)) (d
 
     -- the places to which a run of MAIN comes, and what is known there: few activations go on, few groups are open
     abbrev pub MainPlace : ℕ → List ℕ → Type 0
-    MainPlace = TracePlace ds (descriptionCode d) (cellGrouping K) (printsOf ds) 15 main
+    MainPlace = TracePlace ds (descriptionCode d) (cellGrouping K) (printsOf ds) inMain main
 
     pub main-first : MainPlace (descriptionCode d .first main) []
-    main-first = place-first ds (descriptionCode d) (cellGrouping K) (printsOf ds) 15 main (bodies-ok ds orderly) marked-held (orderly .chains main)
+    main-first = place-first ds (descriptionCode d) (cellGrouping K) (printsOf ds) inMain main (bodies-ok ds orderly) marked-held (orderly .chains main)
 
     pub main-next :
         {n : ℕ} {κ : List ℕ} → MainPlace n κ → (v n′ : ℕ) (κ′ : List ℕ)
         → nextT (descriptionCode d) (cellGrouping K) n (descriptionCode d .instr n) κ v .control ≡ pc n′ κ′ → MainPlace n′ κ′
-    main-next = place-next ds (descriptionCode d) (cellGrouping K) (printsOf ds) 15 main (bodies-ok ds orderly) marked-held (orderly .chains main)
+    main-next = place-next ds (descriptionCode d) (cellGrouping K) (printsOf ds) inMain main (bodies-ok ds orderly) marked-held (orderly .chains main)
 
     pub main-stack : {n : ℕ} {κ : List ℕ} → MainPlace n κ → length κ < longestChain
-    main-stack h = omega (arith, place-stack ds (descriptionCode d) (cellGrouping K) (printsOf ds) 15 main h)
+    main-stack h = omega (arith, place-stack ds (descriptionCode d) (cellGrouping K) (printsOf ds) inMain main h)
 
     pub main-groups : {n : ℕ} {κ : List ℕ} → MainPlace n κ → length (cellGrouping K .around n ++ whole (descriptionCode d) (cellGrouping K) κ) ≤ deepest * longestChain
-    main-groups = place-groups ds (descriptionCode d) (cellGrouping K) (printsOf ds) 15 main (λ n. from-few K deepest (memberOf K n))
+    main-groups = place-groups ds (descriptionCode d) (cellGrouping K) (printsOf ds) inMain main (λ n. from-few K deepest (memberOf K n))

@@ -9,3 +9,4 @@ pub mod Passages
 pub mod Places
 pub mod Running
 pub mod Standing
+pub mod Taken
