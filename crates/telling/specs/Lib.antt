@@ -1,6 +1,7 @@
 pub mod Assembled
 pub mod Cited
 pub mod Decides
+pub mod Examples
 pub mod Grouped
 pub mod Holding
 pub mod Marked
