@@ -36,8 +36,8 @@ use Rattle.telling.specs.Holding.{HoldsGrouped}
 use Rattle.telling.specs.Running.{Traces, trace-agrees}
 use Rattle.telling.specs.Assembled.{grouped-assembled}
 use Rattle.telling.specs.Marked.{from-few, all-grouped}
-use Rattle.telling.specs.Places.{TracePlace, place-first, place-next, place-stack, place-groups}
-use Rattle.telling.specs.Standing.{whole}
+use Rattle.telling.specs.Places.{TracePlace, place-first, place-next, place-stack, place-active, place-groups}
+use Rattle.telling.specs.Standing.{whole, Activations}
 
 -- how many activations can go on inside MAIN
 abbrev pub inMain : ℕ
@@ -104,6 +104,9 @@ module _ (text : List ℕ) (n w : ℕ) (accepts : Checks text (accepted n w)) (d
 
     pub main-stack : {n : ℕ} {κ : List ℕ} → MainPlace n κ → length κ < longestChain
     main-stack h = omega (arith, place-stack ds (descriptionCode d) (cellGrouping K) (printsOf ds) inMain main h)
+
+    pub main-active : {n : ℕ} {κ : List ℕ} → MainPlace n κ → Activations (descriptionCode d) (cellGrouping K) κ
+    main-active = place-active ds (descriptionCode d) (cellGrouping K) (printsOf ds) inMain main
 
     pub main-groups : {n : ℕ} {κ : List ℕ} → MainPlace n κ → length (cellGrouping K .around n ++ whole (descriptionCode d) (cellGrouping K) κ) ≤ deepest * longestChain
     main-groups = place-groups ds (descriptionCode d) (cellGrouping K) (printsOf ds) inMain main (λ n. from-few K deepest (memberOf K n))

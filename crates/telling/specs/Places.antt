@@ -1,6 +1,6 @@
 -- The places that the tracing machine can come to: there few activations go on and few groups are open.
 use Prim.Native.Nat.{ℕ, zero, suc, _+_, _*_, _≤_}
-use mathlib.Core.Path.{_≡_, ap, subst₂}
+use mathlib.Core.Path.{_≡_, sym, ap, subst, subst₂}
 use mathlib.Core.Bool.{Bool, true, false, cond}
 use mathlib.Core.List.{List, [], _∷_, _++_}
 use mathlib.Core.Option.{none, some}
@@ -23,7 +23,7 @@ use Rattle.traces.specs.Telling.{stepEvents}
 use Rattle.telling.specs.Cited.Passing.{Grouping}
 use Rattle.telling.specs.Cited.Tracing.{Told, return, nextT}
 use Rattle.telling.specs.Holding.{Spot, alone, rest, base, onward, HoldsGrouped}
-use Rattle.telling.specs.Standing.{whole, Stands, Says, Jumping, start-stands, next-says, ends-over}
+use Rattle.telling.specs.Standing.{whole, Activations, Stands, Says, Jumping, start-stands, next-says, ends-over}
 
 module _ (ds : Table) (C : Code) (M : Grouping) where
   -- an activation for each body of the chain, but the outermost
@@ -47,6 +47,23 @@ module _ (ds : Table) (C : Code) (M : Grouping) where
   stack-few (suc c) (callL p r) (rest z b) ρ k τ n κ h q = absurd q
   stack-few zero (callL p r) (rest z b) ρ k τ n κ h q = absurd q
 
+  -- each by its instruction
+  stack-active :
+      (r : Live) (s : Spot) (ρ : Labels) (k : Link) (τ : List ℕ) (n : ℕ) (κ : List ℕ) → Activations C M τ → Stands C M s ρ k τ r n κ → Activations C M κ
+  stack-active (one i) (alone b) ρ k τ n κ h q = subst (Activations C M) (sym (q .0)) h
+  stack-active (one i) (rest z b) ρ k τ n κ h q = absurd q
+  stack-active (seqL r a) (alone b) ρ k τ n κ h q = stack-active r (alone b) ρ (at (q .0)) τ n κ h (q .1)
+  stack-active (seqL r a) (rest z b) ρ k τ n κ h q = absurd q
+  stack-active (both r t) s ρ k τ n κ h q = stack-active r (alone (q .2 ∷ base s)) ρ (at (q .0)) τ n κ h (q .5)
+  stack-active (left r) s ρ k τ n κ h q = absurd q
+  stack-active (right r) s ρ k τ n κ h q = stack-active r (onward (M .last (q .1)) (q .1) (base s)) ρ k τ n κ h (q .3)
+  stack-active (labL l a r) (alone b) ρ k τ n κ h q = stack-active r (alone b) (bind l (q .0) k ρ) k τ n κ h (q .2)
+  stack-active (labL l a r) (rest z b) ρ k τ n κ h q = absurd q
+  stack-active (loopL a r) (alone b) ρ k τ n κ h q = stack-active r (alone b) ρ (at (q .0)) τ n κ h (q .3)
+  stack-active (loopL a r) (rest z b) ρ k τ n κ h q = absurd q
+  stack-active (callL p r) (alone b) ρ k τ n κ h q = stack-active r (alone []) (ownLabel C p) exit (q .0) n κ (q .1 .active h) (q .2)
+  stack-active (callL p r) (rest z b) ρ k τ n κ h q = absurd q
+
   whole-few : (κ : List ℕ) → ((n : ℕ) → length (M .around n) ≤ deepest) → length (whole C M κ) ≤ deepest * length κ
   unfolding whole
   whole-few [] h = omega arith
@@ -63,6 +80,9 @@ module _ (ds : Table) (C : Code) (M : Grouping) where
     -- so few activations go on
     pub place-stack : {n : ℕ} {κ : List ℕ} → TracePlace n κ → length κ ≤ c
     place-stack {n} {κ} h = omega (arith, stack-few c (h .left) (alone []) (ownLabel C p) exit [] n κ (h .chained) (h .stands))
+
+    pub place-active : {n : ℕ} {κ : List ℕ} → TracePlace n κ → Activations C M κ
+    place-active {n} {κ} h = stack-active (h .left) (alone []) (ownLabel C p) exit [] n κ tt (h .stands)
 
     -- and so few groups are open
     pub place-groups :

@@ -12,7 +12,7 @@ use Rattle.rules.specs.Declarations.{Name}
 use Rattle.rules.specs.Steps.Actions.{Act, seq, par, label, ins, Ins, iff, decode, repeat, leave, restart, call, stop, noop, transfer, Alts, end, alt}
 use Rattle.rules.specs.Steps.Control.{Live, one, seqL, both, left, right, labL, loopL, callL, start, leftmost}
 use Rattle.rules.specs.Steps.Control.{Sig, ends, goes, leaves, restarts, stops, faults, seqS, bothL, rightS, labS, loopS, choose, pickS, lost, callS, nextI, next}
-use Rattle.laws_orders.specs.Cited.Flat.{Link, at, exit, Entries, Code, pc, over, halt, broken, push, find, Labels, bind, leaveTo, restartTo, Jumps, ownLabel}
+use Rattle.laws_orders.specs.Cited.Flat.{Link, at, exit, Entries, Code, pc, over, halt, broken, push, find, Labels, bind, leaveTo, restartTo, Jumps, ownLabel, callI}
 use Rattle.laws_orders.specs.Orders.Foot.{Foot, Prints}
 use Rattle.laws_orders.specs.Orders.Ok.{Env, under, member, OkL, OkS, inBody, BodiesOk, next-ok}
 use Rattle.traces.specs.Machine.{Event, opens, turns, closes}
@@ -59,12 +59,18 @@ module _ (C : Code) (M : Grouping) where
   whole [] = []
   whole (m ∷ κ) = M .around m ++ whole κ
 
+  -- instructions that activate
+  abbrev pub Activations : List ℕ → Type 0
+  Activations [] = Unit {0}
+  Activations (m ∷ κ) = ((p : Name) × (k : Link) × (C .instr m ≡ callI p k)) × Activations κ
+
   -- An activation inside the members c goes on with the stack κ, and control then goes by the link k with the stack τ. MAIN is none's: nothing is behind it.
   pub record Entered (c : List ℕ) (k : Link) (τ κ : List ℕ) : Type 0 where
     pub back : return C M κ ≡ follow C M c k τ
     pub inside : whole κ ≡ c ++ whole τ
     pub addressed : addresses C κ ≡ push k (addresses C τ)
     pub deeper : length κ ≤ suc (length τ)
+    pub active : Activations τ → Activations κ
 
   -- The residual's leftmost instruction is at n, with the stack κ; τ is the stack of the place where the residual stands, and k the link behind it.
   abbrev pub Stands : Spot → Labels → Link → List ℕ → Live → ℕ → List ℕ → Type 0
@@ -436,14 +442,15 @@ module _ (C : Code) (M : Grouping) where
       }
 
   -- An activation goes on behind its instruction.
-  entered : (c : List ℕ) (k : Link) (τ : List ℕ) (n : ℕ) → M .around n ≡ c → linkOf (C .instr n) ≡ k → Entered c k τ (n ∷ τ)
+  entered : (c : List ℕ) (k : Link) (τ : List ℕ) (n : ℕ) (p : Name) → M .around n ≡ c → C .instr n ≡ callI p k → Entered c k τ (n ∷ τ)
   unfolding return whole addresses
-  entered c k τ n p q =
+  entered c k τ n y p q =
       record {
-        back = rw (← p, ← q) (by (linkOf (C .instr n)));
+        back = rw (← p, q) (by k);
         inside = ap (λ z. z ++ whole τ) p;
-        addressed = ap (λ z. push z (addresses C τ)) q;
+        addressed = ap (λ z. push (linkOf z) (addresses C τ)) q;
         deeper = omega arith;
+        active = λ h. ((y, k, q), h);
       }
     where
       by : (l : Link) → resume C M n τ (return C M τ) l ≡ follow C M (M .around n) l τ
@@ -452,7 +459,7 @@ module _ (C : Code) (M : Grouping) where
 
   pub entered-main : Entered [] exit [] []
   unfolding return whole addresses
-  entered-main = record { back = refl; inside = refl; addressed = refl; deeper = omega arith }
+  entered-main = record { back = refl; inside = refl; addressed = refl; deeper = omega arith; active = λ h. h }
 
   -- MAIN has ended: so has all
   pub ends-over : {w : List ℕ} {es : List Event} {m : Told} → Ends (alone []) exit [] w es m → (m .control ≡ over) × Moves M w es (m .passed) []
@@ -562,7 +569,7 @@ module _ (C : Code) (M : Grouping) where
     ins-says c ρ k τ (leave l) n v p h = jump-jumps (leaveTo ρ l) c τ n v p h
     ins-says c ρ k τ (restart l) n v p h = jump-jumps (restartTo ρ l) c τ n v p h
     ins-says c ρ k τ (call y) n v p h =
-        let d = entered c k τ n p (ap linkOf h) in
+        let d = entered c k τ n y p h in
         rw h (record {
           n = C .first y;
           κ = n ∷ τ;
