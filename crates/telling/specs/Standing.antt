@@ -64,7 +64,8 @@ module _ (C : Code) (M : Grouping) where
   Activations [] = Unit {0}
   Activations (m ∷ κ) = ((p : Name) × (k : Link) × (C .instr m ≡ callI p k)) × Activations κ
 
-  -- An activation inside the members c goes on with the stack κ, and control then goes by the link k with the stack τ. MAIN is none's: nothing is behind it.
+  -- An activation inside the members c goes on with the stack κ; behind it control goes by the link k with the stack τ. MAIN goes on by no instruction, with an
+  -- empty stack, and nothing is behind it.
   pub record Entered (c : List ℕ) (k : Link) (τ κ : List ℕ) : Type 0 where
     pub back : return C M κ ≡ follow C M c k τ
     pub inside : whole κ ≡ c ++ whole τ
@@ -92,8 +93,8 @@ module _ (C : Code) (M : Grouping) where
   Stands (alone c) ρ k τ (callL p r) n κ = (υ : List ℕ) × Entered c k τ υ × Stands (alone []) (ownLabel C p) exit υ r n κ
   Stands (rest z c) ρ k τ (callL p r) n κ = ⊥
 
-  -- From the members w: the action has ended inside the last members `passed`, and control goes by the link behind it. What was told until there is `first`;
-  -- the groups of two that were closed there are told too.
+  -- From the members w, bodies ended first: `before` was passed and `first` told. Then the action has ended inside the last members `passed`; the pairs that have
+  -- ended with it are told, but not yet those around what is left of a group. Control goes by the link behind the action.
   pub record Ends (s : Spot) (k : Link) (τ w : List ℕ) (es : List Event) (m : Told) : Type 0 where
     passed : List ℕ
     lasts : Lasts M passed

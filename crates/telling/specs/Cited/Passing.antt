@@ -25,6 +25,7 @@ groupEvent (opened y) = opens
 groupEvent (turned y) = turns
 groupEvent (closed z) = closes
 
+-- an event so many times
 unfoldable pub times : ℕ → Event → List Event
 times zero e = []
 times (suc n) e = e ∷ times n e

@@ -24,7 +24,7 @@ told m ps = record { control = m; passed = ps }
 abbrev pub behindAll : List Passing → Told → Told
 behindAll ps t = told (t .control) (ps ++ t .passed)
 
--- where control goes behind an activation
+-- the link behind an instruction; DECODE and STOP have none
 abbrev pub linkOf : Instr → Link
 linkOf (ifI e g k) = k
 linkOf (decodeI p e t) = exit
@@ -93,7 +93,7 @@ groupIn (passes p) = groupEvent p
 abbrev pub groupsOf : List Report → List Event
 groupsOf rs = map groupIn rs
 
--- what a step comes to, and what it reports
+-- what a step comes to, with the stack of activations, and what it reports
 pub record Stepped : Type 0 where
   pub machine : Machine
   pub reports : List Report
@@ -114,6 +114,7 @@ reported rs t = traced (t .run) (rs ++ t .reports)
 abbrev pub putT : Carriers → Block → Carriers → Told → Stepped
 putT s b u t = stepped (put s u (t .control)) (storeReport b ++ map passes (t .passed))
 
+-- a step that faults reports nothing
 abbrev pub afterT : Carriers → Block → (ℕ → Told) → Outcome Worked → Stepped
 afterT s b f (gives w) = putT s b (w .carriers) (f (w .number))
 afterT s b f (faulty m p) = stepped (broke m p s) []
