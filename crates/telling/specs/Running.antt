@@ -10,8 +10,8 @@ use Rattle.rules.specs.Steps.Evaluation.{Carriers, Outcome, gives, faulty}
 use Rattle.rules.specs.Steps.Actions.{repeat}
 use Rattle.rules.specs.Steps.Control.{Live, one, seqL, both, left, right, labL, loopL, callL, start, leftmost, work}
 use Rattle.rules.specs.Steps.Control.{Sig, ends, goes, leaves, restarts, stops, faults, next}
-use Rattle.rules.specs.Steps.Runs.{Conf, running, finished, stopped, fault, Worked, perform, told as toldConf, after, bodyAct, step, begin}
-use Rattle.rules.specs.Steps.Runs.{Run, ran, done, halted, paused, faulted, runFrom, run}
+use Rattle.rules.specs.Steps.Runs.{Conf, running, finished, stopped, failed, Worked, perform, told as toldConf, after, bodyAct, step, begin}
+use Rattle.rules.specs.Steps.Runs.{Run, runWith, done, halted, paused, faulted, runFrom, run}
 use Rattle.rules.specs.Steps.Orders.{EndsWell, endOf}
 use Rattle.laws_orders.specs.Orders.Budget.{onward as onwardRun}
 use Rattle.laws_orders.specs.Cited.Flat.{Link, at, exit, Instr, ifI, decodeI, goI, callI, stopI, moveI, Code, At, pc, over, halt, broken, go, push, find, picked, workM, nextM}
@@ -164,9 +164,9 @@ module _ (ds : Table) (C : Code) (M : Grouping) where
   onwardT b k m =
       elim m [
         | runs n κ u ↦ runT ds C M b (suc k) n κ u
-        | ended u ↦ traced (ran done (suc k) u) []
-        | stood u ↦ traced (ran halted (suc k) u) []
-        | broke x p u ↦ traced (ran (faulted x p) k u) []
+        | ended u ↦ traced (runWith done (suc k) u) []
+        | stood u ↦ traced (runWith halted (suc k) u) []
+        | broke x p u ↦ traced (runWith (faulted x p) k u) []
       ]
 
   over-agrees : (r : Run) (c : Conf) (w : List ℕ) → (EndsWell r → c ≡ endOf r) → Agrees r c w (traced r [])
@@ -225,7 +225,7 @@ module _ (ds : Table) (C : Code) (M : Grouping) where
         (b k : ℕ) (r : Live) (E : Env) (s : Carriers) (n : ℕ) (κ : List ℕ) → OkL P E r → Stands C M (alone []) outer exit [] r n κ
         → Agrees (runFrom ds b k (running r s)) (running r s) (M .around n ++ whole C M κ) (runT ds C M b k n κ s)
     unfolding runT runFrom leaveTo restartTo
-    from-agrees zero k r E s n κ o h = over-agrees (ran paused k s) (running r s) (M .around n ++ whole C M κ) (λ e. absurd e)
+    from-agrees zero k r E s n κ o h = over-agrees (runWith paused k s) (running r s) (M .around n ++ whole C M κ) (λ e. absurd e)
     from-agrees (suc b) k r E s n κ o h =
         let same = work-says C r outer exit (addresses C []) n (addresses C κ) (stands-flat C M r (alone []) outer exit [] n κ h) in
         subst (λ z. Agrees (onwardRun ds b k (step ds r (leftmost r) s)) (running r s) w (onwardS b k (afterT s (made ds z s) (nextT C M n (C .instr n) κ) (perform ds z s)))) same
@@ -243,8 +243,8 @@ module _ (ds : Table) (C : Code) (M : Grouping) where
             → Agrees (runFrom ds b (suc k) (running r u)) (running r u) (M .around n ++ whole C M κ) (runT ds C M b (suc k) n κ u))
             → Agrees (onwardRun ds b k (step ds r (leftmost r) s)) (running r s) w (onwardS b k (stepBy r n κ s y))
         by (faulty m p) g ih =
-            subst (λ c. Agrees (onwardRun ds b k c) (running r s) w (traced (ran (faulted m p) k s) [])) (sym (ap (after s (next (bodyAct ds) r (leftmost r))) g))
-            (over-agrees (ran (faulted m p) k s) (running r s) w (λ e. absurd e))
+            subst (λ c. Agrees (onwardRun ds b k c) (running r s) w (traced (runWith (faulted m p) k s) [])) (sym (ap (after s (next (bodyAct ds) r (leftmost r))) g))
+            (over-agrees (runWith (faulted m p) k s) (running r s) w (λ e. absurd e))
         by (gives x) g ih =
             on (next (bodyAct ds) r (leftmost r) (x .number)) (nextT C M n (C .instr n) κ (x .number)) refl (said x)
             (next-ok P (bodyAct ds) ok E r (leftmost r) (x .number) o)
@@ -270,7 +270,7 @@ module _ (ds : Table) (C : Code) (M : Grouping) where
                 → Agrees (onwardRun ds b k (step ds r (leftmost r) s)) (running r s) w (onwardS b k (putT s (made ds (work r (leftmost r)) s) u m))
             on ends m e q j =
                 let z = ends-over C M q in
-                stepped-on ends m (finished u) over [] e refl (z .0) (z .1) (over-agrees (ran done (suc k) u) (finished u) [] (λ i. refl))
+                stepped-on ends m (finished u) over [] e refl (z .0) (z .1) (over-agrees (runWith done (suc k) u) (finished u) [] (λ i. refl))
             on (goes r′) m e q j =
                 stepped-on (goes r′) m (running r′ u) (pc (q .n) (q .κ)) (M .around (q .n) ++ whole C M (q .κ)) e refl (q .control) (q .moves)
                 (ih r′ u (q .n) (q .κ) j (q .stands))
@@ -278,11 +278,11 @@ module _ (ds : Table) (C : Code) (M : Grouping) where
             on (restarts l) m e q j = absurd (no-jump C M q)
             on stops m e q j =
                 stepped-on stops m (stopped u) halt w e refl (ap (λ (z : Told). z .control) (q .0)) (moves-as M (q .1) (ap (λ (z : Told). z .passed) (q .0)) refl (moves-none M w))
-                (over-agrees (ran halted (suc k) u) (stopped u) w (λ i. refl))
+                (over-agrees (runWith halted (suc k) u) (stopped u) w (λ i. refl))
             on (faults i p) m e q j =
-                stepped-on (faults i p) m (fault i p s) (broken i p) w e refl (ap (λ (z : Told). z .control) (q .0))
+                stepped-on (faults i p) m (failed i p s) (broken i p) w e refl (ap (λ (z : Told). z .control) (q .0))
                 (moves-as M (q .1) (ap (λ (z : Told). z .passed) (q .0)) refl (moves-none M w))
-                (over-agrees (ran (faulted i p) k s) (fault i p s) w (λ i. absurd i))
+                (over-agrees (runWith (faulted i p) k s) (failed i p s) w (λ i. absurd i))
 
     abbrev outermost : Name → Env
     outermost n = record { foot = P .body n; mayStop = true; scope = [] }

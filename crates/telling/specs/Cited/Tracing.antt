@@ -5,7 +5,7 @@ use mathlib.Core.Option.{Option, none, some}
 use Rattle.rules.specs.Declarations.{Name, Table}
 use Rattle.rules.specs.Stores.{Entry, made}
 use Rattle.rules.specs.Steps.Evaluation.{Carriers, Outcome, gives, faulty}
-use Rattle.rules.specs.Steps.Runs.{Worked, perform, Run, ran, done, halted, paused, faulted}
+use Rattle.rules.specs.Steps.Runs.{Worked, perform, Run, runWith, done, halted, paused, faulted}
 use Rattle.laws_orders.specs.Cited.Flat.{Link, at, exit, Instr, ifI, decodeI, goI, callI, stopI, moveI, Code, At, pc, over, halt, broken, push, find, workM}
 use Rattle.laws_orders.specs.Cited.Flat.{Machine, runs, ended, stood, broke, put}
 use Rattle.traces.specs.Members.{Block}
@@ -125,15 +125,15 @@ module _ (ds : Table) (C : Code) (M : Grouping) where
 
   -- the run with a budget b, after k steps, from an instruction with a stack
   unfoldable pub runT : ℕ → ℕ → ℕ → List ℕ → Carriers → Traced
-  runT zero k n κ s = traced (ran paused k s) []
+  runT zero k n κ s = traced (runWith paused k s) []
   runT (suc b) k n κ s =
       let t = stepT n κ s in
       reported (t .reports)
       (elim (t .machine) [
         | runs n′ κ′ u ↦ runT b (suc k) n′ κ′ u
-        | ended u ↦ traced (ran done (suc k) u) []
-        | stood u ↦ traced (ran halted (suc k) u) []
-        | broke m p u ↦ traced (ran (faulted m p) k u) []
+        | ended u ↦ traced (runWith done (suc k) u) []
+        | stood u ↦ traced (runWith halted (suc k) u) []
+        | broke m p u ↦ traced (runWith (faulted m p) k u) []
       ])
 
   -- the run of the body of a name, with the groups that open where it begins
