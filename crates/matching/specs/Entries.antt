@@ -1,6 +1,8 @@
 -- The lent list of stores, from bytes to entries.
-use Prim.Native.Nat.{ℕ, zero, suc, _/_}
+use Prim.Native.Nat.{ℕ, zero, suc, _/_, _%_}
+use mathlib.Core.Bool.{Bool, _&&_}
 use mathlib.Core.List.{List, [], _∷_}
+use lib.Dec.{eqb, leb}
 use lib.ListN.{length, drop}
 use Rattle.rules.specs.Answers.{littleEndian}
 use Rattle.rules.specs.Stores.{Entry, entry}
@@ -24,3 +26,7 @@ entriesFrom (suc n) b = entryFrom b ∷ entriesFrom n (drop entrySize b)
 -- "the list's length is in entries"
 abbrev pub entriesIn : List ℕ → List Entry
 entriesIn b = entriesFrom (length b / entrySize) b
+
+-- 110 is "for a longer list or one not in whole entries"
+unfoldable pub isList : List ℕ → Bool
+isList b = eqb (length b % entrySize) 0 && leb (length b / entrySize) mostEntries

@@ -7,3 +7,4 @@ pub mod Puts
 pub mod Telling
 pub mod Chains
 pub mod Answering
+pub mod Matched

@@ -2,22 +2,33 @@
 use cells::get16;
 use cells::get64;
 ghost use mathlib.Core.Path.{_≡_};
-ghost use mathlib.Core.Bool.{Bool};
 ghost use Prim.Native.Nat.{_+_, _*_, _<_, _≤_};
 ghost use lib.ListN.{length, getD};
 ghost use Rattle.cells.specs.Cells.{cell};
 ghost use Rattle.rules.specs.Stores.{entry};
 ghost use Rattle.traces.specs.Answers.{sameEntry};
-ghost use Rattle.matching.specs.Entries.{entriesIn};
+ghost use Rattle.matching.specs.Entries.{entriesIn, isList};
 ghost use Rattle.matching.specs.Named.{entryOf};
 
 const ENTRY_SIZE: usize = 16;
+
+const MOST_ENTRIES: usize = 4096;
 
 // A store: the place of the transfer, the word's number in carrier order, and the word's new value.
 pub struct Entry {
     pub place: u32,
     pub word: u32,
     pub value: u64,
+}
+
+// Whether these bytes are a list of whole entries that is not too long; else it is refused with 110.
+pub fn is_list(entries: &[u8]) -> bool
+    ensures { λ r. ⌜ r ≡ isList (now (entries .entry)) ⌝ }
+{
+    if entries.len() % ENTRY_SIZE != 0 {
+        return false;
+    }
+    entries.len() / ENTRY_SIZE <= MOST_ENTRIES
 }
 
 // The number of entries.

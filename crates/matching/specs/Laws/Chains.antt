@@ -1,23 +1,21 @@
 -- The entries of a word, followed from one to the next, and how they are linked.
 -- Assumes nothing.
-use Prim.Native.Nat.{ℕ, zero, suc, _+_, _-_, _*_, _<_, _≤_}
+use Prim.Native.Nat.{ℕ, suc, _+_, _-_, _<_, _≤_}
 use mathlib.Core.Path.{_≡_, refl, sym, _∙_, ap, ap₂}
 use mathlib.Core.Bool.{cond}
 use mathlib.Core.List.{List, [], _∷_, map}
-use mathlib.Core.Option.{Option, none, some}
+use mathlib.Core.Option.{none, some}
 use native.Mathlib.Omega.{arith}
 use native.Mathlib.Decide.{decLt}
-use native.Mathlib.Nat.{zero-add}
 use native.Mathlib.Numerals.{add-one}
 use lib.Dec.{eqb}
 use lib.ListN.{length, getD}
-use borrow.Author.Tests.{eq-eqb, ne-eqb}
 use Rattle.cells.specs.Cells.{cell, putCell}
 use Rattle.rules.specs.Limits.{mostWords}
 use Rattle.rules.specs.Stores.{Entry, entry}
 use Rattle.traces.specs.Marking.{Cells}
 use Rattle.matching.specs.Entries.{mostEntries}
-use Rattle.matching.specs.Room.{roomSize, nextCell, groupsCell, floorCell, badCell, depthCell, firstCell, endless, posOf, leftFrom, groupsIn, matchingIn, wordAt, Next, Reached, Sound, Stands, Linked, Filled}
+use Rattle.matching.specs.Room.{roomSize, nextCell, floorCell, badCell, depthCell, firstCell, endless, posOf, leftFrom, groupsIn, matchingIn, wordAt, Next, Reached, Sound, Stands, Linked, Filled}
 use Rattle.matching.specs.Matching.{untold}
 use Rattle.matching.specs.Seeking.{OfWord, Sought, Reaches, Seeks}
 use Rattle.matching.specs.Laws.Room.{cell-same, cell-other, long-put, pos-at, pos-never, left-frame, groups-frame}

@@ -1,20 +1,20 @@
 -- Entries in bytes, one by one.
 -- Assumes nothing.
-use Prim.Native.Nat.{ℕ, zero, suc, _+_, _*_, _/_, _<_, _≤_}
+use Prim.Native.Nat.{ℕ, zero, suc, _+_, _*_, _/_, _%_, _<_, _≤_}
 use mathlib.Core.Path.{_≡_, refl, sym, _∙_, ap}
-use mathlib.Core.Bool.{false}
-use mathlib.Core.List.{List, [], _∷_}
+use mathlib.Core.Bool.{Bool, true, false, _&&_}
+use mathlib.Core.List.{List}
 use native.Mathlib.Omega.{arith}
-use lib.Dec.{eqb}
+use lib.Dec.{eqb, leb}
 use lib.ListN.{length, getD, drop}
 use lib.Seq.{drop-drop}
-use borrow.Author.Tests.{eq-eqb, ne-eqb}
+use borrow.Author.Tests.{eq-eqb, ne-eqb, leb-true}
 use Rattle.cells.specs.Cells.{leAt, cell}
 use Rattle.starts.specs.Laws.Buffers.{number-at}
 use Rattle.rules.specs.Answers.{littleEndian}
 use Rattle.rules.specs.Stores.{Entry, entry}
 use Rattle.traces.specs.Answers.{sameEntry}
-use Rattle.matching.specs.Entries.{entrySize, entryFrom, entriesFrom, entriesIn}
+use Rattle.matching.specs.Entries.{entrySize, mostEntries, entryFrom, entriesFrom, entriesIn, isList}
 
 pub length-entries : (n : ℕ) (b : List ℕ) → length (entriesFrom n b) ≡ n
 unfolding entriesFrom
@@ -53,6 +53,23 @@ two-halves b i =
     let e : 2 * (2 * i) ≡ 4 * i = omega arith in
     let f : 2 * (2 * i + 1) ≡ 4 * i + 1 + 1 = omega arith in
     rw (e, f) (omega arith)
+
+-- 110, test by test, and what it leaves
+pub not-whole : (b : List ℕ) → (length b % entrySize ≡ 0 → ⊥) → false ≡ isList b
+unfolding isList
+not-whole b h = rw (ne-eqb (length b % entrySize) 0 h) refl
+
+pub count-decides : (b : List ℕ) → length b % entrySize ≡ 0 → leb (length b / entrySize) mostEntries ≡ isList b
+unfolding isList
+count-decides b e = rw (eq-eqb (length b % entrySize) 0 e) refl
+
+pub list-few : (b : List ℕ) → isList b ≡ true → length (entriesIn b) ≤ mostEntries
+unfolding isList
+list-few b e = omega (arith, length-entries (length b / entrySize) b, leb-true (length b / entrySize) mostEntries (and-right (eqb (length b % entrySize) 0) (leb (length b / entrySize) mostEntries) e))
+  where
+    and-right : (x y : Bool) → (x && y) ≡ true → y ≡ true
+    and-right true y e = e
+    and-right false y e = let z : _≡_ {A = ℕ} 0 1 = cc in absurd (omega arith)
 
 -- two entries that differ, and what is left to compare
 module _ (x y : Entry) where

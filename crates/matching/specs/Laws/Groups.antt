@@ -5,7 +5,7 @@ use mathlib.Core.Path.{_≡_, refl, sym, _∙_, ap, ap₂, subst}
 use mathlib.Core.List.{List, [], _∷_, _++_, map}
 use mathlib.Core.Option.{some}
 use lib.ListN.{length}
-use Rattle.rules.specs.Stores.{Entry, TraceVerdict}
+use Rattle.rules.specs.Stores.{Entry}
 use Rattle.traces.specs.Members.{Block}
 use Rattle.traces.specs.Marking.{Pos, at, never, lesser, greaterN, greater, Cells, Marked, put}
 use Rattle.traces.specs.Machine.{Event, stores, opens, turns, closes, Open, begun, turned, State, state, turn, tell, tellAll, answerOf}

@@ -1,20 +1,19 @@
 -- The parts of a transfer told one by one are the transfer told at once; and a part at an entry, by what stands there.
 -- Assumes nothing.
 use Prim.Native.Nat.{ℕ, zero, suc, _≤_, _<_}
-use mathlib.Core.Path.{_≡_, refl, sym, _∙_, ap, ap₂}
+use mathlib.Core.Path.{_≡_, refl, sym, _∙_, ap}
 use mathlib.Core.Bool.{Bool, true, false, cond}
-use mathlib.Core.List.{List, [], _∷_, _++_}
+use mathlib.Core.List.{[], _∷_, _++_}
 use mathlib.Core.Option.{Option, none, some}
 use native.Mathlib.Omega.{arith}
 use lib.Dec.{eqb}
 use lib.ListN.{length, getD, set}
-use borrow.Author.Tests.{eq-eqb, ne-eqb}
 use Rattle.rules.specs.Stores.{Entry}
 use Rattle.traces.specs.Answers.{sameEntry}
 use Rattle.traces.specs.Members.{Block}
 use Rattle.traces.specs.Marking.{Pos, at, never, raise, lower, lesserN, lesser, Cells, Marked, marked, behind, fit, here, put}
 use Rattle.traces.specs.Machine.{stores}
-use Rattle.matching.specs.Matching.{Matching, matching, with, told, fitAt, partAt, toldPart}
+use Rattle.matching.specs.Matching.{Matching, matching, with, told, fitAt, toldPart}
 
 lesserN-assoc : (a b c : ℕ) → lesserN (lesserN a b) c ≡ lesserN a (lesserN b c)
 unfolding lesserN

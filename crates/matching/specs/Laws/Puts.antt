@@ -1,8 +1,8 @@
 -- What becomes of the matching that stands in the memory where one of its numbers is put.
 -- Assumes nothing.
-use Prim.Native.Nat.{ℕ, zero, suc, _+_, _*_, _<_, _≤_}
+use Prim.Native.Nat.{ℕ, _+_, _*_, _<_, _≤_}
 use mathlib.Core.Path.{_≡_, refl, sym, _∙_, ap, ap₂}
-use mathlib.Core.List.{List, [], _∷_}
+use mathlib.Core.List.{List, _∷_}
 use mathlib.Core.Option.{none}
 use native.Mathlib.Omega.{arith}
 use native.Mathlib.Decide.{decLt}
@@ -10,12 +10,11 @@ use native.Mathlib.Nat.{zero-add}
 use native.Mathlib.Numerals.{add-one}
 use lib.ListN.{length, set}
 use Rattle.cells.specs.Cells.{cell, putCell}
-use Rattle.rules.specs.Limits.{mostWords}
 use Rattle.rules.specs.Stores.{Entry}
-use Rattle.traces.specs.Marking.{Pos, at, never, Cells}
+use Rattle.traces.specs.Marking.{Pos, Cells}
 use Rattle.matching.specs.Entries.{mostEntries}
-use Rattle.matching.specs.Matching.{Group, group, Matching, matching}
-use Rattle.matching.specs.Room.{roomSize, nextCell, groupsCell, floorCell, badCell, depthCell, firstCell, mostGroups, posOf, leftFrom, groupsIn, matchingIn, wordAt, Next, Reached, Sound, Stands}
+use Rattle.matching.specs.Matching.{Group, group, matching}
+use Rattle.matching.specs.Room.{nextCell, groupsCell, floorCell, badCell, depthCell, firstCell, mostGroups, posOf, leftFrom, groupsIn, matchingIn, wordAt, Reached, Sound, Stands}
 use Rattle.matching.specs.Laws.Room.{cell-same, cell-other, long-put, left-frame, left-take, length-groups, groups-frame}
 
 pub same-matching : {c c′ : Cells} {f f′ b b′ : Pos} {g g′ : List Group} → c ≡ c′ → f ≡ f′ → b ≡ b′ → g ≡ g′ → matching c f b g ≡ matching c′ f′ b′ g′

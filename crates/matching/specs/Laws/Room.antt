@@ -2,21 +2,21 @@
 -- Assumes nothing.
 use Prim.Native.Nat.{ℕ, zero, suc, _+_, _*_, _<_, _≤_}
 use mathlib.Core.Path.{_≡_, refl, sym, _∙_, ap, ap₂}
-use mathlib.Core.Bool.{Bool, true, false, cond}
-use mathlib.Core.List.{List, [], _∷_, map}
-use mathlib.Core.Option.{Option, none, some}
+use mathlib.Core.Bool.{cond}
+use mathlib.Core.List.{List, [], _∷_}
+use mathlib.Core.Option.{none, some}
 use native.Mathlib.Omega.{arith}
 use native.Mathlib.Decide.{decLt}
 use native.Mathlib.Nat.{add-zero}
-use lib.Dec.{eqb, ltb}
+use lib.Dec.{eqb}
 use lib.ListN.{length, getD, set}
-use borrow.Author.Tests.{lt-ltb, le-ltb, eq-eqb, ne-eqb}
+use borrow.Author.Tests.{lt-ltb, le-ltb}
 use Rattle.cells.specs.Cells.{cell, putCell}
 use Rattle.cells.specs.Laws.{length-put, le-put-same, le-put-below, le-put-above}
 use Rattle.rules.specs.Stores.{Entry, entry}
-use Rattle.traces.specs.Marking.{Pos, at, never, raise, lesserN, lesser, greaterN, greater, Cells, untaken}
-use Rattle.matching.specs.Matching.{Group, group, Matching, matching}
-use Rattle.matching.specs.Room.{roomSize, endless, groupsCell, floorCell, badCell, depthCell, mostGroups, posOf, leftFrom, groupsIn, matchingIn, Sound, Stands}
+use Rattle.traces.specs.Marking.{at, never, lesserN, lesser, greaterN, greater, Cells}
+use Rattle.matching.specs.Matching.{Group, group}
+use Rattle.matching.specs.Room.{endless, groupsCell, posOf, leftFrom, groupsIn}
 
 -- a cell that was put is read back, every other is unchanged
 pub cell-same : (b : List ℕ) (i v : ℕ) → 2 * i + 2 ≤ length b → v < 65536 → cell 2 (putCell 2 b i v) i ≡ v

@@ -1,16 +1,15 @@
 -- A transfer's first part, by where its word is found.
 -- Assumes nothing.
 use Prim.Native.Nat.{ℕ, zero, suc, _≤_, _<_}
-use mathlib.Core.Path.{_≡_, refl, sym, _∙_, ap}
+use mathlib.Core.Path.{_≡_, refl, _∙_, ap}
 use mathlib.Core.Bool.{cond}
-use mathlib.Core.List.{List, [], _∷_}
+use mathlib.Core.List.{[], _∷_}
 use mathlib.Core.Option.{Option, none, some}
 use native.Mathlib.Omega.{arith}
-use lib.Dec.{eqb}
 use lib.ListN.{length, getD}
 use borrow.Author.Tests.{eq-eqb, ne-eqb}
 use Rattle.rules.specs.Stores.{Entry}
-use Rattle.traces.specs.Marking.{Pos, at, never, lower, Cells, Marked, marked, behind, fit, here, put}
+use Rattle.traces.specs.Marking.{Pos, at, never, lower, Cells, marked, behind, fit, here, put}
 use Rattle.matching.specs.Matching.{fitAt}
 use Rattle.matching.specs.Seeking.{OfWord, Sought}
 

@@ -1,29 +1,29 @@
 -- What is told, arm by arm of the code: the numbers that it puts make the matching what the definitions say.
 -- Assumes nothing.
-use Prim.Native.Nat.{ℕ, zero, suc, _+_, _-_, _*_, _<_, _≤_}
+use Prim.Native.Nat.{ℕ, _+_, _*_, _<_, _≤_}
 use mathlib.Core.Path.{_≡_, refl, sym, _∙_, ap, ap₂}
 use mathlib.Core.Bool.{true, false, cond}
 use mathlib.Core.List.{List, [], _∷_}
-use mathlib.Core.Option.{Option, none, some}
+use mathlib.Core.Option.{none, some}
 use native.Mathlib.Omega.{arith}
 use native.Mathlib.Decide.{decLt}
 use native.Mathlib.Nat.{zero-add}
 use native.Mathlib.Numerals.{add-one}
 use lib.Dec.{eqb}
-use lib.ListN.{length, getD, set}
+use lib.ListN.{length, getD}
 use borrow.Author.Tests.{eq-eqb, ne-eqb}
 use Rattle.cells.specs.Cells.{cell, putCell}
 use Rattle.rules.specs.Stores.{Entry, entry}
 use Rattle.traces.specs.Answers.{sameEntry}
-use Rattle.traces.specs.Marking.{Pos, at, never, lesser, greater, Cells, Marked, marked, put}
+use Rattle.traces.specs.Marking.{Pos, at, lesser, greater}
 use Rattle.traces.specs.Machine.{stores, opens, turns, closes}
-use Rattle.matching.specs.Matching.{Group, group, Matching, matching, turned, closed, with, told, fitAt, partAt, missed, spoilt, toldPart}
+use Rattle.matching.specs.Matching.{group, Matching, matching, turned, closed, with, told, partAt, missed, spoilt, toldPart}
 use Rattle.matching.specs.Room.{endless, mostGroups, groupsCell, floorCell, badCell, depthCell, posOf, groupsIn, matchingIn, Sound, Stands}
 use Rattle.matching.specs.Seeking.{Seeks}
 use Rattle.matching.specs.Laws.Parts.{never-lesser, fit-past, fit-taken, fit-other, fit-same}
 use Rattle.matching.specs.Laws.Seeking.{Early, InTime, put-missing, put-early, put-in-time}
 use Rattle.matching.specs.Laws.Room.{cell-same, cell-other, pos-at, pos-never, length-left, left-at, groups-frame}
-use Rattle.matching.specs.Laws.Puts.{same-matching, floor-put, bad-put, spare-put, depth-is, pushed, top-is, popped, most-put, taken-put}
+use Rattle.matching.specs.Laws.Puts.{same-matching, floor-put, bad-put, spare-put, pushed, top-is, popped, most-put, taken-put}
 
 stands-as : {l : List Entry} {a : List ℕ} {y z : Matching} → Stands l a y → y ≡ z → Stands l a z
 stands-as v e = record { sound = v .sound; is = v .is ∙ e }

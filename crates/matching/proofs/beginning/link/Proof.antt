@@ -2,7 +2,6 @@
 -- Assumes nothing.
 use borrow.Author.Needs.{needs}
 use native.Mathlib.Omega.{arith}
-use Rattle.matching.specs.Named.{entryOf}
 use Rattle.matching.specs.Laws.Chains.{unlinked, linked}
 use Rattle.matching.proofs.beginning.link.Statement.{statement}
 use Rattle.matching.proofs.beginning.link.Tie as tie
