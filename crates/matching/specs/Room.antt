@@ -44,6 +44,7 @@ depthCell = 9218
 abbrev pub firstCell : ℕ
 firstCell = 10240
 
+-- a number in the memory as a position
 unfoldable pub posOf : ℕ → Pos
 posOf n = cond (ltb n endless) (at n) never
 
@@ -57,10 +58,12 @@ unfoldable pub groupsIn : List ℕ → ℕ → List Group
 groupsIn room zero = []
 groupsIn room (suc d) = group (posOf (cell 2 room (groupsCell + 2 * d))) (posOf (cell 2 room (groupsCell + 2 * d + 1))) ∷ groupsIn room d
 
+-- all of it
 unfoldable pub matchingIn : List Entry → List ℕ → Matching
 matchingIn l room =
     matching (leftFrom room 0 l) (posOf (cell 2 room floorCell)) (posOf (cell 2 room badCell)) (groupsIn room (cell 2 room depthCell))
 
+-- the word of the entry k
 abbrev pub wordAt : List Entry → ℕ → ℕ
 wordAt l k = getD l k (entry 0 0 0) .word
 
@@ -99,7 +102,7 @@ pub record Linked (l : List Entry) (room : List ℕ) (i : ℕ) : Type 0 where
   pub next : (k : ℕ) → i ≤ k → k < length l → wordAt l k < mostWords → Next l (wordAt l k) (suc k) (cell 2 room (nextCell + k))
   pub first : (w : ℕ) → w < mostWords → Next l w i (cell 2 room (firstCell + w))
 
--- no word has an entry
+-- so many words have v as their first entry, and the memory is as long as it was
 pub record Filled (before after : List ℕ) (v words : ℕ) : Type 0 where
   pub long : length after ≡ length before
   pub each : (w : ℕ) → w < words → cell 2 after (firstCell + w) ≡ v

@@ -118,7 +118,7 @@ module _ {l : List Entry} {b : List ℕ} (s : Sound l b) where
   -- one more group is open, of the numbers that stand there
   pub pushed : (d : ℕ) → d ≡ cell 2 b depthCell → d < mostGroups
       → Stands l (putCell 2 b depthCell (d + 1))
-          (let z = matchingIn l b in matching (z .cells) (z .floor) (z .bad) (group (posOf (cell 2 b (groupsCell + 2 * d))) (posOf (cell 2 b (groupsCell + 2 * d + 1))) ∷ z .groups))
+      (let z = matchingIn l b in matching (z .cells) (z .floor) (z .bad) (group (posOf (cell 2 b (groupsCell + 2 * d))) (posOf (cell 2 b (groupsCell + 2 * d + 1))) ∷ z .groups))
   unfolding groupsIn matchingIn
   pushed d e h =
       let v = depth-put (d + 1) (omega arith) in
@@ -138,7 +138,7 @@ module _ {l : List Entry} {b : List ℕ} (s : Sound l b) where
 
     pub most-put : (v : ℕ) → v < 65536
         → Stands l (putCell 2 b (groupsCell + 2 * d + 1) v)
-            (let z = matchingIn l b in matching (z .cells) (z .floor) (z .bad) (group (posOf (cell 2 b (groupsCell + 2 * d))) (posOf v) ∷ groupsIn b d))
+        (let z = matchingIn l b in matching (z .cells) (z .floor) (z .bad) (group (posOf (cell 2 b (groupsCell + 2 * d))) (posOf v) ∷ groupsIn b d))
     unfolding groupsIn matchingIn
     most-put v h =
         let i = groupsCell + 2 * d + 1 in

@@ -20,7 +20,7 @@ returns-2 c =
     let t = c .before .before .before .before .before .before .before .before .before in
     ap upTo (c .count .ensures)
     ∙ says-missing (entriesIn (t .args .entries .now)) (t .args .room .now) (c .before .before .before .before .before .first-left .result) (c .before .before .before .before .lesser .result) (c .before .before .before .before .before .before .get16 .ensures) (c .before .before .before .before .before .first-left .ensures) (c .before .before .before .before .lesser .ensures)
-    (c .before .before .get162 .ensures) (length (entriesIn (t .args .entries .now))) (omega arith) (c .before .if2 .taken)
+    (c .before .before .get162 .ensures) (length (entriesIn (t .args .entries .now))) (omega arith) (omega arith)
 
 returns-3 : tie.Need-returns-3
 returns-3 c =
