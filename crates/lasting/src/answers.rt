@@ -53,6 +53,6 @@ pub fn bounded(text: &[u8], a: &mut [u8], b: &mut [u8], c: &mut [u8]) -> Answer
     let mut decls: [u8; 512] = [0; 512];
     match reader::check(text, a, b, c, &mut decls) {
         Verdict::Refused(number, place) => refusal(text, number, place),
-        Verdict::Accepted(m, _, n) => count_answer(longest(a, &decls, b, m, n)),
+        Verdict::Accepted(m, _, n) => count_answer(longest(a, &decls, c, m, n)),
     }
 }
