@@ -1,0 +1,4 @@
+pub mod Chains
+pub mod Races
+pub mod Refused
+pub mod Unique
