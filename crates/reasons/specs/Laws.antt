@@ -1,4 +1,9 @@
+pub mod Activations
+pub mod Below
 pub mod Chains
+pub mod Fifties
 pub mod Races
 pub mod Refused
+pub mod Scanned
 pub mod Unique
+pub mod Whole
