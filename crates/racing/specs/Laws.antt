@@ -1,0 +1,4 @@
+pub mod Alike
+pub mod Bridge
+pub mod Groups
+pub mod Members

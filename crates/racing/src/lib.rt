@@ -1,0 +1,3 @@
+// The race that 53 stands for: two members, and what they share.
+pub mod groups;
+pub mod members;

@@ -1,0 +1,126 @@
+// The members of a group, one after the other.
+use gathering::memory::Touched;
+use gathering::touches::touched;
+use reading::bits::meets;
+use reading::bits::union;
+use reading::kinds::end_of;
+use reading::kinds::kind_of;
+use table::kinds::SEMI;
+use table::records::place_at;
+ghost use mathlib.Core.Path.{_≡_};
+ghost use Prim.Native.Nat.{_*_, _≤_};
+ghost use lib.ListN.{length, drop};
+ghost use Rattle.rules.specs.Whole.Sets.{Sets, race};
+ghost use Rattle.reading.specs.Reading.{Reading};
+ghost use Rattle.reading.specs.Groups.{placeOf};
+ghost use Rattle.gathering.specs.Filling.{Complete};
+ghost use Rattle.whole.specs.GroupKeys.{Holding};
+ghost use Rattle.racing.specs.Found.{Leads, Chooses, RacesAt, InGroup};
+
+// Two members by their tokens. Where the later one is not behind the earlier one there are none.
+pub struct Pair {
+    pub earlier: usize,
+    pub later: usize,
+}
+
+// Whether two actions race: one writes what the other reads or writes.
+fn races(u: Touched, t: Touched) -> bool
+    ensures { λ r. ⌜ ((a b : Sets) → Holding (u .reads .w) (u .writes .w) a → Holding (t .reads .w) (t .writes .w) b → r ≡ race a b) ⌝ }
+{
+    let r = u.reads;
+    let w = u.writes;
+    let s = t.reads;
+    let v = t.writes;
+    let all = union(r, w);
+    if meets(w, union(s, v)) {
+        return true;
+    }
+    meets(v, all)
+}
+
+// The place of the token i, of n.
+fn place_of(records: &[u8], decls: &[u8], m: usize, n: usize, i: usize) -> usize
+    requires { ⌜ Reading (now records) (now decls) m n ⌝ }
+    ensures { λ r. ⌜ (r ≤ 32768) × ((v : Reading (now (records .entry)) (now (decls .entry)) m n) → r ≡ placeOf (drop i (v .tokens))) ⌝ }
+{
+    if i < n {
+        return place_at(records, i);
+    }
+    0
+}
+
+// The earliest member from the token from on that races with the one at later, or later.
+fn earliest(
+    records: &[u8],
+    decls: &[u8],
+    memo: &[u8],
+    m: usize,
+    n: usize,
+    from: usize,
+    later: usize,
+) -> usize
+    requires { ⌜ Leads (now records) (now decls) m n from later × ((72 * m ≤ length (now memo)) × Complete (now records) (now decls) (now memo) m n) ⌝ }
+    ensures { λ r. ⌜ Chooses (now (records .entry)) (now (decls .entry)) m n from later r ⌝ }
+{
+    let own = touched(records, decls, memo, m, n, later);
+    let mut i = from;
+    while i < later {
+        let at = i;
+        if races(touched(records, decls, memo, m, n, at), own) {
+            return at;
+        }
+        i = end_of(records, n, at) + 1;
+    }
+    later
+}
+
+// The same, if the one at later stands at the place.
+fn earlier_at(
+    records: &[u8],
+    decls: &[u8],
+    memo: &[u8],
+    m: usize,
+    n: usize,
+    from: usize,
+    later: usize,
+    place: usize,
+) -> usize
+    requires { ⌜ Leads (now records) (now decls) m n from later × ((72 * m ≤ length (now memo)) × Complete (now records) (now decls) (now memo) m n) ⌝ }
+    ensures { λ r. ⌜ RacesAt (now (records .entry)) (now (decls .entry)) m n from later place r ⌝ }
+{
+    if place_of(records, decls, m, n, later) != place {
+        return later;
+    }
+    earliest(records, decls, memo, m, n, from, later)
+}
+
+// The race of the member at the place in the group that begins at from.
+pub fn race_in(
+    records: &[u8],
+    decls: &[u8],
+    memo: &[u8],
+    m: usize,
+    n: usize,
+    from: usize,
+    place: usize,
+) -> Pair
+    requires { ⌜ Reading (now records) (now decls) m n × ((72 * m ≤ length (now memo)) × Complete (now records) (now decls) (now memo) m n) ⌝ }
+    ensures { λ r. ⌜ InGroup (now (records .entry)) (now (decls .entry)) m n from place (r .earlier) (r .later) ⌝ }
+{
+    let mut i = from;
+    loop {
+        let at = i;
+        let earlier = earlier_at(records, decls, memo, m, n, from, at, place);
+        if earlier < at {
+            return Pair { earlier, later: at };
+        }
+        let end = end_of(records, n, at);
+        if kind_of(records, n, end) != SEMI {
+            return Pair {
+                earlier: 0,
+                later: 0,
+            };
+        }
+        i = end + 1;
+    }
+}
