@@ -57,5 +57,5 @@ InGroup records decls m n from place earlier later =
     FoundIn records decls m n earlier later (λ v. raceFrom place [] (groupHere (tableOf v) (drop from (v .tokens))))
 
 -- among all groups from the token i on
-abbrev pub InTokens : (records decls : List ℕ) (m n i place earlier later : ℕ) → Type 0
-InTokens records decls m n i place earlier later = FoundIn records decls m n earlier later (λ v. raceHere (tableOf v) place (drop i (v .tokens)))
+pub record InTokens (records decls : List ℕ) (m n i place earlier later : ℕ) : Type 0 where
+  pub found : FoundIn records decls m n earlier later (λ v. raceHere (tableOf v) place (drop i (v .tokens)))

@@ -2,3 +2,5 @@ pub mod Alike
 pub mod Bridge
 pub mod Groups
 pub mod Members
+pub mod Shared
+pub mod Told

@@ -1,3 +1,5 @@
 pub mod Found
 pub mod Groups
 pub mod Laws
+pub mod Shared
+pub mod Told

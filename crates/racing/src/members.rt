@@ -39,7 +39,7 @@ fn races(u: Touched, t: Touched) -> bool
 }
 
 // The place of the token i, of n.
-fn place_of(records: &[u8], decls: &[u8], m: usize, n: usize, i: usize) -> usize
+pub fn place_of(records: &[u8], decls: &[u8], m: usize, n: usize, i: usize) -> usize
     requires { ⌜ Reading (now records) (now decls) m n ⌝ }
     ensures { λ r. ⌜ (r ≤ 32768) × ((v : Reading (now (records .entry)) (now (decls .entry)) m n) → r ≡ placeOf (drop i (v .tokens))) ⌝ }
 {

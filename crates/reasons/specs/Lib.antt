@@ -1,3 +1,4 @@
+pub mod Claims
 pub mod Laws
 pub mod Reasons
 pub mod Why

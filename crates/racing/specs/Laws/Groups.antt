@@ -28,8 +28,7 @@ module _ {records decls memo : List ℕ} {m n place i : ℕ} (inv : Looking reco
   pub look-over : n ≤ i → InTokens records decls m n 3 place 0 0
   unfolding raceHere groupsHere raceAmong
   look-over h = record {
-    one = λ q v. absurd (omega arith);
-    nothing = λ q v. inv .so-far v ∙ ap (raceHere (tableOf v) place) (no-more (kinded v) i h);
+    found = record { one = λ q v. absurd (omega arith); nothing = λ q v. inv .so-far v ∙ ap (raceHere (tableOf v) place) (no-more (kinded v) i h) };
   }
 
   module _ (h : i < n) {kind : ℕ} (k : kind ≡ kindByte records i) {b : Bool} (o : b ≡ opens kind) where
@@ -52,8 +51,10 @@ module _ {records decls memo : List ℕ} {m n place i : ℕ} (inv : Looking reco
     module _ (t : b ≡ true) {e l : ℕ} (g : InGroup records decls m n (i + 1) place e l) where
       pub look-found : e < l → InTokens records decls m n 3 place e l
       look-found q = record {
-        one = λ z v. at-group t v ∙ ap (λ (x : Option Race). firstRace x (raceHere (tableOf v) place (drop (i + 1) (v .tokens)))) (g .one q v);
-        nothing = λ z v. absurd (omega arith);
+        found = record {
+          one = λ z v. at-group t v ∙ ap (λ (x : Option Race). firstRace x (raceHere (tableOf v) place (drop (i + 1) (v .tokens)))) (g .one q v);
+          nothing = λ z v. absurd (omega arith);
+        };
       }
 
       pub look-past : l ≤ e → Looking records decls memo m n place (i + 1)

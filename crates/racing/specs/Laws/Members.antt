@@ -126,8 +126,7 @@ module _ {records decls memo : List ℕ} {m n from later : ℕ} {r w : List ℕ}
         so-far = λ v xs p.
             let y = inv .so-far v xs p in
             let s = step (tableOf v) (v .tokens) h (y .1) in
-            let q = same-end (tableOf v) (v .tokens) (s .end) e (s .short) (ends (kinded v) ∙ sym (s .ends)) in
-            (
+            let q = same-end (tableOf v) (v .tokens) (s .end) e (s .short) (ends (kinded v) ∙ sym (s .ends)) in (
               s .rest,
               subst (λ (z : ℕ). PathTo v (z + 1) later (s .rest)) (sym q) (s .path),
               y .2 ∙ (ap (earliest (memberAt v later)) (s .is) ∙ rw (races-is v ∙ f, earliest) refl),
@@ -215,8 +214,7 @@ module _ {records decls memo : List ℕ} {m n from place i : ℕ} (inv : Searchi
         so-far = λ v.
             let y = inv .so-far v in
             let inside = end-inside e (kinded v) kind s in
-            let semi = sym (kind (kinded v)) ∙ s in
-            (
+            let semi = sym (kind (kinded v)) ∙ s in (
               y .0 ++ (memberAt v i ∷ []),
               longer (tableOf v) (v .tokens) e l (omega (arith, inside, v .count)) (ends (kinded v)) semi (y .1),
               left v ∙ ap (raceFrom place (y .0 ++ (memberAt v i ∷ []))) (semi-onward (tableOf v) (drop e (v .tokens)) (drop (e + 1) (v .tokens)) (next-token (kinded v) e inside) semi),

@@ -18,7 +18,7 @@ use Rattle.rules.specs.Selectors.{Item, between, selectorItems}
 use Rattle.rules.specs.Declarations.{Name, Names, BitNames, Declared, Table, numberOf, namesOf, wordsOf, reach}
 use Rattle.rules.specs.Faults.Fault.{Fault, fault, when}
 use Rattle.rules.specs.Faults.Declared.{isKnown, twice, largeBits, largeWords, large, tooMany, inside, badMapping, mappings, faults30, declaredAt}
-use Rattle.rules.specs.Faults.Bodies.{Judged, judged, isSound, over, subscripted, undeclared, bitsJudged, accessJudged, judgeName, judgeAccess, judge, judgeFactor, judgeIndex, faultsIn, judgeDestination, judgeJoined}
+use Rattle.rules.specs.Faults.Bodies.{Judged, judgedAs, isSound, over, subscripted, undeclared, bitsJudged, accessJudged, judgeName, judgeAccess, judge, judgeFactor, judgeIndex, faultsIn, judgeDestination, judgeJoined}
 use Rattle.rules.specs.Faults.Bodies.{ownerOf, ownedTwice, storedTwice, activated, past, someMeet, selectorPlace, firstPlace, alternative, countedFaults, selectedFaults, moreFaults, alternativesFaults, labels, labelFaults}
 use Rattle.rules.specs.Faults.Bodies.{actionFaults, membersFaults, insideFaults, insideCounted, insideSelected, insideMore, declaredNames, bodyFaults, faults40}
 use Rattle.reasons.specs.Laws.Refused.{Among}
@@ -137,7 +137,7 @@ module _ (outer : Name) (ds : Table) where
       let k = judgeDestination outer ds n s b in
       let sum = j .bits + k .bits in
       let so-far = over (j .faults ++ k .faults) sum (a .place) in
-      joined-under (judged so-far sum) more (over-under (j .faults ++ k .faults) sum (a .place) (both h (factor-under (cell n (indexOf s) b))))
+      joined-under (judgedAs so-far sum) more (over-under (j .faults ++ k .faults) sum (a .place) (both h (factor-under (cell n (indexOf s) b))))
 
   stored-under : (so-far : List ℕ) (j : Joined) → Under (storedTwice outer ds so-far j)
   unfolding storedTwice

@@ -74,9 +74,9 @@ module _ (ds : Table) where
   begins (suc k) listed b = by (member b listed)
     where
       by : (o : Bool) → Begins b (elim o [
-            | true ↦ b ∷ []
-            | false ↦ b ∷ elim (firstOver ds k (callsIn (bodyOfNumber ds b))) [ none ↦ [] | some c ↦ chainBehind ds k (b ∷ listed) c ]
-          ])
+        | true ↦ b ∷ []
+        | false ↦ b ∷ elim (firstOver ds k (callsIn (bodyOfNumber ds b))) [ none ↦ [] | some c ↦ chainBehind ds k (b ∷ listed) c ]
+      ])
       by true = record { rest = []; is = refl }
       by false = record { rest = _; is = refl }
 
@@ -97,9 +97,9 @@ module _ (ds : Table) where
           joined b c (chainBehind ds k (b ∷ listed) c) (record { number = f .number; name = f .name; called = f .there; is = f .is }) (begins k (b ∷ listed) c) (rest c)
 
       by : (o : Bool) → ((c : ℕ) → Linked ds (chainBehind ds k (b ∷ listed) c)) → Linked ds (elim o [
-            | true ↦ b ∷ []
-            | false ↦ b ∷ elim (firstOver ds k (callsIn (bodyOfNumber ds b))) [ none ↦ [] | some c ↦ chainBehind ds k (b ∷ listed) c ]
-          ])
+        | true ↦ b ∷ []
+        | false ↦ b ∷ elim (firstOver ds k (callsIn (bodyOfNumber ds b))) [ none ↦ [] | some c ↦ chainBehind ds k (b ∷ listed) c ]
+      ])
       by true rest = tt
       by false rest = on (firstOver ds k (callsIn (bodyOfNumber ds b))) refl rest
 

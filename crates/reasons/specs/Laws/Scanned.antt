@@ -7,21 +7,21 @@ use native.Mathlib.Omega.{arith}
 use lib.Dec.{leb, ltb}
 use lib.ListN.{length}
 use Rattle.rules.specs.Limits.{longestName}
-use Rattle.rules.specs.Text.Bytes.{Class, classOf, run, fold, inName, inConstant}
+use Rattle.rules.specs.Text.Bytes.{Class, classOf, leading, fold, inName, inConstant}
 use Rattle.rules.specs.Text.Bytes.{forbidden, blank, exclamation, letter, digit, dot, prefix, query, mark, other}
 use Rattle.rules.specs.Text.Tokens.{Kind, Const, Token, tk, Spelling, keywords, marks}
 use Rattle.rules.specs.Text.Constants.{Constant, malformed, constant, isQuery, any, digitBits, decimal, based}
-use Rattle.rules.specs.Text.Scan.{Lexeme, nothing, token, refused, wordKind, markAt, wordInfo, wordLexeme, constantLexeme, maskedKind, markLexeme, lexemeBy, lexeme}
-use Rattle.rules.specs.Text.Scan.{End, fine, refuse, Scan, ended, after, scanFrom, scan}
+use Rattle.rules.specs.Text.Scan.{Lexeme, no-lexeme, token, bad-lexeme, wordKind, markAt, wordInfo, wordLexeme, constantLexeme, maskedKind, markLexeme, lexemeBy, lexeme}
+use Rattle.rules.specs.Text.Scan.{End, fine, refuse, Scan, scanEnd, followed, scanFrom, scan}
 
 abbrev pub Below20 : End → Type 0
 Below20 fine = Unit {0}
 Below20 (refuse m p) = m < 20
 
 abbrev LexemeBelow20 : Lexeme → Type 0
-LexemeBelow20 (nothing n) = Unit {0}
+LexemeBelow20 (no-lexeme n) = Unit {0}
 LexemeBelow20 (token n t) = Unit {0}
-LexemeBelow20 (refused m) = m < 20
+LexemeBelow20 (bad-lexeme m) = m < 20
 
 word-below : (p : ℕ) (bs : List ℕ) → LexemeBelow20 (wordLexeme p bs)
 unfolding wordLexeme
@@ -29,7 +29,7 @@ word-below p bs = by (leb (length bs) longestName)
   where
     by :
         (b : Bool)
-        → LexemeBelow20 (elim b [ true ↦ token (length bs - 1) (tk (wordKind keywords (map fold bs)) (wordInfo p (map fold bs))) | false ↦ refused 11 ])
+        → LexemeBelow20 (elim b [ true ↦ token (length bs - 1) (tk (wordKind keywords (map fold bs)) (wordInfo p (map fold bs))) | false ↦ bad-lexeme 11 ])
     by true = tt
     by false = omega arith
 
@@ -48,10 +48,10 @@ unfolding lexemeBy
 lexeme-below forbidden p b bs = omega arith
 lexeme-below blank p b bs = tt
 lexeme-below exclamation p b bs = tt
-lexeme-below letter p b bs = word-below p (run inName (b ∷ bs))
-lexeme-below digit p b bs = constant-below p (length (run inConstant bs)) Const (decimal (run inConstant (b ∷ bs)))
+lexeme-below letter p b bs = word-below p (leading inName (b ∷ bs))
+lexeme-below digit p b bs = constant-below p (length (leading inConstant bs)) Const (decimal (leading inConstant (b ∷ bs)))
 lexeme-below dot p b bs = omega arith
-lexeme-below prefix p b bs = let ds = run inConstant bs in constant-below p (length ds) (maskedKind (any isQuery ds)) (based (digitBits b) ds)
+lexeme-below prefix p b bs = let ds = leading inConstant bs in constant-below p (length ds) (maskedKind (any isQuery ds)) (based (digitBits b) ds)
 lexeme-below query p b bs = omega arith
 lexeme-below mark p b bs = mark-below p (markAt marks (b ∷ bs))
 lexeme-below other p b bs = omega arith
@@ -64,7 +64,7 @@ scan-below (b ∷ bs) p k zero = by (lexeme p b bs) (lexeme-below (classOf b) p 
   where
     taken :
         (c : Bool) (n : ℕ) (t : Token) → Below20 (scanFrom (p + 1) (k - 1) n bs .end)
-        → Below20 ((elim c as (λ x. Scan) [ true ↦ after t (scanFrom (p + 1) (k - 1) n bs) | false ↦ ended (refuse 13 p) ]) .end)
+        → Below20 ((elim c as (λ x. Scan) [ true ↦ followed t (scanFrom (p + 1) (k - 1) n bs) | false ↦ scanEnd (refuse 13 p) ]) .end)
     taken true n t r = r
     taken false n t r = omega arith
 
@@ -72,13 +72,13 @@ scan-below (b ∷ bs) p k zero = by (lexeme p b bs) (lexeme-below (classOf b) p 
         (l : Lexeme) → LexemeBelow20 l → ((k n : ℕ) → Below20 (scanFrom (p + 1) k n bs .end))
         → Below20 (
         (elim l as (λ x. Scan) [
-          | nothing n ↦ scanFrom (p + 1) k n bs
-          | token n t ↦ elim (ltb 0 k) [ true ↦ after t (scanFrom (p + 1) (k - 1) n bs) | false ↦ ended (refuse 13 p) ]
-          | refused m ↦ ended (refuse m p)
+          | no-lexeme n ↦ scanFrom (p + 1) k n bs
+          | token n t ↦ elim (ltb 0 k) [ true ↦ followed t (scanFrom (p + 1) (k - 1) n bs) | false ↦ scanEnd (refuse 13 p) ]
+          | bad-lexeme m ↦ scanEnd (refuse m p)
         ]) .end)
-    by (nothing n) q r = r k n
+    by (no-lexeme n) q r = r k n
     by (token n t) q r = taken (ltb 0 k) n t (r (k - 1) n)
-    by (refused m) q r = q
+    by (bad-lexeme m) q r = q
 
 pub scanned-below : (text : List ℕ) → Below20 (scan text .end)
 unfolding scan
