@@ -19,8 +19,9 @@ use Rattle.rules.specs.Declarations.{Name, Names, BitNames, Declared, Table, nu
 use Rattle.rules.specs.Faults.Fault.{Fault, fault, when}
 use Rattle.rules.specs.Faults.Declared.{isKnown, twice, largeBits, largeWords, large, tooMany, inside, badMapping, mappings, faults30, declaredAt}
 use Rattle.rules.specs.Faults.Bodies.{Judged, judgedAs, isSound, over, subscripted, undeclared, bitsJudged, accessJudged, judgeName, judgeAccess, judge, judgeFactor, judgeIndex, faultsIn, judgeDestination, judgeJoined}
-use Rattle.rules.specs.Faults.Bodies.{ownerOf, ownedTwice, storedTwice, activated, past, someMeet, selectorPlace, firstPlace, alternative, countedFaults, selectedFaults, moreFaults, alternativesFaults, labels, labelFaults}
+use Rattle.rules.specs.Faults.Bodies.{ownedTwice, storedTwice, activated, past, someMeet, selectorPlace, firstPlace, alternative, countedFaults, selectedFaults, moreFaults, alternativesFaults, labels, labelFaults}
 use Rattle.rules.specs.Faults.Bodies.{actionFaults, membersFaults, insideFaults, insideCounted, insideSelected, insideMore, declaredNames, bodyFaults, faults40}
+use Rattle.rules.specs.Whole.Sets.{ownerIn}
 use Rattle.reasons.specs.Laws.Refused.{Among}
 
 abbrev Each : List Fault → Type 0
@@ -143,7 +144,7 @@ module _ (outer : Name) (ds : Table) where
   unfolding storedTwice
   stored-under so-far alone = none-of
   stored-under so-far (joined a n s b more) =
-      let o = ownerOf outer ds (reach ds (n .word)) in
+      let o = ownerIn (reach ds (n .word)) in
       both (tested (ownedTwice outer ds so-far o) 46 (n .place) (omega arith)) (stored-under (o ++ so-far) more)
 
   activated-under : (n : Info) (o : Option Declared) → Under (activated outer ds n o)
@@ -201,7 +202,7 @@ module _ (outer : Name) (ds : Table) where
     action-under ls (no-op i l r) = none-of
     action-under ls (transfer n s b j e o t) =
         both (joined-under outer ds (judgeDestination outer ds n s b) j (factor-under outer ds (cell n (indexOf s) b)))
-        (both (stored-under outer ds (ownerOf outer ds (reach ds (n .word))) j) (in-under outer ds o t))
+        (both (stored-under outer ds (ownerIn (reach ds (n .word))) j) (in-under outer ds o t))
 
     members-under : (ls : List Name) (m : Members) → Under (membersFaults outer ds ls m)
     members-under ls (end e) = none-of
