@@ -65,7 +65,7 @@ pub data Keeps (text : List ℕ) (call : Table → Kept) : Kept → Type 0 where
   not-accepted : {m p : ℕ} → Checks text (refused m p) → Keeps text call (declined m p)
   kept-by : {n w : ℕ} (d : Description) → flatten d ≡ scan text .tokens → Checks text (accepted n w) → Keeps text call (call (declarations d))
 
--- "a declined changes neither buffer"
+-- "a refusal changes neither buffer"
 abbrev pub keptIn : List ℕ → Kept → List ℕ
 keptIn target (declined m p) = target
 keptIn target (kept bytes) = bytes
