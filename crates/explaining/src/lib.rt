@@ -1,0 +1,3 @@
+// Why a text is refused: what stands behind its number.
+pub mod races;
+pub mod rereading;
