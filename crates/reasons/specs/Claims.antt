@@ -1,7 +1,7 @@
 -- WHAT IS CLAIMED OF REASONS, for every call that `WhyCall` (Why.antt) allows. All other words are those of the crate `rules`, of Reasons.antt, and of the records
 -- `RaceTrue` (Laws/Races.antt) and `ChainTrue` (Laws/Chains.antt), which say of the text what its reason says.
-use Prim.Native.Nat.{ℕ, _<_, _≤_}
-use mathlib.Core.Path.{_≡_, refl, sym, ap, _∙_, subst}
+use Prim.Native.Nat.{ℕ, _≤_}
+use mathlib.Core.Path.{_≡_, sym, ap, _∙_, subst}
 use mathlib.Core.List.{List}
 use native.Mathlib.Omega.{arith}
 use lib.ListN.{length}
@@ -15,7 +15,7 @@ use Rattle.rules.specs.Calls.Check.{verdictNumber}
 use Rattle.reasons.specs.Reasons.{Reason, nothing, racing, chained, Explains, plain, by-race, by-chain}
 use Rattle.reasons.specs.Why.{WhyMemory, WhyCall, short-memory, long-text, answer, reasoned}
 use Rattle.reasons.specs.Laws.Unique.{one-why, race-only, chain-only}
-use Rattle.reasons.specs.Laws.Whole.{WholeRefused, whole-refused}
+use Rattle.reasons.specs.Laws.Whole.{whole-refused}
 use Rattle.reasons.specs.Laws.Races.{RaceTrue, race-true}
 use Rattle.reasons.specs.Laws.Refused.{race-named}
 use Rattle.reasons.specs.Laws.Chains.{ChainTrue, chain-named}

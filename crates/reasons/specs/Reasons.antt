@@ -6,12 +6,12 @@ use mathlib.Core.Bool.{Bool, true, false, _&&_, _||_}
 use mathlib.Core.List.{List, [], _∷_, _++_}
 use mathlib.Core.Option.{Option, none, some}
 use lib.Dec.{eqb}
-use lib.ListN.{length, getElem?}
+use lib.ListN.{getElem?}
 use Rattle.rules.specs.Limits.{longestChain}
 use Rattle.rules.specs.Text.Scan.{scan}
 use Rattle.rules.specs.Grammar.Trees.{Description, flatten, Action, block, labelled, if-then, decode, repeat, leave, restart, activate, stop, no-op, transfer, Members, end, also, next}
 use Rattle.rules.specs.Grammar.Trees.{Alternatives, counted, selected, Counted, counted-end, counted-more, Selected, select, otherwise, SelectedMore, selected-end, selected-more}
-use Rattle.rules.specs.Declarations.{Name, Declared, Table, declarations, numberOf, bodyNumber}
+use Rattle.rules.specs.Declarations.{Name, Table, declarations, numberOf, bodyNumber}
 use Rattle.rules.specs.Steps.Actions.{Act, actOf}
 use Rattle.rules.specs.Steps.Runs.{actOr}
 use Rattle.rules.specs.Whole.Sets.{Sets, touched, race, member, callsIn, chainOver}

@@ -1,19 +1,18 @@
 -- Laws of reading a sound text again, and of the race that it is refused for.
 use Prim.Native.Nat.{ℕ, _+_, _*_, _<_, _≤_, min}
-use mathlib.Core.Path.{_≡_, refl, sym, ap, _∙_, subst}
+use mathlib.Core.Path.{_≡_, refl, sym, ap, _∙_}
 use mathlib.Core.Bool.{false}
-use mathlib.Core.List.{List, [], _∷_}
-use mathlib.Core.Option.{Option, none, some, Option·none-ne-some}
+use mathlib.Core.List.{List}
+use mathlib.Core.Option.{Option, Option·none-ne-some}
 use native.Mathlib.Decide.{decLt}
 use native.Mathlib.Omega.{arith}
 use lib.ListN.{length}
 use Rattle.rules.specs.Limits.{longestText, deepest, longestChain}
-use Rattle.rules.specs.Text.Scan.{scan, Scan, End, fine, refuse}
+use Rattle.rules.specs.Text.Scan.{scan}
 use Rattle.rules.specs.Grammar.Trees.{Description, flatten}
-use Rattle.rules.specs.Declarations.{Name, declarations, outerName}
+use Rattle.rules.specs.Declarations.{Name, declarations}
 use Rattle.rules.specs.Whole.Sets.{chainOver}
-use Rattle.rules.specs.Faults.Fault.{Fault, fault, byPlace, byNumber, least}
-use Rattle.rules.specs.Faults.Declared.{faults30}
+use Rattle.rules.specs.Faults.Fault.{fault, byPlace, byNumber, least}
 use Rattle.rules.specs.Faults.Whole.{mains, chains, faults50}
 use Rattle.rules.specs.Answers.{refused, Checks}
 use Rattle.laws_grammar.specs.Cited.Nesting.{nest}
@@ -30,15 +29,15 @@ use Rattle.declare.specs.Told.{Told}
 use Rattle.declare.specs.declared.Declared.{Declared}
 use Rattle.declare.specs.declared.Declared.the-variants.{Fine as DeclaredFine, Refused as DeclaredRefused}
 use Rattle.reading.specs.Reading.{Reading, tableOf}
-use Rattle.whole.specs.Written.{Written, whole}
+use Rattle.whole.specs.Written.{Written}
 use Rattle.whole.specs.Laws.Between.{below, mains-are, chains-are, faults-small}
 use Rattle.whole.specs.Laws.Whole.{short-chains, told-first}
 use Rattle.reader.specs.Parsed.{Written as ScanWritten}
 use Rattle.reader.specs.Laws.Parsed.{written-holds}
 use Rattle.reader.specs.Laws.Read.{standingOf}
-use Rattle.reasons.specs.Reasons.{nothing, reason53}
+use Rattle.reasons.specs.Reasons.{reason53}
 use Rattle.reasons.specs.Reasons.{Reason as Said}
-use Rattle.reasons.specs.Laws.Whole.{WholeRefused, whole-refused}
+use Rattle.reasons.specs.Laws.Whole.{whole-refused}
 use Rattle.explaining.specs.Again.{Sound, Rescanned, Reread, Rereads, RacedAt}
 
 -- a text that is refused for its whole is sound

@@ -1,13 +1,12 @@
 -- The groups in the tokens of a description are those of its trees.
 use Prim.Native.Nat.{ℕ}
-use mathlib.Core.Path.{_≡_, refl, sym, ap, ap₂, _∙_, subst, subst₂}
+use mathlib.Core.Path.{_≡_, refl, sym, ap, _∙_, subst}
 use mathlib.Core.Bool.{Bool, true, false}
 use mathlib.Core.List.{List, [], _∷_, _++_, append-assoc}
-use mathlib.Core.Option.{Option, none, some}
 use lib.Dec.{eqb}
 use lib.ListN.{drop}
 use Rattle.rules.specs.Text.Tokens.{Info, Token, tk, Arrow, BEGIN, Semi, kindNo}
-use Rattle.rules.specs.Grammar.Trees.{Tokens, bit, upto, OwnBits, unnamed, named, ownBitsTokens, Meaning, body, mapped, Given, carrier, given, givenTokens, MainBits, bitless, main-bits, mainBitsTokens, Form, words, with-bits, bare-body, Declaration, plain, main, declarationTokens, Heading, no-heading, heading, headingTokens, Declarations, declared-all, declared-also, declarationsTokens, Description, description, flatten}
+use Rattle.rules.specs.Grammar.Trees.{Tokens, bit, upto, OwnBits, unnamed, named, ownBitsTokens, body, mapped, carrier, given, bitless, main-bits, Form, words, with-bits, bare-body, Declaration, plain, main, declarationTokens, Heading, no-heading, heading, headingTokens, Declarations, declared-all, declared-also, declarationsTokens, Description, description, flatten}
 use Rattle.rules.specs.Grammar.Trees.{Action, block, labelled, if-then, decode, repeat, leave, restart, activate, stop, no-op, transfer, actionTokens, Members, end, also, next, membersTokens, Alternatives, counted, selected, alternativesTokens, Counted, counted-end, counted-more, countedTokens, Selected, select, otherwise, selectedTokens, SelectedMore, selected-end, selected-more, selectedMoreTokens}
 use Rattle.rules.specs.Declarations.{Table, declaredOf, restOf, declarations}
 use Rattle.rules.specs.Whole.Sets.{member}

@@ -2,8 +2,8 @@
 use Prim.Native.Nat.{ℕ, _+_, _<_, _≤_}
 use mathlib.Core.Path.{_≡_, refl, sym, ap, _∙_}
 use mathlib.Core.Bool.{Bool, true, false}
-use mathlib.Core.List.{List, [], _∷_}
-use mathlib.Core.Option.{Option, none}
+use mathlib.Core.List.{List, []}
+use mathlib.Core.Option.{Option}
 use native.Mathlib.Omega.{arith}
 use lib.ListN.{drop}
 use Rattle.table.specs.Holds.{kindByte, tokenAt}
@@ -12,7 +12,7 @@ use Rattle.reading.specs.Reading.{Reading, tableOf}
 use Rattle.reading.specs.Laws.Reading.{kinded, next-token, no-more}
 use Rattle.gathering.specs.Filling.{Complete}
 use Rattle.scopes.specs.Walks.{opens}
-use Rattle.reasons.specs.Reasons.{Member, Race, firstRace, raceFrom, raceAmong}
+use Rattle.reasons.specs.Reasons.{Race, firstRace, raceFrom, raceAmong}
 use Rattle.racing.specs.Groups.{groupHere, groupsHere, raceHere}
 use Rattle.racing.specs.Found.{InGroup, InTokens}
 

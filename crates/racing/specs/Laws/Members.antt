@@ -3,10 +3,9 @@ use Prim.Native.Nat.{ℕ, _+_, _-_, _<_, _≤_}
 use mathlib.Core.Path.{_≡_, refl, sym, ap, _∙_, subst}
 use mathlib.Core.Bool.{Bool, true, false}
 use mathlib.Core.List.{List, [], _∷_, _++_}
-use mathlib.Core.Option.{Option, none, some}
+use mathlib.Core.Option.{Option}
 use native.Mathlib.Omega.{arith}
 use borrow.Author.Tests.{eq-eqb, ne-eqb}
-use lib.Dec.{eqb}
 use lib.ListN.{length, drop, length-drop}
 use Rattle.rules.specs.Text.Tokens.{Token, Semi, kindNo}
 use Rattle.rules.specs.Grammar.Trees.{Tokens}
@@ -14,7 +13,7 @@ use Rattle.rules.specs.Declarations.{Table}
 use Rattle.rules.specs.Whole.Sets.{Sets, race}
 use Rattle.reading.specs.Kinds.{nextNo}
 use Rattle.reading.specs.Behind.{behind}
-use Rattle.reading.specs.Groups.{placeOf, touchAt}
+use Rattle.reading.specs.Groups.{placeOf}
 use Rattle.reading.specs.Reading.{Kinded, Reading, tableOf}
 use Rattle.reading.specs.Laws.Reading.{kinded, next-token}
 use Rattle.gathering.specs.Shown.{Gathers}
@@ -23,7 +22,7 @@ use Rattle.whole.specs.GroupKeys.{Holding}
 use Rattle.whole.specs.Laws.GroupKeys.{action-held, end-inside}
 use Rattle.reasons.specs.Reasons.{Member, earliest, Race, raceWith, raceAt, firstRace, raceFrom}
 use Rattle.racing.specs.Groups.{memberHere, othersHere, groupHere}
-use Rattle.racing.specs.Found.{Path, arrived, passes, memberAt, raceOf, PathTo, Leads, Chooses, RacesAt, FoundIn, InGroup}
+use Rattle.racing.specs.Found.{Path, arrived, passes, memberAt, PathTo, Leads, Chooses, RacesAt, InGroup}
 use Rattle.racing.specs.Laws.Bridge.{onward, others-onward}
 
 module _ (ds : Table) (ts : Tokens) where

@@ -2,17 +2,17 @@
 use Prim.Native.Nat.{ℕ, zero, suc, _+_, _<_, _≤_}
 use mathlib.Core.Path.{_≡_, refl, sym, ap, ap₂, _∙_}
 use mathlib.Core.Bool.{Bool, true, false, _&&_, _||_}
-use mathlib.Core.List.{List, [], _∷_, _++_}
-use mathlib.Core.Option.{Option, none, some}
+use mathlib.Core.List.{List, [], _∷_}
+use mathlib.Core.Option.{none, some}
 use native.Mathlib.Decide.{decLt}
 use native.Mathlib.Omega.{arith}
 use lib.ListN.{length, getElem?}
 use Rattle.rules.specs.Declarations.{Declared, Table}
-use Rattle.rules.specs.Whole.Sets.{Sets, member}
+use Rattle.rules.specs.Whole.Sets.{Sets}
 use Rattle.laws_orders.specs.Orders.Tests.{member-append}
 use Rattle.reading.specs.Bits.{holds}
 use Rattle.whole.specs.GroupKeys.{Holding}
-use Rattle.reasons.specs.Reasons.{conflict, Carrier, firstConflict, writers, writersBy}
+use Rattle.reasons.specs.Reasons.{conflict, firstConflict, writers, writersBy}
 use Rattle.racing.specs.Shared.{Shared}
 
 -- the test in the order of the code: the first writes, the second reads, the second writes, the first reads

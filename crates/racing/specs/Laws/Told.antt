@@ -1,11 +1,11 @@
 -- Laws of the reason of 53: what is found in the table is what the rules say.
 use Prim.Native.Nat.{ℕ, _+_, _<_, _≤_}
-use mathlib.Core.Path.{_≡_, refl, sym, ap, ap₂, _∙_, subst}
+use mathlib.Core.Path.{_≡_, sym, ap, ap₂, _∙_, subst}
 use mathlib.Core.Bool.{Bool}
 use mathlib.Core.List.{List}
-use mathlib.Core.Option.{Option, none, some}
+use mathlib.Core.Option.{some}
 use native.Mathlib.Omega.{arith}
-use lib.ListN.{length, drop, getElem?}
+use lib.ListN.{drop, getElem?}
 use Rattle.rules.specs.Grammar.Trees.{Tokens}
 use Rattle.rules.specs.Declarations.{Declared, declaredOf}
 use Rattle.rules.specs.Whole.Sets.{Sets}
@@ -17,7 +17,7 @@ use Rattle.gathering.specs.Shown.{Gathers}
 use Rattle.gathering.specs.Filling.{Complete}
 use Rattle.whole.specs.GroupKeys.{Holding}
 use Rattle.whole.specs.Laws.GroupKeys.{action-held}
-use Rattle.reasons.specs.Reasons.{Member, Race, conflict, Carrier, raceAmong, firstConflict, writers, nothing, racing, raceOn, raceReason, reason53, groupsOf}
+use Rattle.reasons.specs.Reasons.{conflict, raceAmong, firstConflict, writers, nothing, racing, raceOn, raceReason, reason53, groupsOf}
 use Rattle.reasons.specs.Reasons.{Reason as Said}
 use Rattle.racing.specs.Groups.{memberHere, groupsHere, raceHere}
 use Rattle.racing.specs.Found.{memberAt, raceOf, InTokens}

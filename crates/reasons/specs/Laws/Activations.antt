@@ -1,9 +1,9 @@
 -- Where a description has no fault of the 40s, each activation names a declaration.
-use Prim.Native.Nat.{ℕ, zero, suc}
-use mathlib.Core.Path.{_≡_, refl, sym, _∙_, ap}
+use Prim.Native.Nat.{ℕ, suc}
+use mathlib.Core.Path.{_≡_, refl}
 use mathlib.Core.Bool.{Bool, true, false, not}
 use mathlib.Core.List.{List, [], _∷_, _++_, append-assoc}
-use mathlib.Core.Option.{Option, none, some, Option·none-ne-some}
+use mathlib.Core.Option.{Option, none, some}
 use lib.ListN.{getElem?}
 use Rattle.rules.specs.Text.Tokens.{Info}
 use Rattle.rules.specs.Text.Scan.{sameBytes}
@@ -14,11 +14,11 @@ use Rattle.rules.specs.Declarations.{Name, Declared, Table, numberOf, bodyNumbe
 use Rattle.rules.specs.Steps.Actions.{Act, par, inTurn, whole, actOf, groups, altsOf, countedAlts, selectedAlts, moreAlts}
 use Rattle.rules.specs.Steps.Runs.{actOr}
 use Rattle.rules.specs.Whole.Sets.{callsIn, callsI, callsAlts}
-use Rattle.rules.specs.Faults.Fault.{Fault, when}
+use Rattle.rules.specs.Faults.Fault.{when}
 use Rattle.rules.specs.Faults.Declared.{declaredAt}
-use Rattle.rules.specs.Faults.Bodies.{undeclared, activated, judge, faultsIn, alternativesFaults, actionFaults, membersFaults, insideFaults, insideCounted, insideSelected, insideMore, labels, labelFaults, declaredNames, bodyFaults, faults40}
+use Rattle.rules.specs.Faults.Bodies.{activated, judge, faultsIn, alternativesFaults, actionFaults, membersFaults, insideFaults, insideCounted, insideSelected, insideMore, labels, labelFaults, declaredNames, bodyFaults, faults40}
 use Rattle.laws_orders.specs.Orders.Tests.{impossible}
-use Rattle.laws_accepted.specs.Accepted.Faultless.{both-empty, when-empty, each-empty}
+use Rattle.laws_accepted.specs.Accepted.Faultless.{both-empty, each-empty}
 use Rattle.reasons.specs.Reasons.{bodyOfNumber}
 
 module _ (ds : Table) where

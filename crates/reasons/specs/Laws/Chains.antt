@@ -1,6 +1,6 @@
 -- The chain that 51 is given is true of the text: each body activates the next one, and the last one is listed before or is the 17th. Where 51 is refused
 -- there is one.
-use Prim.Native.Nat.{ℕ, zero, suc, _+_, _<_, _≤_}
+use Prim.Native.Nat.{ℕ, zero, suc, _+_}
 use mathlib.Core.Path.{_≡_, refl, sym, ap, _∙_, subst}
 use mathlib.Core.Bool.{Bool, true, false, _&&_, _||_, false≢true}
 use mathlib.Core.List.{List, [], _∷_, _++_}
@@ -11,17 +11,15 @@ use borrow.Author.Tests.{eq-eqb, eqb-true}
 use lib.Dec.{eqb}
 use lib.ListN.{length, getElem?}
 use Rattle.rules.specs.Limits.{longestChain}
-use Rattle.rules.specs.Text.Tokens.{Info}
 use Rattle.rules.specs.Grammar.Trees.{Action}
 use Rattle.rules.specs.Declarations.{Name, Declared, Table, numberOf, bodyNumber, bodyOf}
 use Rattle.rules.specs.Steps.Runs.{actOr, bodyAct}
 use Rattle.rules.specs.Whole.Sets.{member, callsIn, callsI, anyName, chainOver}
 use Rattle.rules.specs.Faults.Fault.{Fault, fault, when}
 use Rattle.rules.specs.Faults.Bodies.{faults40}
-use Rattle.rules.specs.Faults.Whole.{Scope, mains, beginsChain, chains, groupsFaults, faults50}
-use Rattle.laws_orders.specs.Orders.Tests.{or-either, impossible}
+use Rattle.rules.specs.Faults.Whole.{mains, beginsChain, chains, groupsFaults, faults50}
 use Rattle.laws_accepted.specs.Accepted.Named.{and-both}
-use Rattle.reasons.specs.Reasons.{Reason, nothing, chained, firstOver, bodyOfNumber, chainBehind, refusedBody, placesIn, chainOf, chainFrom, reason51}
+use Rattle.reasons.specs.Reasons.{chained, firstOver, bodyOfNumber, chainBehind, refusedBody, placesIn, chainOf, chainFrom, reason51}
 use Rattle.reasons.specs.Laws.Refused.{Among, among-either, among-when}
 use Rattle.reasons.specs.Laws.Fifties.{mains-50, from-52}
 use Rattle.reasons.specs.Laws.Activations.{Known, AllKnown, body-known}

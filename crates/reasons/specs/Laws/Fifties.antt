@@ -12,7 +12,7 @@ use Rattle.rules.specs.Grammar.Trees.{Alternatives, counted, selected, Counted,
 use Rattle.rules.specs.Declarations.{Table}
 use Rattle.rules.specs.Steps.Actions.{actOf}
 use Rattle.rules.specs.Whole.Sets.{Sets, touched, mayStop}
-use Rattle.rules.specs.Faults.Fault.{Fault, fault, when}
+use Rattle.rules.specs.Faults.Fault.{Fault, when}
 use Rattle.rules.specs.Faults.Bodies.{firstPlace}
 use Rattle.rules.specs.Faults.Whole.{mains, Scope, labelled-in, aimsOut, hasMore, racesAny, memberFaults, memberScope, groupFaults, membersOf, alternativesGroups, countedGroups, selectedGroups, moreGroups, bodyGroups, groupsFaults}
 use Rattle.reasons.specs.Laws.Refused.{Among, among-either, among-when}

@@ -13,7 +13,7 @@ use lib.ListN.{length, getElem?}
 use Rattle.rules.specs.Declarations.{Declared, Table}
 use Rattle.rules.specs.Whole.Sets.{Sets, race}
 use Rattle.laws_orders.specs.Orders.Tests.{impossible}
-use Rattle.reasons.specs.Reasons.{Member, earliest, Race, raceWith, raceAt, firstRace, raceFrom, raceAmong, conflict, Carrier, firstConflict, writers, Reason, nothing, racing, raceOn, raceReason, reason53, groupsOf}
+use Rattle.reasons.specs.Reasons.{Member, earliest, Race, raceWith, raceAt, firstRace, raceFrom, raceAmong, conflict, Carrier, firstConflict, writers, nothing, racing, raceOn, raceReason, reason53, groupsOf}
 
 -- two members of a group that race, the later one at the place; none before the earlier one races with the later one
 pub record RaceStands (p : ℕ) (g : List Member) (r : Race) : Type 0 where

@@ -14,17 +14,17 @@ use Rattle.rules.specs.Text.Tokens.{Info}
 use Rattle.rules.specs.Limits.{longestChain}
 use Rattle.rules.specs.Grammar.Trees.{Action, block, labelled, if-then, decode, repeat, leave, restart, activate, stop, no-op, transfer, Members, end, also, next}
 use Rattle.rules.specs.Grammar.Trees.{Alternatives, counted, selected, Counted, counted-end, counted-more, Selected, select, otherwise, SelectedMore, selected-end, selected-more}
-use Rattle.rules.specs.Declarations.{Name, Names, BitNames, Target, Declared, Table, numberOf, Reach, reach, reachNumber, reachOf, reachStorage, reachUnder, reachOn}
+use Rattle.rules.specs.Declarations.{Name, Names, BitNames, Target, Declared, Table, numberOf, reach, reachNumber, reachOf, reachStorage, reachUnder, reachOn}
 use Rattle.rules.specs.Steps.Actions.{Access, Act, seq, par, label, ins, Ins, iff, call, noop, Alts, alt, actOf}
 use Rattle.rules.specs.Steps.Actions.{decode as decodes, repeat as repeats, leave as leaves, restart as restarts, stop as stops, transfer as transfers, end as alts-end}
 use Rattle.rules.specs.Steps.Runs.{bodyAct}
 use Rattle.rules.specs.Whole.Sets.{Sets, touched, race, member, meet, mayStop, owner, ownerIn, stores, setsOf, setsI, setsAlts, bodySets}
-use Rattle.rules.specs.Faults.Fault.{Fault, fault, when, leastFrom, least, byNumber}
+use Rattle.rules.specs.Faults.Fault.{Fault, fault, when, leastFrom, least}
 use Rattle.rules.specs.Faults.Bodies.{firstPlace}
 use Rattle.rules.specs.Faults.Whole.{Scope, labelled-in, aimsOut, hasMore, racesAny, memberFaults, memberScope, groupFaults, membersOf, alternativesGroups, countedGroups, selectedGroups, moreGroups, mains, beginsChain, chains, bodyGroups, groupsFaults, faults50}
-use Rattle.laws_orders.specs.Orders.Tests.{impossible, or-either, or-left, or-right, member-either}
+use Rattle.laws_orders.specs.Orders.Tests.{or-either, or-left, or-right, member-either}
 use Rattle.reasons.specs.Laws.Races.{race-among}
-use Rattle.reasons.specs.Reasons.{Member, memberOf, others, group, groupsIn, groupsBehind, groupsAlternatives, groupsCounted, groupsSelected, groupsMore, groupsOfBody, groupsOf, earliest, Race, raceWith, raceAt, firstRace, raceFrom, raceAmong, conflict, Carrier, firstConflict, writers, Reason, racing, raceOn, raceReason, reason53}
+use Rattle.reasons.specs.Reasons.{Member, memberOf, others, group, groupsIn, groupsBehind, groupsAlternatives, groupsCounted, groupsSelected, groupsMore, groupsOfBody, groupsOf, earliest, Race, raceAt, firstRace, raceFrom, raceAmong, conflict, Carrier, firstConflict, writers, racing, raceOn, raceReason, reason53}
 
 -- a fault of a list
 abbrev pub Among : Fault → List Fault → Type 0

@@ -5,8 +5,8 @@ use mathlib.Core.List.{List}
 use native.Mathlib.Omega.{arith}
 use Rattle.rules.specs.Text.Scan.{scan}
 use Rattle.rules.specs.Grammar.Trees.{Description, flatten}
-use Rattle.rules.specs.Declarations.{Table, declarations}
-use Rattle.rules.specs.Answers.{Verdict, refused, Checks, verdictNumbers}
+use Rattle.rules.specs.Declarations.{declarations}
+use Rattle.rules.specs.Answers.{Verdict, refused, verdictNumbers}
 use Rattle.rules.specs.Calls.Memory.{Memory, settled}
 use Rattle.rules.specs.Calls.Check.{verdictNumber}
 use Rattle.laws_grammar.specs.Grammar.Exact.{unique}

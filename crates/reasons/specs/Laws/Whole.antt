@@ -1,12 +1,12 @@
 -- A text that is refused with a number of the 50s has a description without faults of the 30s and 40s, and that fault is its least of the 50s.
 use Prim.Native.Nat.{ℕ, _<_, _≤_}
-use mathlib.Core.Path.{_≡_, refl, sym, ap, _∙_, subst}
+use mathlib.Core.Path.{_≡_, refl, sym, ap, subst}
 use mathlib.Core.List.{List, [], _∷_}
 use mathlib.Core.Logic.{_⊎_, inl, inr}
 use mathlib.Core.Option.{Option, none, some}
 use native.Mathlib.Omega.{arith}
 use lib.ListN.{length}
-use Rattle.rules.specs.Text.Scan.{scan, fine, refuse}
+use Rattle.rules.specs.Text.Scan.{scan, fine}
 use Rattle.rules.specs.Grammar.Trees.{Description, flatten}
 use Rattle.rules.specs.Grammar.Verdict.{Crowded}
 use Rattle.rules.specs.Declarations.{declarations, outerName, totalWords}
