@@ -7,10 +7,8 @@ use isps::isps_run;
 use isps::isps_store;
 use lines::answers::Answer;
 use lines::answers::answer_of;
+use rules::limits::MOST_WORDS;
 ghost use Prim.Native.Nat.{_≤_};
-
-// The words of the largest description that is accepted.
-const MOST_WORDS: u64 = 4096;
 
 pub fn check(text: &[u8], a: &mut [u8], b: &mut [u8], c: &mut [u8]) -> Answer {
     let mut answer = [0u8; 32];
@@ -80,7 +78,7 @@ pub fn bound(text: &[u8], a: &mut [u8], b: &mut [u8], c: &mut [u8]) -> Answer {
 pub fn carrier_bytes(words: u64) -> usize
     ensures { λ r. ⌜ r ≤ 32768 ⌝ }
 {
-    if MOST_WORDS < words {
+    if MOST_WORDS as u64 < words {
         return 32768;
     }
     words as usize * 8

@@ -7,14 +7,13 @@ use lines::answers::Answer;
 use lines::answers::REFUSED;
 use lines::bytes::put_byte;
 use lines::endings::put_ending;
+use rules::limits::LONGEST_TEXT;
 use showing::put_words;
 ghost use Prim.Native.Nat.{_≤_};
 ghost use lib.ListN.{length};
 ghost use Rattle.rules.specs.Limits.{longestText};
 
 const BUDGET: u32 = 1000000;
-
-const LONGEST_TEXT: usize = 32768;
 
 // The first line.
 fn put_first(out: &mut [u8], a: Answer) -> usize

@@ -3,6 +3,7 @@ use crate::actions::action;
 use crate::labels::labels_fault;
 use cells::get16;
 use cells::put16;
+use rules::limits::DEEPEST;
 use table::keys::NO_KEY;
 use table::keys::earlier;
 use table::views::body_of;
@@ -10,9 +11,6 @@ ghost use mathlib.Core.Path.{_≡_};
 ghost use lib.ListN.{length};
 ghost use Rattle.table.specs.Keys.{leastKey};
 ghost use Rattle.bodies.specs.Bodies.{BodyView, faultsOfBody, BodiesView, faultsOfBodies};
-
-// The deepest nesting.
-const DEEPEST: usize = 32;
 
 // The body of the declaration whose name is the token i: its action under that name, and its labels against each other.
 fn body_fault(

@@ -4,15 +4,13 @@ use crate::counts::Nest;
 use crate::counts::greater;
 use cells::get64;
 use cells::put64;
+use rules::limits::DEEPEST;
 ghost use Prim.Native.Nat.{_<_};
 ghost use lib.Dec.{ltb};
 ghost use lib.ListN.{length};
 ghost use Rattle.rules.specs.Limits.{deepest};
 ghost use Rattle.bounding.specs.Machine.{opened, closed, another};
 ghost use Rattle.bounding.specs.Holding.{Standing, Does};
-
-// How many BEGINs may be open.
-const DEEPEST: usize = 32;
 
 // BEGIN
 pub fn open(room: &mut [u8], s: Nest) -> Nest

@@ -4,15 +4,13 @@ use crate::filling::fill;
 use crate::names::index_of;
 use cells::get16;
 use cells::get64;
+use rules::limits::LONGEST_CHAIN;
 use table::views::main_of;
 ghost use Prim.Native.Nat.{_≤_};
 ghost use lib.ListN.{length};
 ghost use Rattle.links.specs.Mains.{MainIn};
 ghost use Rattle.bounding.specs.Filling.{Ready, Fillable};
 ghost use Rattle.bounding.specs.Mains.{MainNamed, Longest};
-
-// How long a chain of activations may be.
-const LONGEST: usize = 16;
 
 // The token of MAIN's name.
 fn main_name(records: &[u8], decls: &[u8], m: usize) -> usize
@@ -43,7 +41,7 @@ fn main_count(
     ensures { λ r. ⌜ Longest (now (records .entry)) (now (decls .entry)) m n r ⌝ }
 {
     let name = main_name(records, decls, m);
-    fill(records, decls, table, room, m, n, name, LONGEST);
+    fill(records, decls, table, room, m, n, name, LONGEST_CHAIN);
     let k = index_of(records, m, name);
     get64(table, k)
 }

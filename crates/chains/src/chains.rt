@@ -8,6 +8,7 @@ use reading::bits::only;
 use reading::bits::union;
 use reading::bodies::body_at;
 use reading::calls::next_call;
+use rules::limits::LONGEST_CHAIN;
 use table::keys::NO_KEY;
 use table::keys::earlier;
 use table::keys::number_key;
@@ -34,7 +35,7 @@ ghost use Rattle.reading.specs.Bits.{holds};
 ghost use Rattle.chains.specs.Chains.{inLevel, activatesOne, Levelled};
 
 // Whether the name i is of the level: of that of all names, or of the declarations in it.
-fn in_level(
+pub fn in_level(
     records: &[u8],
     decls: &[u8],
     m: usize,
@@ -111,7 +112,7 @@ fn grown(set: Set, k: usize, more: bool) -> Set
 }
 
 // The next level.
-fn next_level(records: &[u8], decls: &[u8], m: usize, n: usize, level: Set, all: bool) -> Set
+pub fn next_level(records: &[u8], decls: &[u8], m: usize, n: usize, level: Set, all: bool) -> Set
     requires { ⌜ Reading (now records) (now decls) m n ⌝ }
     ensures { λ r. ⌜ ((v : Reading (now (records .entry)) (now (decls .entry)) m n) (j : ℕ) → holds (r .w) j ≡ (ltb j m && activatesOne (tableOf v) (inLevel (tableOf v) (level .w) all) j)) ⌝ }
 {
@@ -126,13 +127,13 @@ fn next_level(records: &[u8], decls: &[u8], m: usize, n: usize, level: Set, all:
 }
 
 // The declarations that begin a chain over 16 bodies long.
-fn over_longest(records: &[u8], decls: &[u8], m: usize, n: usize) -> Set
+pub fn over_longest(records: &[u8], decls: &[u8], m: usize, n: usize) -> Set
     requires { ⌜ Reading (now records) (now decls) m n ⌝ }
     ensures { λ r. ⌜ ((v : Reading (now (records .entry)) (now (decls .entry)) m n) → Levelled (tableOf v) (r .w) false longestChain) ⌝ }
 {
     let mut level = next_level(records, decls, m, n, empty(), true);
     let mut k: usize = 1;
-    while k < 16 {
+    while k < LONGEST_CHAIN {
         if is_empty(level) {
             return level;
         }

@@ -5,6 +5,8 @@ use crate::spans::is_missing;
 use crate::spans::large_bits;
 use crate::spans::storage_words;
 use cells::get16;
+use rules::limits::MOST_DECLARATIONS;
+use rules::limits::MOST_WORDS;
 use table::keys::NO_KEY;
 use table::keys::fault_key;
 use table::lookups::lookup;
@@ -25,10 +27,6 @@ ghost use Rattle.table.specs.Views.{View};
 ghost use Rattle.table.specs.Keys.{leastKey};
 ghost use Rattle.declare.specs.Faults.{isLarge, ownNumber};
 ghost use Rattle.declare.specs.Listed.{Listed, outerOf, tableOf, knownOf, Chosen, chosenOf, SmallView};
-
-const MOST_DECLARATIONS: usize = 256;
-
-const MOST_WORDS: usize = 4096;
 
 // Whether the outer name or an earlier declaration has the name of the k-th.
 fn declared_before(text: &[u8], records: &[u8], decls: &[u8], k: usize) -> bool

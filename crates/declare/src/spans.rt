@@ -1,4 +1,6 @@
 // Names of words and bits: how many there are, how large, and whether some lie inside others. A name may be any u64.
+use rules::limits::LARGEST_NAME;
+use rules::limits::MOST_BITS;
 use table::views::Names;
 ghost use mathlib.Core.Path.{_≡_};
 ghost use mathlib.Core.Bool.{false};
@@ -7,10 +9,6 @@ ghost use Rattle.rules.specs.Declarations.{names, howMany, these};
 ghost use Rattle.rules.specs.Faults.Declared.{farNames, among, inside as lies-inside};
 ghost use Rattle.rules.specs.Limits.{mostWords};
 ghost use Rattle.declare.specs.Spans.{farShown, largeShown, missingShown, countShown, storageShown, sameCount, fitsIn, fitsShown};
-
-const LARGEST_NAME: u64 = 4095;
-
-const MOST_BITS: u64 = 64;
 
 // One fewer than there are: their number itself may not fit.
 fn distance(left: u64, right: u64) -> u64

@@ -5,6 +5,7 @@ use operands::accesses::Located;
 use operands::expressions::Evaluated;
 use operands::expressions::access;
 use operands::expressions::expression;
+use rules::limits::DEEPEST;
 use table::records::inside_at;
 use values::fields::part;
 use values::fields::with_field;
@@ -22,16 +23,13 @@ pub enum Transferred {
 }
 
 // The fields of a joined destination: how many stand in the scratch, and their bits together; or the place of a Fault 70.
-enum Gathered {
+pub enum Gathered {
     Fields(usize, u32),
     Fault(u16),
 }
 
-// How deep brackets nest at most.
-const DEEPEST: usize = 32;
-
 // Some bits of a word take the lowest of v.
-fn store(carriers: &mut [u8], word: usize, low: u32, size: u32, v: u64)
+pub fn store(carriers: &mut [u8], word: usize, low: u32, size: u32, v: u64)
     requires { ⌜ (8 * word + 8 ≤ length (now carriers)) × ((low < 64) × (low + size ≤ 64)) ⌝ }
     ensures { λ _. ⌜ Put (now (carriers .entry)) (now (carriers .exit)) word low size v ⌝ }
 {
@@ -48,7 +46,7 @@ fn packed(word: usize, low: u32, size: u32) -> u64
 }
 
 // All fields of a joined destination, before any store: the first is known, and the others stand from p on.
-fn gather(
+pub fn gather(
     records: &[u8],
     values: &[u8],
     carriers: &[u8],

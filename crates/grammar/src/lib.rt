@@ -1,6 +1,7 @@
 // The grammar's recogniser: refusals 20 and 21, by one move a token over a stack of states.
 mod table;
 
+use rules::limits::DEEPEST;
 use table::Entries;
 use table::TABLE;
 use table::TITLE;
@@ -11,9 +12,6 @@ ghost use Rattle.laws_grammar.specs.Cited.Rows.{State, row, lookup};
 ghost use Rattle.grammar.specs.Places.{place};
 ghost use Rattle.grammar.specs.Entries.{Ruled, nextOf};
 ghost use Rattle.grammar.specs.Records.{Records, Answers, kindByte};
-
-// The most states that the stack may hold: one for each open bracket.
-const DEEPEST: usize = 32;
 
 // The tokens are a description's, or refused with the number of the token where they are: that of the end is how many there are.
 pub enum Recognised {

@@ -1,13 +1,12 @@
 // Lent memory: whether it is enough, and how it is cleared.
+use rules::limits::LONGEST_TEXT;
 ghost use mathlib.Core.Path.{_≡_};
 ghost use Rattle.rules.specs.Calls.Memory.{memory, zeros};
 ghost use Rattle.lent.specs.Measured.{Measured, Unread};
 
-const WORK_SIZE: usize = 65536;
+pub const WORK_SIZE: usize = 65536;
 
 const ANSWER_SIZE: usize = 32;
-
-const LONGEST_TEXT: usize = 32768;
 
 // Whether no buffer is shorter than published.
 fn is_enough(a: &[u8], b: &[u8], c: &[u8], answer: &[u8]) -> bool

@@ -1,6 +1,7 @@
 // The bodies of a description: each is linked with its own name as the outermost label, and its name leads to its first instruction.
 use crate::actions::action;
 use cells::get16;
+use rules::limits::DEEPEST;
 use table::records::put_link;
 use table::views::body_of;
 use ways::labels::push;
@@ -15,9 +16,6 @@ ghost use Rattle.table.specs.Ready.{Ready};
 ghost use Rattle.ways.specs.Seeking.{Ground};
 ghost use Rattle.links.specs.Links.{Links};
 ghost use Rattle.links.specs.Bodies.{BodyIn, BodyDone, PartlyAt, Partly};
-
-// How many BEGINs may be open.
-const DEEPEST: usize = 32;
 
 // The body at `start` of the declaration whose name is the token `name`. It leads out.
 fn body(text: &[u8], records: &mut [u8], labels: &mut [u8], name: usize, start: usize)

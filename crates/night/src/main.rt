@@ -18,12 +18,11 @@ use libc::STDOUT_FILENO;
 use lines::answers::Answer;
 use lines::answers::REFUSED;
 use lines::bytes::put_byte;
+use rules::limits::LONGEST_TEXT;
 use showing::put_words;
 ghost use Prim.Native.Nat.{_≤_};
 ghost use lib.ListN.{length};
 ghost use Rattle.rules.specs.Limits.{longestText};
-
-const LONGEST_TEXT: usize = 32768;
 
 // The ending of a run that faulted; those before it ended well or paused.
 const FAULT: u64 = 3;

@@ -1,4 +1,5 @@
 // Names of bits and words: how many there are, and how far one stands from the right. A name may be any u64.
+use rules::limits::MOST_WORDS;
 use table::views::Names;
 ghost use mathlib.Core.Path.{_≡_};
 ghost use mathlib.Core.Option.{some};
@@ -9,13 +10,11 @@ ghost use Rattle.rules.specs.Limits.{mostWords};
 ghost use Rattle.table.specs.Shown.{shownBits};
 ghost use Rattle.places.specs.Spans.{ManyIn, LowIn};
 
-const MOST_WORDS: u64 = 4096;
-
 // One more than the distance of two names; 0 where that is more than there can be words.
 fn counted(distance: u64) -> u64
     ensures { λ r. ⌜ (r ≤ mostWords) × (distance < mostWords → r ≡ distance + 1) ⌝ }
 {
-    if distance < MOST_WORDS {
+    if distance < MOST_WORDS as u64 {
         return distance + 1;
     }
     0

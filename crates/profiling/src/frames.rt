@@ -6,6 +6,7 @@ use crate::nests::mark;
 use crate::nests::take;
 use cells::get16;
 use cells::put16;
+use rules::limits::DEEPEST;
 ghost use mathlib.Core.Path.{_≡_};
 ghost use mathlib.Core.Bool.{true, false};
 ghost use Prim.Native.Nat.{_+_, _*_, _<_, _≤_};
@@ -15,9 +16,6 @@ ghost use Rattle.rules.specs.Limits.{deepest};
 ghost use Rattle.profiling.specs.Machine.{opened, closed, also, next, another};
 ghost use Rattle.profiling.specs.Holding.{bit, Standing, Does, Top, Pushed};
 ghost use Rattle.profiling.specs.Grouping.{settle, enter, Three, Resuming, Resumed};
-
-// How many BEGINs may be open.
-const DEEPEST: usize = 32;
 
 // The innermost label around it and the flag at its end, its own flag; whether control comes to the present group, whether all of its members so far have
 // ended, whether it is a block.

@@ -5,6 +5,7 @@ use crate::walks::walk;
 use cells::get16;
 use cells::put16;
 use reading::bodies::body_at;
+use rules::limits::LONGEST_CHAIN;
 use table::kinds::BEGIN;
 use table::records::kind_at;
 ghost use Prim.Native.Nat.{_<_, _≤_};
@@ -14,9 +15,6 @@ ghost use Rattle.profiling.specs.Levels.{BeginBehind, Levelled, Put, Par
 
 // No place.
 pub const UNSEEN: usize = 65535;
-
-// How long a chain of activations may be.
-const LONGEST: usize = 16;
 
 // What is known of the declaration k: whether its end is reached, and the lowest place.
 fn put_known(table: &mut [u8], k: usize, ends: bool, low: usize)
@@ -123,7 +121,7 @@ pub fn rounds(
 {
     blank(table);
     let mut k: usize = 0;
-    while k < LONGEST {
+    while k < LONGEST_CHAIN {
         round(text, records, decls, table, next, room, t);
         round(text, records, decls, next, table, room, t);
         k += 2;

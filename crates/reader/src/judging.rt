@@ -3,6 +3,7 @@ use bodies::all::fault40;
 use cells::get16;
 use cells::put16;
 use declare::counting::words;
+use rules::limits::MOST_DECLARATIONS;
 use table::keys::NO_KEY;
 use whole::fault50;
 ghost use Prim.Native.Nat.{_≤_};
@@ -11,8 +12,6 @@ ghost use Rattle.rules.specs.Limits.{mostDeclarations};
 ghost use Rattle.reader.specs.Copied.{Copied};
 ghost use Rattle.reader.specs.Read.{Declares};
 ghost use Rattle.reader.specs.Judged.{Judges, Lawful};
-
-const MOST_DECLARATIONS: usize = 256;
 
 // Accepted, with so many declarations, words and tokens; or the number and the place of the refusal.
 pub enum Verdict {

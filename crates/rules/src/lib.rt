@@ -1,4 +1,2 @@
-// Document 01 as definitions: see specs/. There is no code here; the one function stands for a crate that has none.
-pub fn edition() -> u32 {
-    1
-}
+// Document 01 as definitions: see specs/. The code has its limits.
+pub mod limits;

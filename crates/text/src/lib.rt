@@ -5,6 +5,7 @@ use crate::bytes::CLASSES;
 use cells::put64;
 use lexemes::lexemes::Lexeme;
 use lexemes::lexemes::lexeme_at;
+use rules::limits::MOST_TOKENS;
 ghost use mathlib.Core.Path.{_≡_};
 ghost use Prim.Native.Nat.{_+_, _*_, _≤_};
 ghost use lib.ListN.{length};
@@ -73,7 +74,7 @@ pub fn scan(text: &[u8], records: &mut [u8], values: &mut [u8]) -> Scanned
                 value,
                 free,
             } => {
-                if count == 8192 {
+                if count == MOST_TOKENS {
                     return Scanned::Refused(13, at);
                 }
                 let cell = value_cell(kind, value, before);
