@@ -1,6 +1,7 @@
 // The reader's verdict, as an answer.
 use lent::answers::Answer;
 use lent::answers::refusal;
+use lent::answers::unrefused;
 use reader::judging::Verdict;
 ghost use mathlib.Core.Path.{_≡_};
 ghost use Prim.Native.Nat.{_≤_};
@@ -17,16 +18,9 @@ fn verdict_answer(text: &[u8], v: Verdict) -> Answer
 {
     match v {
         Verdict::Refused(number, place) => refusal(text, number, place),
-        Verdict::Accepted(declarations, words, _) => Answer {
-            ending: 0,
-            number: 0,
-            place: 0,
-            steps: 0,
-            fourth: declarations as u32,
-            fifth: words as u32,
-            line: 0,
-            column: 0,
-        },
+        Verdict::Accepted(declarations, words, _) => {
+            unrefused(0, 0, declarations as u32, words as u32)
+        }
     }
 }
 

@@ -1,6 +1,7 @@
 // How Store and Load end, and the answer that says so.
 use lent::answers::Answer;
 use lent::answers::refusal;
+use lent::answers::unrefused;
 ghost use mathlib.Core.Path.{_≡_};
 ghost use mathlib.Core.List.{List};
 ghost use Prim.Native.Nat.{ℕ};
@@ -21,15 +22,6 @@ pub fn ending_answer(text: &[u8], e: Ending) -> Answer
 {
     match e {
         Ending::Refused(number, place) => refusal(text, number, place),
-        Ending::Done => Answer {
-            ending: 0,
-            number: 0,
-            place: 0,
-            steps: 0,
-            fourth: 0,
-            fifth: 0,
-            line: 0,
-            column: 0,
-        },
+        Ending::Done => unrefused(0, 0, 0, 0),
     }
 }

@@ -3,9 +3,10 @@ use bounding::counts::ENDLESS;
 use bounding::mains::longest;
 use lent::answers::Answer;
 use lent::answers::refusal;
+use lent::answers::unrefused;
 use reader::judging::Verdict;
 ghost use mathlib.Core.Path.{_≡_};
-ghost use mathlib.Core.List.{List, [], _∷_};
+ghost use mathlib.Core.List.{List};
 ghost use Prim.Native.Nat.{ℕ, _≤_};
 ghost use lib.ListN.{length};
 ghost use Rattle.rules.specs.Limits.{longestText};
@@ -19,30 +20,15 @@ const BOUND: u32 = 0;
 
 const NO_BOUND: u32 = 5;
 
-fn found(ending: u32, steps: u32) -> Answer
-    ensures { λ r. ⌜ numbersOf r ≡ ending ∷ 0 ∷ 0 ∷ steps ∷ 0 ∷ 0 ∷ 0 ∷ 0 ∷ [] ⌝ }
-{
-    Answer {
-        ending,
-        number: 0,
-        place: 0,
-        steps,
-        fourth: 0,
-        fifth: 0,
-        line: 0,
-        column: 0,
-    }
-}
-
 // The numbers of MAIN's count.
 fn count_answer(count: u64) -> Answer
     requires { ⌜ count ≤ 4294967296 ⌝ }
     ensures { λ r. ⌜ ((text : List ℕ) → numbersOf r ≡ boundNumbers text (boundBy count)) ⌝ }
 {
     if count == ENDLESS {
-        return found(NO_BOUND, 0);
+        return unrefused(NO_BOUND, 0, 0, 0);
     }
-    found(BOUND, count as u32)
+    unrefused(BOUND, count as u32, 0, 0)
 }
 
 // What is answered to a text. The work memory may hold anything afterwards.

@@ -2,6 +2,7 @@
 use cells::put64;
 use positions::position_of;
 ghost use mathlib.Core.Path.{_≡_};
+ghost use mathlib.Core.List.{[], _∷_};
 ghost use Prim.Native.Nat.{_+_, _*_, _<_, _≤_};
 ghost use lib.ListN.{length};
 ghost use Rattle.rules.specs.Answers.{refusedNumbers};
@@ -35,6 +36,22 @@ pub fn refusal(text: &[u8], number: u32, place: usize) -> Answer
         fifth: 0,
         line: here.line,
         column: here.column,
+    }
+}
+
+// An ending without a number or a place: its code, the steps, and the two numbers of the call.
+pub fn unrefused(ending: u32, steps: u32, fourth: u32, fifth: u32) -> Answer
+    ensures { λ r. ⌜ numbersOf r ≡ ending ∷ 0 ∷ 0 ∷ steps ∷ fourth ∷ fifth ∷ 0 ∷ 0 ∷ [] ⌝ }
+{
+    Answer {
+        ending,
+        number: 0,
+        place: 0,
+        steps,
+        fourth,
+        fifth,
+        line: 0,
+        column: 0,
     }
 }
 
