@@ -16,7 +16,7 @@ ghost use Rattle.rules.specs.Text.Scan.{scan};
 ghost use Rattle.rules.specs.Grammar.Trees.{Description, flatten};
 ghost use Rattle.rules.specs.Declarations.{declarations};
 ghost use Rattle.rules.specs.Answers.{refused, Checks};
-ghost use Rattle.reasons.specs.Reasons.{reason53};
+ghost use Rattle.rules.specs.Reasons.{reason53};
 ghost use Rattle.racing.specs.Told.{reasonIn};
 ghost use Rattle.explaining.specs.Again.{Reread};
 

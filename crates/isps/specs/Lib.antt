@@ -1,5 +1,4 @@
 pub mod Demands
-pub mod Late
 pub mod Profile
 pub mod Images
 pub mod Bound

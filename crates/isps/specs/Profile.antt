@@ -19,7 +19,7 @@ use Rattle.rules.specs.Agreement.{endingIn, carriersAt}
 use Rattle.rules.specs.Paths.{TooEarly, storageOf, folded, testEnded}
 use Rattle.rules.specs.Calls.Memory.{Memory, Enough, answered}
 use Rattle.rules.specs.Calls.Profile.{ProfileCall}
-use Rattle.isps.specs.Late.{StoresLate}
+use Rattle.rules.specs.Late.{StoresLate}
 use Rattle.isps.specs.Laws.Profile as laws
 
 -- SETTLED: number, answer and work memory: two results that the contract allows are the same.

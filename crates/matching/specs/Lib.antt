@@ -1,4 +1,3 @@
-pub mod Entries
 pub mod Named
 pub mod Matching
 pub mod Room

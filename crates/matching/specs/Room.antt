@@ -10,12 +10,12 @@ use Rattle.cells.specs.Cells.{cell}
 use Rattle.rules.specs.Limits.{mostWords}
 use Rattle.rules.specs.Stores.{Entry, entry}
 use Rattle.traces.specs.Marking.{Pos, at, never, Cells}
-use Rattle.matching.specs.Entries.{mostEntries}
+use Rattle.rules.specs.Entries.{mostEntries}
 use Rattle.matching.specs.Matching.{Group, group, Matching, matching}
 
 -- bytes of the memory, and the number that stands for none
 abbrev pub roomSize : ℕ
-roomSize = 65536
+roomSize = 32768
 
 abbrev pub endless : ℕ
 endless = 65535

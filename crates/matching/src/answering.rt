@@ -8,7 +8,7 @@ use cells::get16;
 ghost use mathlib.Core.Path.{_≡_};
 ghost use lib.ListN.{length};
 ghost use Rattle.traces.specs.Marking as marking;
-ghost use Rattle.matching.specs.Entries.{entriesIn};
+ghost use Rattle.rules.specs.Entries.{entriesIn};
 ghost use Rattle.matching.specs.Named.{verdictOf};
 ghost use Rattle.matching.specs.Matching.{answerIn};
 ghost use Rattle.matching.specs.Room.{posOf, matchingIn, Sound};

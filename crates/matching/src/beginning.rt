@@ -13,7 +13,7 @@ use cells::put16;
 ghost use Prim.Native.Nat.{_+_, _<_, _≤_};
 ghost use lib.ListN.{length};
 ghost use Rattle.rules.specs.Limits.{mostWords};
-ghost use Rattle.matching.specs.Entries.{mostEntries, entriesIn};
+ghost use Rattle.rules.specs.Entries.{mostEntries, entriesIn};
 ghost use Rattle.matching.specs.Matching.{untold};
 ghost use Rattle.matching.specs.Room.{roomSize, Filled, Linked, Stands};
 

@@ -7,7 +7,7 @@ ghost use lib.ListN.{length, getD};
 ghost use Rattle.cells.specs.Cells.{cell};
 ghost use Rattle.rules.specs.Stores.{entry};
 ghost use Rattle.traces.specs.Answers.{sameEntry};
-ghost use Rattle.matching.specs.Entries.{entriesIn, isList};
+ghost use Rattle.rules.specs.Entries.{entriesIn, isList};
 ghost use Rattle.matching.specs.Named.{entryOf};
 
 const ENTRY_SIZE: usize = 16;

@@ -6,7 +6,7 @@ use cells::get16;
 use cells::put16;
 ghost use Prim.Native.Nat.{_<_};
 ghost use Rattle.rules.specs.Limits.{mostWords};
-ghost use Rattle.matching.specs.Entries.{entriesIn};
+ghost use Rattle.rules.specs.Entries.{entriesIn};
 ghost use Rattle.matching.specs.Room.{Sound};
 ghost use Rattle.matching.specs.Seeking.{Reaches, Seeks};
 

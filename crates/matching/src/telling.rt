@@ -20,7 +20,7 @@ ghost use Rattle.rules.specs.Limits.{mostWords};
 ghost use Rattle.rules.specs.Stores as rules;
 ghost use Rattle.traces.specs.Marking.{at};
 ghost use Rattle.traces.specs.Machine.{stores, opens, turns, closes};
-ghost use Rattle.matching.specs.Entries.{entriesIn};
+ghost use Rattle.rules.specs.Entries.{entriesIn};
 ghost use Rattle.matching.specs.Named.{entryOf};
 ghost use Rattle.matching.specs.Matching.{told, partAt, spoilt, toldPart};
 ghost use Rattle.matching.specs.Room.{endless, mostGroups, matchingIn, Sound, Stands};

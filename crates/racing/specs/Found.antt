@@ -10,7 +10,7 @@ use Rattle.rules.specs.Declarations.{Table}
 use Rattle.reading.specs.Kinds.{nextNo}
 use Rattle.reading.specs.Behind.{behind}
 use Rattle.reading.specs.Reading.{Reading, tableOf}
-use Rattle.reasons.specs.Reasons.{Member, earliest, Race, raceAt, raceFrom}
+use Rattle.rules.specs.Reasons.{Member, earliest, Race, raceAt, raceFrom}
 use Rattle.racing.specs.Groups.{memberHere, groupHere, raceHere}
 
 -- the members from the token i up to that at k, each with `;` behind it

@@ -11,7 +11,7 @@ use Rattle.table.specs.Scans.{no, deeper}
 use Rattle.reading.specs.Kinds.{ends}
 use Rattle.reading.specs.Groups.{placeOf, touchAt}
 use Rattle.scopes.specs.Walks.{opens}
-use Rattle.reasons.specs.Reasons.{Member, Race, raceAmong}
+use Rattle.rules.specs.Reasons.{Member, Race, raceAmong}
 
 module _ (ds : Table) where
   -- the member that begins the tokens

@@ -5,7 +5,7 @@ use mathlib.Core.Bool.{true, false}
 use mathlib.Core.List.{List}
 use Rattle.rules.specs.Whole.Sets.{Sets}
 use Rattle.whole.specs.GroupKeys.{Holding}
-use Rattle.reasons.specs.Reasons.{conflict}
+use Rattle.rules.specs.Reasons.{conflict}
 
 -- none of the carriers before r, and r itself if it is below m
 pub record Shared (r₁ w₁ r₂ w₂ : List ℕ) (m r : ℕ) : Type 0 where

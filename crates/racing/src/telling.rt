@@ -11,7 +11,7 @@ ghost use Prim.Native.Nat.{_*_, _≤_};
 ghost use lib.ListN.{length};
 ghost use Rattle.reading.specs.Reading.{Reading, tableOf};
 ghost use Rattle.gathering.specs.Filling.{Complete};
-ghost use Rattle.reasons.specs.Reasons.{raceReason, reason53};
+ghost use Rattle.rules.specs.Reasons.{raceReason, reason53};
 ghost use Rattle.racing.specs.Found.{raceOf};
 ghost use Rattle.racing.specs.Told.{reasonIn};
 

@@ -1,5 +1,4 @@
--- WHAT IS CLAIMED OF REASONS, for every call that `WhyCall` (Why.antt) allows. All other words are those of the crate `rules`, of Reasons.antt, and of the records
--- `RaceTrue` (Laws/Races.antt) and `ChainTrue` (Laws/Chains.antt), which say of the text what its reason says.
+-- WHAT IS CLAIMED OF REASONS, for every call that `WhyCall` allows. All words are those of the crate `rules`.
 use Prim.Native.Nat.{ℕ, _≤_}
 use mathlib.Core.Path.{_≡_, sym, ap, _∙_, subst}
 use mathlib.Core.List.{List}
@@ -12,13 +11,14 @@ use Rattle.rules.specs.Declarations.{declarations, outerName}
 use Rattle.rules.specs.Answers.{Verdict, accepted, refused, Checks}
 use Rattle.rules.specs.Calls.Memory.{Memory}
 use Rattle.rules.specs.Calls.Check.{verdictNumber}
-use Rattle.reasons.specs.Reasons.{Reason, nothing, racing, chained, Explains, plain, by-race, by-chain}
-use Rattle.reasons.specs.Why.{WhyMemory, WhyCall, short-memory, long-text, answer, reasoned}
+use Rattle.rules.specs.Reasons.{Reason, no-reason, racing, chained, Explains, plain, by-race, by-chain}
+use Rattle.rules.specs.Calls.Why.{WhyMemory, WhyCall, short-memory, long-text, answer, reasoned}
+use Rattle.rules.specs.Truth.{RaceTrue, ChainTrue}
 use Rattle.reasons.specs.Laws.Unique.{one-why, race-only, chain-only}
 use Rattle.reasons.specs.Laws.Whole.{whole-refused}
-use Rattle.reasons.specs.Laws.Races.{RaceTrue, race-true}
+use Rattle.reasons.specs.Laws.Races.{race-true}
 use Rattle.reasons.specs.Laws.Refused.{race-named}
-use Rattle.reasons.specs.Laws.Chains.{ChainTrue, chain-named}
+use Rattle.reasons.specs.Laws.Chains.{chain-named}
 
 -- ONE: number, answer, reason and work memory are settled.
 pub why-settled : {text reason left left′ : List ℕ} {before after after′ : Memory} {n n′ : ℕ} → WhyCall text before after reason left n
@@ -104,12 +104,12 @@ module _ {text reason left : List ℕ} {before after : Memory} (enough : WhyMemo
   chain-told (answer v r m t c x e a l) = told-chain v c x l e
 
   -- NOTHING MORE: every other number, and an accepted text, has the reason of 24 zeros.
-  pub nothing-more : {n : ℕ} → (n ≡ 53 → ⊥) → (n ≡ 51 → ⊥) → WhyCall text before after reason left n → left ≡ reasoned nothing reason
+  pub nothing-more : {n : ℕ} → (n ≡ 53 → ⊥) → (n ≡ 51 → ⊥) → WhyCall text before after reason left n → left ≡ reasoned no-reason reason
   nothing-more p q (short-memory s e a l) = absurd (s enough)
   nothing-more p q (long-text m t e a l) = absurd (omega arith)
   nothing-more p q (answer v r m t c x e a l) = by p q e x l
     where
-      by : {n : ℕ} {v : Verdict} {r : Reason} → (n ≡ 53 → ⊥) → (n ≡ 51 → ⊥) → n ≡ verdictNumber v → Explains text v r → left ≡ reasoned r reason → left ≡ reasoned nothing reason
+      by : {n : ℕ} {v : Verdict} {r : Reason} → (n ≡ 53 → ⊥) → (n ≡ 51 → ⊥) → n ≡ verdictNumber v → Explains text v r → left ≡ reasoned r reason → left ≡ reasoned no-reason reason
       by p q e (plain i j) l = l
       by p q e (by-race d s) l = absurd (p e)
       by p q e (by-chain d s) l = absurd (q e)

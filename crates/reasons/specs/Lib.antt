@@ -1,4 +1,2 @@
 pub mod Claims
 pub mod Laws
-pub mod Reasons
-pub mod Why

@@ -4,3 +4,5 @@ pub mod Run
 pub mod Keep
 pub mod Profile
 pub mod Bound
+pub mod Trace
+pub mod Why

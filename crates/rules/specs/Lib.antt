@@ -12,8 +12,12 @@ pub mod Answers
 pub mod Images
 pub mod Keeping
 pub mod Paths
+pub mod Late
 pub mod Stores
+pub mod Entries
 pub mod Bound
+pub mod Reasons
+pub mod Truth
 pub mod Calls
 pub mod Agreement
 pub mod Examples

@@ -35,8 +35,8 @@ use Rattle.whole.specs.Laws.Whole.{short-chains, told-first}
 use Rattle.reader.specs.Parsed.{Written as ScanWritten}
 use Rattle.reader.specs.Laws.Parsed.{written-holds}
 use Rattle.reader.specs.Laws.Read.{standingOf}
-use Rattle.reasons.specs.Reasons.{reason53}
-use Rattle.reasons.specs.Reasons.{Reason as Said}
+use Rattle.rules.specs.Reasons.{reason53}
+use Rattle.rules.specs.Reasons.{Reason as Said}
 use Rattle.reasons.specs.Laws.Whole.{whole-refused}
 use Rattle.explaining.specs.Again.{Sound, Rescanned, Reread, Rereads, RacedAt}
 

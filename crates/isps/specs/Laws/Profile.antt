@@ -39,7 +39,7 @@ use Rattle.paths.specs.Profile.{listed-exactly, accepted-is-orderly, only-answe
 use Rattle.profiling.specs.Holding.{unseen}
 use Rattle.resuming.specs.Laws.Near.{Near, all-near, places-under}
 use Rattle.isps.specs.Laws.Calls.{four-bytes}
-use Rattle.isps.specs.Late.{StoresLate}
+use Rattle.rules.specs.Late.{StoresLate}
 
 pub one-profile : {text test output : List ℕ} {before after after′ : Memory} {n n′ : ℕ} → ProfileCall text test output before after n
     → ProfileCall text test output before after′ n′ → (n ≡ n′) × (after ≡ after′)

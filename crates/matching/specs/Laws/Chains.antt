@@ -14,7 +14,7 @@ use Rattle.cells.specs.Cells.{cell, putCell}
 use Rattle.rules.specs.Limits.{mostWords}
 use Rattle.rules.specs.Stores.{Entry, entry}
 use Rattle.traces.specs.Marking.{Cells}
-use Rattle.matching.specs.Entries.{mostEntries}
+use Rattle.rules.specs.Entries.{mostEntries}
 use Rattle.matching.specs.Room.{roomSize, nextCell, floorCell, badCell, depthCell, firstCell, endless, posOf, leftFrom, groupsIn, matchingIn, wordAt, Next, Reached, Sound, Stands, Linked, Filled}
 use Rattle.matching.specs.Matching.{untold}
 use Rattle.matching.specs.Seeking.{OfWord, Sought, Reaches, Seeks}

@@ -14,7 +14,7 @@ use Rattle.starts.specs.Laws.Buffers.{number-at}
 use Rattle.rules.specs.Answers.{littleEndian}
 use Rattle.rules.specs.Stores.{Entry, entry}
 use Rattle.traces.specs.Answers.{sameEntry}
-use Rattle.matching.specs.Entries.{entrySize, mostEntries, entryFrom, entriesFrom, entriesIn, isList}
+use Rattle.rules.specs.Entries.{entrySize, mostEntries, entryFrom, entriesFrom, entriesIn, isList}
 
 pub length-entries : (n : ℕ) (b : List ℕ) → length (entriesFrom n b) ≡ n
 unfolding entriesFrom

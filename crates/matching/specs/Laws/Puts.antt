@@ -12,7 +12,7 @@ use lib.ListN.{length, set}
 use Rattle.cells.specs.Cells.{cell, putCell}
 use Rattle.rules.specs.Stores.{Entry}
 use Rattle.traces.specs.Marking.{Pos, Cells}
-use Rattle.matching.specs.Entries.{mostEntries}
+use Rattle.rules.specs.Entries.{mostEntries}
 use Rattle.matching.specs.Matching.{Group, group, matching}
 use Rattle.matching.specs.Room.{nextCell, groupsCell, floorCell, badCell, depthCell, firstCell, mostGroups, posOf, leftFrom, groupsIn, matchingIn, wordAt, Reached, Sound, Stands}
 use Rattle.matching.specs.Laws.Room.{cell-same, cell-other, long-put, left-frame, left-take, length-groups, groups-frame}

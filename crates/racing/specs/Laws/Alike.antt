@@ -9,7 +9,7 @@ use Rattle.rules.specs.Declarations.{Table}
 use Rattle.rules.specs.Whole.Sets.{Sets, race, member, meet}
 use Rattle.laws_orders.specs.Orders.Tests.{member-append}
 use Rattle.reading.specs.Laws.Races.{AlikeSets, race-alike}
-use Rattle.reasons.specs.Reasons.{Member, earliest, Race, raceWith, raceAt, firstRace, raceFrom, raceAmong, conflict, Carrier, firstConflict, writers, writersBy, racing, raceOn, raceReason}
+use Rattle.rules.specs.Reasons.{Member, earliest, Race, raceWith, raceAt, firstRace, raceFrom, raceAmong, conflict, Carrier, firstConflict, writers, writersBy, racing, raceOn, raceReason}
 
 pub record AlikeMember (x y : Member) : Type 0 where
   pub place : x .place ≡ y .place

@@ -19,7 +19,7 @@ use Rattle.reading.specs.Laws.Hearing.{Apart, members-apart}
 use Rattle.reading.specs.Laws.Groups.{touch-action, first-place, lone-alternatives}
 use Rattle.scopes.specs.Walks.{opens}
 use Rattle.scopes.specs.Laws.Behind.{plain as plainly, quiet, All, all-none, all-more, Quiet, plain-kind, quiet-kind, expression-made, transfer-made, selector-made}
-use Rattle.reasons.specs.Reasons.{Member, memberOf, others, group, groupsIn, groupsBehind, groupsAlternatives, groupsCounted, groupsSelected, groupsMore, groupsOfBody, groupsOf}
+use Rattle.rules.specs.Reasons.{Member, memberOf, others, group, groupsIn, groupsBehind, groupsAlternatives, groupsCounted, groupsSelected, groupsMore, groupsOfBody, groupsOf}
 use Rattle.racing.specs.Groups.{memberHere, othersHere, groupHere, groupsHere}
 use Rattle.racing.specs.Laws.Alike.{AlikeMember, AlikeMembers, Matches, match-none, match-group, match-lone}
 

@@ -12,7 +12,7 @@ use Rattle.reading.specs.Reading.{Reading, tableOf}
 use Rattle.reading.specs.Laws.Reading.{kinded, next-token, no-more}
 use Rattle.gathering.specs.Filling.{Complete}
 use Rattle.scopes.specs.Walks.{opens}
-use Rattle.reasons.specs.Reasons.{Race, firstRace, raceFrom, raceAmong}
+use Rattle.rules.specs.Reasons.{Race, firstRace, raceFrom, raceAmong}
 use Rattle.racing.specs.Groups.{groupHere, groupsHere, raceHere}
 use Rattle.racing.specs.Found.{InGroup, InTokens}
 

@@ -20,7 +20,7 @@ use Rattle.gathering.specs.Shown.{Gathers}
 use Rattle.gathering.specs.Filling.{Complete}
 use Rattle.whole.specs.GroupKeys.{Holding}
 use Rattle.whole.specs.Laws.GroupKeys.{action-held, end-inside}
-use Rattle.reasons.specs.Reasons.{Member, earliest, Race, raceWith, raceAt, firstRace, raceFrom}
+use Rattle.rules.specs.Reasons.{Member, earliest, Race, raceWith, raceAt, firstRace, raceFrom}
 use Rattle.racing.specs.Groups.{memberHere, othersHere, groupHere}
 use Rattle.racing.specs.Found.{Path, arrived, passes, memberAt, PathTo, Leads, Chooses, RacesAt, InGroup}
 use Rattle.racing.specs.Laws.Bridge.{onward, others-onward}

@@ -12,7 +12,7 @@ use Rattle.rules.specs.Whole.Sets.{Sets}
 use Rattle.laws_orders.specs.Orders.Tests.{member-append}
 use Rattle.reading.specs.Bits.{holds}
 use Rattle.whole.specs.GroupKeys.{Holding}
-use Rattle.reasons.specs.Reasons.{conflict, firstConflict, writers, writersBy}
+use Rattle.rules.specs.Reasons.{conflict, firstConflict, writers, writersBy}
 use Rattle.racing.specs.Shared.{Shared}
 
 -- the test in the order of the code: the first writes, the second reads, the second writes, the first reads

@@ -17,8 +17,8 @@ use Rattle.gathering.specs.Shown.{Gathers}
 use Rattle.gathering.specs.Filling.{Complete}
 use Rattle.whole.specs.GroupKeys.{Holding}
 use Rattle.whole.specs.Laws.GroupKeys.{action-held}
-use Rattle.reasons.specs.Reasons.{conflict, raceAmong, firstConflict, writers, nothing, racing, raceOn, raceReason, reason53, groupsOf}
-use Rattle.reasons.specs.Reasons.{Reason as Said}
+use Rattle.rules.specs.Reasons.{conflict, raceAmong, firstConflict, writers, no-reason, racing, raceOn, raceReason, reason53, groupsOf}
+use Rattle.rules.specs.Reasons.{Reason as Said}
 use Rattle.racing.specs.Groups.{memberHere, groupsHere, raceHere}
 use Rattle.racing.specs.Found.{memberAt, raceOf, InTokens}
 use Rattle.racing.specs.Shared.{Shared}
@@ -38,7 +38,7 @@ module _ {records decls : List ℕ} {m n : ℕ} (v : Reading records decls m n) 
       (matched-races place (groupsHere (tableOf v) (drop 3 (v .tokens))) (groupsOf (tableOf v) (tableOf v)) match)
 
 module _ {records decls : List ℕ} {m n place e l : ℕ} (f : InTokens records decls m n 3 place e l) where
-  pub no-race : l ≤ e → (v : Reading records decls m n) → nothing ≡ reason53 (tableOf v) place
+  pub no-race : l ≤ e → (v : Reading records decls m n) → no-reason ≡ reason53 (tableOf v) place
   no-race h v = sym (ap (raceReason (tableOf v)) (f .found .nothing h v)) ∙ by-tokens v place
 
   pub with-race : {said : Said} → e < l → ((v : Reading records decls m n) → said ≡ raceReason (tableOf v) (some (raceOf v e l)))
@@ -56,7 +56,7 @@ module _ {records decls memo : List ℕ} {m n : ℕ} (e l : ℕ) (r₁ w₁ : Li
   unfolding memberHere
   second-held v = action-held l r₂ w₂ s₂ c h v
 
-  pub none-shared : m ≤ k → (v : Reading records decls m n) → nothing ≡ raceReason (tableOf v) (some (raceOf v e l))
+  pub none-shared : m ≤ k → (v : Reading records decls m n) → no-reason ≡ raceReason (tableOf v) (some (raceOf v e l))
   none-shared q v =
       sym (ap (raceOn (raceOf v e l)) (first-none (memberAt v e .touches) (memberAt v l .touches) 0 (tableOf v)
       (λ i o. s .before (memberAt v e .touches) (memberAt v l .touches) (first-held v) (second-held v) i (omega (arith, table-size v, q)))))

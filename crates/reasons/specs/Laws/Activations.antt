@@ -19,7 +19,7 @@ use Rattle.rules.specs.Faults.Declared.{declaredAt}
 use Rattle.rules.specs.Faults.Bodies.{activated, judge, faultsIn, alternativesFaults, actionFaults, membersFaults, insideFaults, insideCounted, insideSelected, insideMore, labels, labelFaults, declaredNames, bodyFaults, faults40}
 use Rattle.laws_orders.specs.Orders.Tests.{impossible}
 use Rattle.laws_accepted.specs.Accepted.Faultless.{both-empty, each-empty}
-use Rattle.reasons.specs.Reasons.{bodyOfNumber}
+use Rattle.rules.specs.Reasons.{bodyOfNumber}
 
 module _ (ds : Table) where
   pub record Known (n : Name) : Type 0 where

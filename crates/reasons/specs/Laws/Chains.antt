@@ -18,30 +18,12 @@ use Rattle.rules.specs.Whole.Sets.{member, callsIn, callsI, anyName, chainOver}
 use Rattle.rules.specs.Faults.Fault.{Fault, fault, when}
 use Rattle.rules.specs.Faults.Bodies.{faults40}
 use Rattle.rules.specs.Faults.Whole.{mains, beginsChain, chains, groupsFaults, faults50}
+use Rattle.rules.specs.Truth.{Activates, Activating, Closing, RefusedBody, ChainTrue}
 use Rattle.laws_accepted.specs.Accepted.Named.{and-both}
-use Rattle.reasons.specs.Reasons.{chained, firstOver, bodyOfNumber, chainBehind, refusedBody, placesIn, chainOf, chainFrom, reason51}
+use Rattle.rules.specs.Reasons.{chained, firstOver, bodyOfNumber, chainBehind, refusedBody, placesIn, chainOf, chainFrom, reason51}
 use Rattle.reasons.specs.Laws.Refused.{Among, among-either, among-when}
 use Rattle.reasons.specs.Laws.Fifties.{mains-50, from-52}
 use Rattle.reasons.specs.Laws.Activations.{Known, AllKnown, body-known}
-
--- a body activates another: a name that stands in its text is declared under that number
-pub record Activates (ds : Table) (b c : ℕ) : Type 0 where
-  pub number : ℕ
-  pub name : Name
-  pub called : getElem? (callsIn (bodyOfNumber ds b)) number ≡ some name
-  pub is : numberOf ds name ≡ some c
-
--- each body activates the next one
-abbrev pub Linked : Table → List ℕ → Type 0
-Linked ds [] = Unit {0}
-Linked ds (b ∷ []) = Unit {0}
-Linked ds (b ∷ c ∷ bs) = Activates ds b c × Linked ds (c ∷ bs)
-
--- the last one is listed before
-abbrev pub Closed : List ℕ → List ℕ → Type 0
-Closed listed [] = ⊥
-Closed listed (b ∷ []) = member b listed ≡ true
-Closed listed (b ∷ c ∷ bs) = Closed (b ∷ listed) (c ∷ bs)
 
 module _ (ds : Table) where
   -- the first activation that begins a chain over k
@@ -78,23 +60,23 @@ module _ (ds : Table) where
       by true = record { rest = []; is = refl }
       by false = record { rest = _; is = refl }
 
-  joined : (b c : ℕ) (bs : List ℕ) → Activates ds b c → Begins c bs → Linked ds bs → Linked ds (b ∷ bs)
-  joined b c bs a s l = subst (λ (x : List ℕ). Linked ds (b ∷ x)) (sym (s .is)) (a, subst (Linked ds) (s .is) l)
+  joined : (b c : ℕ) (bs : List ℕ) → Activates ds b c → Begins c bs → Activating ds bs → Activating ds (b ∷ bs)
+  joined b c bs a s l = subst (λ (x : List ℕ). Activating ds (b ∷ x)) (sym (s .is)) (a, subst (Activating ds) (s .is) l)
 
   -- LINKED: each body activates the next one
-  chain-linked : (k : ℕ) (listed : List ℕ) (b : ℕ) → Linked ds (chainBehind ds k listed b)
+  chain-linked : (k : ℕ) (listed : List ℕ) (b : ℕ) → Activating ds (chainBehind ds k listed b)
   unfolding chainBehind
   chain-linked zero listed b = tt
   chain-linked (suc k) listed b = by (member b listed) (λ c. chain-linked k (b ∷ listed) c)
     where
-      on : (o : Option ℕ) → firstOver ds k (callsIn (bodyOfNumber ds b)) ≡ o → ((c : ℕ) → Linked ds (chainBehind ds k (b ∷ listed) c))
-          → Linked ds (b ∷ elim o [ none ↦ [] | some c ↦ chainBehind ds k (b ∷ listed) c ])
+      on : (o : Option ℕ) → firstOver ds k (callsIn (bodyOfNumber ds b)) ≡ o → ((c : ℕ) → Activating ds (chainBehind ds k (b ∷ listed) c))
+          → Activating ds (b ∷ elim o [ none ↦ [] | some c ↦ chainBehind ds k (b ∷ listed) c ])
       on none e rest = tt
       on (some c) e rest =
           let f = first-over k (callsIn (bodyOfNumber ds b)) c e in
           joined b c (chainBehind ds k (b ∷ listed) c) (record { number = f .number; name = f .name; called = f .there; is = f .is }) (begins k (b ∷ listed) c) (rest c)
 
-      by : (o : Bool) → ((c : ℕ) → Linked ds (chainBehind ds k (b ∷ listed) c)) → Linked ds (elim o [
+      by : (o : Bool) → ((c : ℕ) → Activating ds (chainBehind ds k (b ∷ listed) c)) → Activating ds (elim o [
         | true ↦ b ∷ []
         | false ↦ b ∷ elim (firstOver ds k (callsIn (bodyOfNumber ds b))) [ none ↦ [] | some c ↦ chainBehind ds k (b ∷ listed) c ]
       ])
@@ -132,14 +114,14 @@ module _ (ds : Table) where
       by false q rest = let r = rest q in (some (r .number), r .is, tt)
 
   module _ (known : (b : ℕ) → AllKnown ds (callsIn (bodyOfNumber ds b))) where
-    closed-on : (listed : List ℕ) (b c : ℕ) (bs : List ℕ) → Begins c bs → Closed (b ∷ listed) bs → Closed listed (b ∷ bs)
-    closed-on listed b c bs s x = subst (λ (l : List ℕ). Closed listed (b ∷ l)) (sym (s .is)) (subst (Closed (b ∷ listed)) (s .is) x)
+    closed-on : (listed : List ℕ) (b c : ℕ) (bs : List ℕ) → Begins c bs → Closing (b ∷ listed) bs → Closing listed (b ∷ bs)
+    closed-on listed b c bs s x = subst (λ (l : List ℕ). Closing listed (b ∷ l)) (sym (s .is)) (subst (Closing (b ∷ listed)) (s .is) x)
 
     abbrev Ends : List ℕ → ℕ → List ℕ → Type 0
-    Ends listed k bs = (length bs ≡ suc (suc k)) ⊎ Closed listed bs
+    Ends listed k bs = (length bs ≡ suc (suc k)) ⊎ Closing listed bs
 
     -- CLOSED OR PASSED: the last body is listed before, or k + 1 bodies are listed
-    chain-ends : (k : ℕ) (listed : List ℕ) (b : ℕ) → ((j : ℕ) → suc j ≡ k → Leads j b) → (length (chainBehind ds k listed b) ≡ suc k) ⊎ Closed listed (chainBehind ds k listed b)
+    chain-ends : (k : ℕ) (listed : List ℕ) (b : ℕ) → ((j : ℕ) → suc j ≡ k → Leads j b) → (length (chainBehind ds k listed b) ≡ suc k) ⊎ Closing listed (chainBehind ds k listed b)
     unfolding chainBehind
     chain-ends zero listed b l = inl refl
     chain-ends (suc k) listed b l = by (member b listed) refl (λ c h. chain-ends k (b ∷ listed) c h)
@@ -153,13 +135,13 @@ module _ (ds : Table) where
         further : (j : ℕ) → suc j ≡ k → Leads j (next .number)
         further j e = leads j (onward .name) (next .number) (onward .is) (ap (λ (i : ℕ). chainOver ds i (onward .name)) e ∙ onward .over)
 
-        added : (length (chainBehind ds k (b ∷ listed) (next .number)) ≡ suc k) ⊎ Closed (b ∷ listed) (chainBehind ds k (b ∷ listed) (next .number))
-            → (length (b ∷ chainBehind ds k (b ∷ listed) (next .number)) ≡ suc (suc k)) ⊎ Closed listed (b ∷ chainBehind ds k (b ∷ listed) (next .number))
+        added : (length (chainBehind ds k (b ∷ listed) (next .number)) ≡ suc k) ⊎ Closing (b ∷ listed) (chainBehind ds k (b ∷ listed) (next .number))
+            → (length (b ∷ chainBehind ds k (b ∷ listed) (next .number)) ≡ suc (suc k)) ⊎ Closing listed (b ∷ chainBehind ds k (b ∷ listed) (next .number))
         added (inl e) = inl (ap suc e)
         added (inr x) = inr (closed-on listed b (next .number) (chainBehind ds k (b ∷ listed) (next .number)) (begins k (b ∷ listed) (next .number)) x)
 
         by : (o : Bool) → member b listed ≡ o
-            → ((c : ℕ) → ((j : ℕ) → suc j ≡ k → Leads j c) → (length (chainBehind ds k (b ∷ listed) c) ≡ suc k) ⊎ Closed (b ∷ listed) (chainBehind ds k (b ∷ listed) c))
+            → ((c : ℕ) → ((j : ℕ) → suc j ≡ k → Leads j c) → (length (chainBehind ds k (b ∷ listed) c) ≡ suc k) ⊎ Closing (b ∷ listed) (chainBehind ds k (b ∷ listed) c))
             → Ends listed k (elim o [
               | true ↦ b ∷ []
               | false ↦ b ∷ elim (firstOver ds k (callsIn (bodyOfNumber ds b))) [ none ↦ [] | some c ↦ chainBehind ds k (b ∷ listed) c ]
@@ -167,15 +149,6 @@ module _ (ds : Table) where
         by true q rest = inr q
         by false q rest =
             subst (λ (o : Option ℕ). Ends listed k (b ∷ elim o [ none ↦ [] | some c ↦ chainBehind ds k (b ∷ listed) c ])) (sym (next .is)) (added (rest (next .number) further))
-
--- the refused body: a declaration at the place whose name begins a chain over 16 bodies long
-pub record Refused (ds : Table) (p : ℕ) (n : Name) : Type 0 where
-  pub number : ℕ
-  pub declared : Declared
-  pub there : getElem? ds number ≡ some declared
-  pub placed : declared .name .place ≡ p
-  pub named : declared .name .word ≡ n
-  pub over : chainOver ds longestChain n ≡ true
 
 begins-over : (ds : Table) (n : Name) (o : Option Action) → beginsChain ds n o ≡ true → chainOver ds longestChain n ≡ true
 begins-over ds n none e = absurd (false≢true e)
@@ -231,16 +204,6 @@ declared-over ds k n h = by (numberOf ds n) refl h
     by (some b) e q = record { number = b; is = e }
 
 -- WHERE 51 IS REFUSED THERE IS A CHAIN TO NAME, AND IT IS TRUE OF THE TEXT.
-pub record ChainTrue (ds : Table) (p : ℕ) (places : List ℕ) : Type 0 where
-  pub name : Name
-  pub refused : Refused ds p name
-  pub first : ℕ
-  pub its-number : numberOf ds name ≡ some first
-  pub others : List ℕ
-  pub are : places ≡ placesIn ds (first ∷ others)
-  pub linked : Linked ds (first ∷ others)
-  pub closes-or-passes : (length (first ∷ others) ≡ suc longestChain) ⊎ Closed [] (first ∷ others)
-
 pub record ChainNamed (ds : Table) (p : ℕ) : Type 0 where
   pub places : List ℕ
   pub is : reason51 ds p ≡ chained places
@@ -279,8 +242,8 @@ chain-named outer ds p of40 x =
         its-number = d .is;
         others = s .rest;
         are = ap (placesIn ds) (s .is);
-        linked = subst (Linked ds) (s .is) (chain-linked ds longestChain [] b);
-        closes-or-passes = subst (λ (l : List ℕ). (length l ≡ suc longestChain) ⊎ Closed [] l) (s .is)
+        linked = subst (Activating ds) (s .is) (chain-linked ds longestChain [] b);
+        closes-or-passes = subst (λ (l : List ℕ). (length l ≡ suc longestChain) ⊎ Closing [] l) (s .is)
             (chain-ends ds (λ c. body-known ds outer c of40) longestChain [] b (λ j e. leads ds j n b (d .is) (ap (λ (i : ℕ). chainOver ds i n) e ∙ r .5)));
       };
     }

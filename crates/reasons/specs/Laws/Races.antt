@@ -12,19 +12,9 @@ use lib.Dec.{eqb}
 use lib.ListN.{length, getElem?}
 use Rattle.rules.specs.Declarations.{Declared, Table}
 use Rattle.rules.specs.Whole.Sets.{Sets, race}
+use Rattle.rules.specs.Truth.{RaceStands, RaceAmong, FirstConflict, RaceTrue}
 use Rattle.laws_orders.specs.Orders.Tests.{impossible}
-use Rattle.reasons.specs.Reasons.{Member, earliest, Race, raceWith, raceAt, firstRace, raceFrom, raceAmong, conflict, Carrier, firstConflict, writers, nothing, racing, raceOn, raceReason, reason53, groupsOf}
-
--- two members of a group that race, the later one at the place; none before the earlier one races with the later one
-pub record RaceStands (p : ℕ) (g : List Member) (r : Race) : Type 0 where
-  pub first : ℕ
-  pub second : ℕ
-  pub in-order : first < second
-  pub earlier-there : getElem? g first ≡ some (r .earlier)
-  pub later-there : getElem? g second ≡ some (r .later)
-  pub placed : r .later .place ≡ p
-  pub races : race (r .earlier .touches) (r .later .touches) ≡ true
-  pub earliest : (i : ℕ) (x : Member) → i < first → getElem? g i ≡ some x → race (x .touches) (r .later .touches) ≡ false
+use Rattle.rules.specs.Reasons.{Member, earliest, Race, raceWith, raceAt, firstRace, raceFrom, raceAmong, conflict, Carrier, firstConflict, writers, no-reason, racing, raceOn, raceReason, reason53, groupsOf}
 
 -- the earliest member of a list that races with one
 record Earliest (l : Member) (es : List Member) (e : Member) : Type 0 where
@@ -106,13 +96,6 @@ race-from p before (l ∷ ls) r q = by (raceAt p before l) refl q (λ h. race-fr
     by (some x) e h rest = race-at p before l ls r (e ∙ h)
     by none e h rest = subst (λ (g : List Member). RaceStands p g r) (append-one before l ls) (rest h)
 
--- among groups: the number of its group
-pub record RaceAmong (p : ℕ) (gs : List (List Member)) (r : Race) : Type 0 where
-  pub number : ℕ
-  pub group : List Member
-  pub there : getElem? gs number ≡ some group
-  pub stands : RaceStands p group r
-
 pub race-among : (p : ℕ) (gs : List (List Member)) (r : Race) → raceAmong p gs ≡ some r → RaceAmong p gs r
 unfolding raceAmong
 race-among p [] r q = absurd (Option·none-ne-some r q)
@@ -125,16 +108,8 @@ race-among p (g ∷ gs) r q = by (raceFrom p [] g) refl q (λ h. race-among p gs
 abbrev carrierOf : ℕ → ℕ → Carrier
 carrierOf i j = record { number = i; place = j }
 
-named-apart : {e l c n w : ℕ} → nothing ≡ racing e l c n w → _≡_ {A = ℕ} 0 1
+named-apart : {e l c n w : ℕ} → no-reason ≡ racing e l c n w → _≡_ {A = ℕ} 0 1
 named-apart h = cc
-
--- the first carrier in conflict
-pub record FirstConflict (s t : Sets) (ds : Table) (c : Carrier) : Type 0 where
-  pub declared : Declared
-  pub there : getElem? ds (c .number) ≡ some declared
-  pub named : declared .name .place ≡ c .place
-  pub shared : conflict s t (c .number) ≡ true
-  pub first : (i : ℕ) → i < c .number → conflict s t i ≡ false
 
 record ConflictFrom (s t : Sets) (k : ℕ) (ds : Table) (c : Carrier) : Type 0 where
   declared : Declared
@@ -188,14 +163,6 @@ first-conflict s t ds c q =
     record { declared = x .declared; there = ap (getElem? ds) (let z : c .number ≡ c .number - 0 = omega arith in z) ∙ x .there; named = x .named; shared = x .shared; first = λ i o. x .first i (omega arith) o }
 
 -- WHAT A RACE SAYS IS TRUE: where the reason of 53 at p names a race, these members stand in a group of a body and the carrier is in conflict.
-pub record RaceTrue (ds : Table) (p earlier later carrier name who : ℕ) : Type 0 where
-  pub race : Race
-  pub among : RaceAmong p (groupsOf ds ds) race
-  pub earlier-is : race .earlier .place ≡ earlier
-  pub later-is : race .later .place ≡ later
-  pub conflicting : FirstConflict (race .earlier .touches) (race .later .touches) ds (record { number = carrier; place = name })
-  pub who-is : who ≡ writers (race .earlier .touches) (race .later .touches) carrier
-
 pub race-true : (ds : Table) (p e l c n w : ℕ) → reason53 ds p ≡ racing e l c n w → RaceTrue ds p e l c n w
 unfolding reason53
 race-true ds p e l c n w q = by (raceAmong p (groupsOf ds ds)) refl q

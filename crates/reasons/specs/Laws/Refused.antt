@@ -24,7 +24,7 @@ use Rattle.rules.specs.Faults.Bodies.{firstPlace}
 use Rattle.rules.specs.Faults.Whole.{Scope, labelled-in, aimsOut, hasMore, racesAny, memberFaults, memberScope, groupFaults, membersOf, alternativesGroups, countedGroups, selectedGroups, moreGroups, mains, beginsChain, chains, bodyGroups, groupsFaults, faults50}
 use Rattle.laws_orders.specs.Orders.Tests.{or-either, or-left, or-right, member-either}
 use Rattle.reasons.specs.Laws.Races.{race-among}
-use Rattle.reasons.specs.Reasons.{Member, memberOf, others, group, groupsIn, groupsBehind, groupsAlternatives, groupsCounted, groupsSelected, groupsMore, groupsOfBody, groupsOf, earliest, Race, raceAt, firstRace, raceFrom, raceAmong, conflict, Carrier, firstConflict, writers, racing, raceOn, raceReason, reason53}
+use Rattle.rules.specs.Reasons.{Member, memberOf, others, group, groupsIn, groupsBehind, groupsAlternatives, groupsCounted, groupsSelected, groupsMore, groupsOfBody, groupsOf, earliest, Race, raceAt, firstRace, raceFrom, raceAmong, conflict, Carrier, firstConflict, writers, racing, raceOn, raceReason, reason53}
 
 -- a fault of a list
 abbrev pub Among : Fault → List Fault → Type 0

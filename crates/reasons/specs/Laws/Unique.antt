@@ -11,8 +11,8 @@ use Rattle.rules.specs.Calls.Memory.{Memory, settled}
 use Rattle.rules.specs.Calls.Check.{verdictNumber}
 use Rattle.laws_grammar.specs.Grammar.Exact.{unique}
 use Rattle.laws_grammar.specs.Answers.{one-verdict}
-use Rattle.reasons.specs.Reasons.{Reason, nothing, reason53, reason51, Explains, plain, by-race, by-chain}
-use Rattle.reasons.specs.Why.{WhyCall, short-memory, long-text, answer, reasoned}
+use Rattle.rules.specs.Reasons.{Reason, no-reason, reason53, reason51, Explains, plain, by-race, by-chain}
+use Rattle.rules.specs.Calls.Why.{WhyCall, short-memory, long-text, answer, reasoned}
 
 -- a text has one description
 pub one-description : (text : List ℕ) (d e : Description) → flatten d ≡ scan text .tokens → flatten e ≡ scan text .tokens → d ≡ e
@@ -38,7 +38,7 @@ one-reason (by-race d s) y = sym (race-only d s refl y)
 one-reason (by-chain d s) y = sym (chain-only d s refl y)
 one-reason (plain n o) y = by n o y
   where
-    by : {text : List ℕ} {v : Verdict} {q : Reason} → (verdictNumber v ≡ 53 → ⊥) → (verdictNumber v ≡ 51 → ⊥) → Explains text v q → nothing ≡ q
+    by : {text : List ℕ} {v : Verdict} {q : Reason} → (verdictNumber v ≡ 53 → ⊥) → (verdictNumber v ≡ 51 → ⊥) → Explains text v q → no-reason ≡ q
     by n o (plain m p) = refl
     by n o (by-race d s) = absurd (n refl)
     by n o (by-chain d s) = absurd (o refl)

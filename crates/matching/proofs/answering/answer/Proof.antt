@@ -5,7 +5,7 @@ use native.Mathlib.Omega.{arith}
 use mathlib.Core.Path.{_∙_, ap}
 use lib.ListN.{length}
 use Rattle.rules.specs.Stores.{upTo}
-use Rattle.matching.specs.Entries.{entriesIn}
+use Rattle.rules.specs.Entries.{entriesIn}
 use Rattle.matching.specs.Laws.Answering.{says-bad, says-missing, says-all}
 use Rattle.matching.proofs.answering.answer.Statement.{statement}
 use Rattle.matching.proofs.answering.answer.Tie as tie

@@ -3,7 +3,7 @@
 use borrow.Author.Needs.{needs}
 use mathlib.Core.Path.{_≡_, refl}
 use lib.ListN.{length}
-use Rattle.matching.specs.Entries.{entriesIn}
+use Rattle.rules.specs.Entries.{entriesIn}
 use Rattle.matching.specs.Room.{Linked}
 use Rattle.matching.specs.Laws.Chains.{one-less, none-before}
 use Rattle.matching.proofs.beginning.link_all.Statement.{statement}

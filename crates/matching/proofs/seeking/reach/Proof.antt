@@ -3,7 +3,7 @@
 use borrow.Author.Needs.{needs}
 use native.Mathlib.Omega.{arith}
 use Prim.Native.Nat.{_-_}
-use Rattle.matching.specs.Entries.{entriesIn}
+use Rattle.rules.specs.Entries.{entriesIn}
 use Rattle.matching.specs.Room.{Reached}
 use Rattle.matching.specs.Laws.Chains.{first-reached, reach-next, reaches-here, reaches-none}
 use Rattle.matching.proofs.seeking.reach.Statement.{statement}

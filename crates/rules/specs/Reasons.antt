@@ -141,16 +141,16 @@ writers s t c = writersBy (member c (s .writes)) (member c (t .writes))
 -- What there is to say: nothing more; a race, by the places of both members, the carrier's number, the place of its name and who writes it; a chain, by the
 -- places of the names of its bodies.
 pub data Reason : Type 0 where
-  nothing : Reason
+  no-reason : Reason
   racing : (earlier later carrier name who : ℕ) → Reason
   chained : List ℕ → Reason
 
 abbrev pub raceOn : Race → Option Carrier → Reason
-raceOn r none = nothing
+raceOn r none = no-reason
 raceOn r (some c) = racing (r .earlier .place) (r .later .place) (c .number) (c .place) (writers (r .earlier .touches) (r .later .touches) (c .number))
 
 abbrev pub raceReason : Table → Option Race → Reason
-raceReason ds none = nothing
+raceReason ds none = no-reason
 raceReason ds (some r) = raceOn r (firstConflict (r .earlier .touches) (r .later .touches) 0 ds)
 
 -- 53 at a place
@@ -190,11 +190,11 @@ placesIn ds [] = []
 placesIn ds (b ∷ bs) = placeIn ds b ∷ placesIn ds bs
 
 abbrev pub chainOf : Table → Option ℕ → Reason
-chainOf ds none = nothing
+chainOf ds none = no-reason
 chainOf ds (some b) = chained (placesIn ds (chainBehind ds longestChain [] b))
 
 abbrev pub chainFrom : Table → Option Name → Reason
-chainFrom ds none = nothing
+chainFrom ds none = no-reason
 chainFrom ds (some n) = chainOf ds (numberOf ds n)
 
 -- 51 at a place
@@ -203,6 +203,6 @@ reason51 ds p = chainFrom ds (refusedBody ds p ds)
 
 -- the reasons that may be given for a verdict on a text
 pub data Explains (text : List ℕ) : Verdict → Reason → Type 0 where
-  plain : {v : Verdict} → (verdictNumber v ≡ 53 → ⊥) → (verdictNumber v ≡ 51 → ⊥) → Explains text v nothing
+  plain : {v : Verdict} → (verdictNumber v ≡ 53 → ⊥) → (verdictNumber v ≡ 51 → ⊥) → Explains text v no-reason
   by-race : {p : ℕ} (d : Description) → flatten d ≡ scan text .tokens → Explains text (refused 53 p) (reason53 (declarations d) p)
   by-chain : {p : ℕ} (d : Description) → flatten d ≡ scan text .tokens → Explains text (refused 51 p) (reason51 (declarations d) p)

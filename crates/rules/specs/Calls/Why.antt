@@ -3,11 +3,11 @@ use Prim.Native.Nat.{ℕ, zero, suc, _<_, _≤_}
 use mathlib.Core.Path.{_≡_}
 use mathlib.Core.List.{List, [], _∷_, _++_}
 use lib.ListN.{length, drop}
 use Rattle.rules.specs.Limits.{longestText}
 use Rattle.rules.specs.Answers.{Verdict, Checks, verdictNumbers}
 use Rattle.rules.specs.Calls.Memory.{Memory, Enough, numberBytes, settled}
 use Rattle.rules.specs.Calls.Check.{verdictNumber}
-use Rattle.reasons.specs.Reasons.{Reason, nothing, racing, chained, Explains}
+use Rattle.rules.specs.Reasons.{Reason, no-reason, racing, chained, Explains}
 
 -- how many numbers a reason has, and how many bytes
 abbrev pub reasonCount : ℕ
@@ -24,7 +24,7 @@ padded (suc k) (n ∷ ns) = n ∷ padded k ns
 
 -- what the numbers begin with: 0 for nothing more, 1 for a race, 2 for a chain and how many bodies are listed
 abbrev pub reasonFront : Reason → List ℕ
-reasonFront nothing = []
+reasonFront no-reason = []
 reasonFront (racing e l c n w) = 1 ∷ e ∷ l ∷ c ∷ n ∷ w ∷ []
 reasonFront (chained ps) = 2 ∷ length ps ∷ ps
 
