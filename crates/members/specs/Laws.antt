@@ -1,0 +1,2 @@
+-- The laws of members.
+pub mod Cells
