@@ -9,7 +9,7 @@ count-answer-spec =
     tie.close
     (tie.spec
     (λ c κs. search needs)
-    (λ c. count-endless (c .before .before .args .count) (c .before .if1 .taken) (c .found .ensures))
+    (λ c. count-endless (c .before .before .args .count) (c .before .if1 .taken) (c .unrefused .ensures))
     (λ c. search needs)
     (λ c κs. search needs)
-    (λ c. count-bound (c .before .if1 .left) (c .found2 .ensures)))
+    (λ c. count-bound (c .before .if1 .left) (c .unrefused2 .ensures)))

@@ -39,7 +39,7 @@ returns-4 c words v =
     let tested = c .before .before .before .before .before .before .before .before .before .before .before .before .before .test-number .ensures (written-by v) in
     let put = c .before .before .before .before .before .before .before .before .before .before .output-number .ensures words v in
     in-time (s .args .test .now) (s .args .output .now) v tested (c .before .before .before .before .before .before .before .before .before .before .before .before .if1 .left) put (c .before .before .before .before .before .before .before .before .before .if2 .left)
-    (c .before .before .before .before .before .before .lowest .ensures (to-ask (s .args .test .now) (s .args .output .now) v tested (c .before .before .before .before .before .before .before .before .before .before .before .before .if1 .left) put (c .before .before .before .before .before .before .before .before .before .if2 .left))) (c .before .if3 .left) (c .passes .ensures)
+    (c .before .before .before .before .before .before .lowest .ensures (to-ask (s .args .test .now) (s .args .output .now) v tested (c .before .before .before .before .before .before .before .before .before .before .before .before .if1 .left) put (c .before .before .before .before .before .before .before .before .before .if2 .left))) (c .before .if3 .left) (c .unrefused .ensures)
 
 pub profile-accepted-spec : {M : Type 1} → statement M
 profile-accepted-spec =
