@@ -78,7 +78,7 @@ pub fn bound(text: &[u8], a: &mut [u8], b: &mut [u8], c: &mut [u8]) -> Answer {
 pub fn carrier_bytes(words: u64) -> usize
     ensures { λ r. ⌜ r ≤ 32768 ⌝ }
 {
-    if MOST_WORDS as u64 < words {
+    if (MOST_WORDS as u64) < words {
         return 32768;
     }
     words as usize * 8
