@@ -18,7 +18,7 @@ ghost use Rattle.racing.specs.Told.{reasonIn};
 // Nothing; or the places of both members, the carrier's number, the place of its name, and who writes it.
 pub enum Reason {
     Nothing,
-    Race(usize, usize, usize, usize, u32),
+    Race(u32, u32, u32, u32, u32),
 }
 
 // What the members at two tokens share.
@@ -44,7 +44,7 @@ fn shared(
     let second = place_of(records, decls, m, n, later);
     let name = name_place(records, decls, m, n, k);
     let who = writers(u, t, k);
-    Reason::Race(first, second, k, name, who)
+    Reason::Race(first as u32, second as u32, k as u32, name as u32, who)
 }
 
 // The reason of 53 at the place.
