@@ -1,1 +1,3 @@
+-- The laws of explaining.
 pub mod Again
+pub mod Reasons

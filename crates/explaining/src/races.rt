@@ -52,7 +52,7 @@ pub fn race_of(text: &[u8], a: &mut [u8], b: &mut [u8], c: &mut [u8], place: usi
     ensures { λ r. ⌜ ((d : Description) → flatten d ≡ scan (now (text .entry)) .tokens → reasonIn r ≡ reason53 (declarations d) place) ⌝ }
 {
     match reread(text, a, b, c) {
-        Standing::Refused(number, at) => Reason::Nothing,
+        Standing::Refused(_, _) => Reason::Nothing,
         Standing::Fine(m, n) => race_at(text, a, b, c, m, n, place),
     }
 }

@@ -3,14 +3,14 @@ use Prim.Native.Nat.{ℕ, _+_, _*_, _<_, _≤_, min}
 use mathlib.Core.Path.{_≡_, refl, sym, ap, _∙_}
 use mathlib.Core.Bool.{false}
 use mathlib.Core.List.{List}
-use mathlib.Core.Option.{Option, Option·none-ne-some}
+use mathlib.Core.Option.{Option·none-ne-some}
 use native.Mathlib.Decide.{decLt}
 use native.Mathlib.Omega.{arith}
 use lib.ListN.{length}
 use Rattle.rules.specs.Limits.{longestText, deepest, longestChain}
 use Rattle.rules.specs.Text.Scan.{scan}
 use Rattle.rules.specs.Grammar.Trees.{Description, flatten}
-use Rattle.rules.specs.Declarations.{Name, declarations}
+use Rattle.rules.specs.Declarations.{Name, Table, declarations}
 use Rattle.rules.specs.Whole.Sets.{chainOver}
 use Rattle.rules.specs.Faults.Fault.{fault, byPlace, byNumber, least}
 use Rattle.rules.specs.Faults.Whole.{mains, chains, faults50}
@@ -35,15 +35,13 @@ use Rattle.whole.specs.Laws.Whole.{short-chains, told-first}
 use Rattle.reader.specs.Parsed.{Written as ScanWritten}
 use Rattle.reader.specs.Laws.Parsed.{written-holds}
 use Rattle.reader.specs.Laws.Read.{standingOf}
-use Rattle.rules.specs.Reasons.{reason53}
-use Rattle.rules.specs.Reasons.{Reason as Said}
 use Rattle.reasons.specs.Laws.Whole.{whole-refused}
 use Rattle.explaining.specs.Again.{Sound, Rescanned, Reread, Rereads, RacedAt}
 
 -- a text that is refused for its whole is sound
-pub sound : {text : List ℕ} {p : ℕ} → Checks text (refused 53 p) → Sound text
-sound c =
-    let w = whole-refused (omega arith) refl c in
+pub sound : {text : List ℕ} {m p : ℕ} → 50 ≤ m → Checks text (refused m p) → Sound text
+sound h c =
+    let w = whole-refused h refl c in
     record { description = w .description; readable = w .readable; stands = w .stands; shallow = w .shallow; passed = w .of30 }
 
 -- its scan is fine
@@ -114,7 +112,6 @@ module _ {records decls : List ℕ} {m n a b first : ℕ} (of50 : (v : Reading r
           omega (arith, ea, eb, z)
 
 -- for every description that stands in the text
-pub for-all : (p : ℕ) {text records decls : List ℕ} {m n : ℕ} {said : Said} (r : Reread text records decls m n) → said ≡ reason53 (tableOf (r .reading)) p
-    → (d : Description) → flatten d ≡ scan text .tokens → said ≡ reason53 (declarations d) p
-for-all p r e d s =
-    e ∙ ap (λ (x : Description). reason53 (declarations x) p) (unique (r .reading .description) d (r .stands ∙ sym s))
+pub for-all : {A : Type 0} (f : Table → A) {text records decls : List ℕ} {m n : ℕ} {said : A} (r : Reread text records decls m n) → said ≡ f (tableOf (r .reading))
+    → (d : Description) → flatten d ≡ scan text .tokens → said ≡ f (declarations d)
+for-all f r e d s = e ∙ ap (λ (x : Description). f (declarations x)) (unique (r .reading .description) d (r .stands ∙ sym s))

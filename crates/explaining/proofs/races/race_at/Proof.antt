@@ -1,6 +1,7 @@
 -- `explaining::races::race_at` meets its contract.
 use borrow.Author.Needs.{needs}
 use native.Mathlib.Omega.{arith}
+use Rattle.rules.specs.Reasons.{reason53}
 use Rattle.explaining.specs.Laws.Again.{raced-at, no-chains, not-before, for-all}
 use Rattle.explaining.proofs.races.race_at.Statement.{statement}
 use Rattle.explaining.proofs.races.race_at.Tie as tie
@@ -29,4 +30,4 @@ race-at-spec =
       ),
     ))
     (λ c. search needs)
-    (λ c d s. for-all (c .before .before .before .before .before .before .before .before .before .before .before .before .before .before .args .place) (c .before .before .before .before .before .before .before .before .before .before .before .before .before .before .pre .0 .1) (c .race-reason .ensures (c .before .before .before .before .before .before .before .before .before .before .before .before .before .before .pre .0 .1 .reading)) d s))
+    (λ c d s. for-all (λ ds. reason53 ds (c .before .before .before .before .before .before .before .before .before .before .before .before .before .before .args .place)) (c .before .before .before .before .before .before .before .before .before .before .before .before .before .before .pre .0 .1) (c .race-reason .ensures (c .before .before .before .before .before .before .before .before .before .before .before .before .before .before .pre .0 .1 .reading)) d s))
