@@ -1,5 +1,5 @@
 // Check: judges a text.
-mod verdicts;
+pub mod verdicts;
 
 use crate::verdicts::checked;
 use lent::memory::unread;

@@ -56,7 +56,7 @@ pub fn unrefused(ending: u32, steps: u32, fourth: u32, fifth: u32) -> Answer
 }
 
 // Two numbers of 32 bits as one of 64.
-fn pair(low: u32, high: u32) -> u64
+pub fn pair(low: u32, high: u32) -> u64
     ensures { λ r. ⌜ (r ≡ low + 4294967296 * high) × (low < 4294967296) ⌝ }
 {
     (low as u64) + 4294967296 * (high as u64)

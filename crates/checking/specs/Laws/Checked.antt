@@ -40,7 +40,7 @@ near (accepts h) = (omega (arith, h .lawful .declares .ready .few), omega (arith
 near (refuses h) = h .near
 
 -- the number of an answer is the second of its numbers
-number-is : (text : List ℕ) (v : Answered) (a : Answer) → numbersOf a ≡ verdictNumbers text v → a .number ≡ verdictNumber v
+pub number-is : (text : List ℕ) (v : Answered) (a : Answer) → numbersOf a ≡ verdictNumbers text v → a .number ≡ verdictNumber v
 number-is text (accepted m w) a e = cc
 number-is text (refused m p) a e = cc
 
