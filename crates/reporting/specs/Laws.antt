@@ -1,0 +1,3 @@
+-- The laws of reporting.
+pub mod Numbers
+pub mod Reported
