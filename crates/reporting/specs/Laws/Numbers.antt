@@ -1,10 +1,10 @@
 -- Laws of numbers written into lent bytes, two at a time.
-use Prim.Native.Nat.{ℕ, zero, suc, _+_, _*_, _<_, _≤_}
+use Prim.Native.Nat.{ℕ, suc, _+_, _*_, _<_, _≤_}
 use mathlib.Core.Path.{_≡_, refl, sym, ap, ap₂, _∙_}
 use mathlib.Core.List.{List, [], _∷_, _++_, append-assoc, append-nil}
 use native.Mathlib.Omega.{arith}
 use native.Mathlib.Numerals.{add-one}
-use lib.ListN.{length, take, drop, getD, length-append, length-take}
+use lib.ListN.{length, take, drop, getD, length-take}
 use lib.Seq.{take-all, take-suc}
 use Rattle.rules.specs.Answers.{bytesOf}
 use Rattle.rules.specs.Calls.Memory.{numberBytes}

@@ -7,7 +7,7 @@ use lib.ListN.{length, drop}
 use Rattle.rules.specs.Limits.{longestText}
 use Rattle.rules.specs.Answers.{Verdict, accepted, refused, verdictNumbers}
 use Rattle.rules.specs.Calls.Memory.{Memory, Enough, numberBytes, settled}
-use Rattle.rules.specs.Calls.Why.{reasonSize, reasoned, WhyMemory, WhyCall, answer}
+use Rattle.rules.specs.Calls.Why.{reasonSize, reasoned, WhyCall, answer}
 use Rattle.rules.specs.Calls.Why as call
 use Rattle.lent.specs.Numbers.{numbersOf}
 use Rattle.lent.specs.Measured.{Unread, short-memory, long-text, none}
