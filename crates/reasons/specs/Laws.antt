@@ -5,5 +5,6 @@ pub mod Fifties
 pub mod Races
 pub mod Refused
 pub mod Scanned
+pub mod Told
 pub mod Unique
 pub mod Whole

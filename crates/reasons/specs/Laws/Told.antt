@@ -1,53 +1,23 @@
--- WHAT IS CLAIMED OF REASONS, for every call that `WhyCall` allows. All words are those of the crate `rules`.
+-- Laws of what the numbers of a reason tell, for every call that `WhyCall` allows.
 use Prim.Native.Nat.{ℕ, _≤_}
 use mathlib.Core.Path.{_≡_, sym, ap, _∙_, subst}
 use mathlib.Core.List.{List}
 use native.Mathlib.Omega.{arith}
 use lib.ListN.{length}
 use Rattle.rules.specs.Limits.{longestText}
-use Rattle.rules.specs.Text.Scan.{scan}
-use Rattle.rules.specs.Grammar.Trees.{Description, flatten}
 use Rattle.rules.specs.Declarations.{declarations, outerName}
 use Rattle.rules.specs.Answers.{Verdict, accepted, refused, Checks}
-use Rattle.rules.specs.Calls.Memory.{Memory}
-use Rattle.rules.specs.Calls.Check.{verdictNumber}
-use Rattle.rules.specs.Reasons.{Reason, no-reason, racing, chained, Explains, plain, by-race, by-chain}
-use Rattle.rules.specs.Calls.Why.{WhyMemory, WhyCall, short-memory, long-text, answer, reasoned}
-use Rattle.rules.specs.Truth.{RaceTrue, ChainTrue}
-use Rattle.reasons.specs.Laws.Unique.{one-why, race-only, chain-only}
+use Rattle.rules.specs.Calls.Memory.{Memory, Enough}
+use Rattle.rules.specs.Calls.Check.{CheckCall, verdictNumber}
+use Rattle.rules.specs.Calls.Check as check
+use Rattle.rules.specs.Reasons.{Reason, no-reason, Explains, plain, by-race, by-chain}
+use Rattle.rules.specs.Calls.Why.{WhyMemory, WhyCall, short-memory, long-text, answer, reasonSize, reasoned}
+use Rattle.reasons.specs.Told.{RaceTold, ChainTold}
+use Rattle.reasons.specs.Laws.Unique.{race-only, chain-only}
 use Rattle.reasons.specs.Laws.Whole.{whole-refused}
 use Rattle.reasons.specs.Laws.Races.{race-true}
 use Rattle.reasons.specs.Laws.Refused.{race-named}
 use Rattle.reasons.specs.Laws.Chains.{chain-named}
-
--- ONE: number, answer, reason and work memory are settled.
-pub why-settled : {text reason left left′ : List ℕ} {before after after′ : Memory} {n n′ : ℕ} → WhyCall text before after reason left n
-    → WhyCall text before after′ reason left′ n′ → (n ≡ n′) × (after ≡ after′) × (left ≡ left′)
-why-settled = one-why
-
--- the reason that stands in the numbers names a race of the description in the text
-pub record RaceTold (text reason left : List ℕ) : Type 0 where
-  pub description : Description
-  pub stands : flatten description ≡ scan text .tokens
-  pub place : ℕ
-  pub refusal : Checks text (refused 53 place)
-  pub earlier : ℕ
-  pub later : ℕ
-  pub carrier : ℕ
-  pub name : ℕ
-  pub who : ℕ
-  pub numbers : left ≡ reasoned (racing earlier later carrier name who) reason
-  pub is-true : RaceTrue (declarations description) place earlier later carrier name who
-
--- or a chain of its activations
-pub record ChainTold (text reason left : List ℕ) : Type 0 where
-  pub description : Description
-  pub stands : flatten description ≡ scan text .tokens
-  pub place : ℕ
-  pub refusal : Checks text (refused 51 place)
-  pub places : List ℕ
-  pub numbers : left ≡ reasoned (chained places) reason
-  pub is-true : ChainTrue (declarations description) place places
 
 told-race : {text reason left : List ℕ} {r : Reason} (v : Verdict) → Checks text v → Explains text v r → left ≡ reasoned r reason → 53 ≡ verdictNumber v
     → RaceTold text reason left
@@ -91,7 +61,7 @@ told-chain {text} {reason} {left} {r} (refused m p) c x l e =
       is-true = n .true-of-text;
     }
 
--- TRUE: a call that returns 53 names a race of the text, and one that returns 51 a chain of it.
+-- a call that returns 53, one that returns 51, and one that returns another number
 module _ {text reason left : List ℕ} {before after : Memory} (enough : WhyMemory before reason) (short : length text ≤ longestText) where
   pub race-told : WhyCall text before after reason left 53 → RaceTold text reason left
   race-told (short-memory s e a l) = absurd (s enough)
@@ -103,7 +73,6 @@ module _ {text reason left : List ℕ} {before after : Memory} (enough : WhyMemo
   chain-told (long-text m t e a l) = absurd (omega arith)
   chain-told (answer v r m t c x e a l) = told-chain v c x l e
 
-  -- NOTHING MORE: every other number, and an accepted text, has the reason of 24 zeros.
   pub nothing-more : {n : ℕ} → (n ≡ 53 → ⊥) → (n ≡ 51 → ⊥) → WhyCall text before after reason left n → left ≡ reasoned no-reason reason
   nothing-more p q (short-memory s e a l) = absurd (s enough)
   nothing-more p q (long-text m t e a l) = absurd (omega arith)
@@ -113,3 +82,9 @@ module _ {text reason left : List ℕ} {before after : Memory} (enough : WhyMemo
       by p q e (plain i j) l = l
       by p q e (by-race d s) l = absurd (p e)
       by p q e (by-chain d s) l = absurd (q e)
+
+-- without the reason it is a call of Check
+pub as-check : {text reason left : List ℕ} {before after : Memory} {n : ℕ} → reasonSize ≤ length reason → WhyCall text before after reason left n → CheckCall text before after n
+as-check room (short-memory s e a l) = check.short-memory (λ (m : Enough _). s (record { enough = m; room = room })) e a
+as-check room (long-text m t e a l) = check.long-text (m .enough) t e a
+as-check room (answer v r m t c x e a l) = check.answer v (m .enough) t c e a
