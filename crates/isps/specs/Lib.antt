@@ -1,4 +1,5 @@
 pub mod Demands
+pub mod Why
 pub mod Profile
 pub mod Images
 pub mod Bound

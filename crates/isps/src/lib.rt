@@ -1,6 +1,7 @@
 // The public calls.
 ghost use Rattle.rules.specs.Calls.Memory.{memory};
 ghost use Rattle.rules.specs.Calls.Check.{CheckCall};
+ghost use Rattle.rules.specs.Calls.Why.{WhyCall};
 ghost use Rattle.rules.specs.Calls.Run.{RunCall};
 ghost use Rattle.rules.specs.Calls.Profile.{ProfileCall};
 ghost use Rattle.rules.specs.Calls.Keep.{StoreCall, LoadCall};
@@ -19,6 +20,22 @@ pub extern "C" fn isps_check(
         (memory (now (a .exit)) (now (b .exit)) (now (c .exit)) (now (answer .exit))) r ⌝ }
 {
     checking::check(text, a, b, c, answer)
+}
+
+// Why: judges a text as Check does, and says why it is refused. The reason stands in front of `reason` unless the number is 1 or 2.
+#[no_mangle]
+pub extern "C" fn isps_why(
+    text: &[u8],
+    a: &mut [u8],
+    b: &mut [u8],
+    c: &mut [u8],
+    reason: &mut [u8],
+    answer: &mut [u8],
+) -> u32
+    ensures { λ r. ⌜ WhyCall (now (text .entry)) (memory (now (a .entry)) (now (b .entry)) (now (c .entry)) (now (answer .entry)))
+        (memory (now (a .exit)) (now (b .exit)) (now (c .exit)) (now (answer .exit))) (now (reason .entry)) (now (reason .exit)) r ⌝ }
+{
+    reporting::why(text, a, b, c, reason, answer)
 }
 
 // Run: reads a text afresh and runs it from the carriers, left to right, with a budget of steps.
