@@ -114,7 +114,7 @@ fn step(
     let body = walk.body;
     let before = walk.listed;
     let old = walk.numbers;
-    let numbers = with_body(
+    let more = with_body(
         records,
         decls,
         m,
@@ -124,17 +124,17 @@ fn step(
         FIRST + LONGEST_CHAIN - 1 - k,
     );
     if has(before, body) {
-        return ended(numbers);
+        return ended(more);
     }
     let next = first_of(records, decls, m, n, body, level, all);
     if m <= next {
-        return ended(numbers);
+        return ended(more);
     }
     Walk {
         going: true,
         body: next,
         listed: union(only(body), before),
-        numbers,
+        numbers: more,
     }
 }
 
