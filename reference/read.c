@@ -40,15 +40,21 @@ static void give(uint32_t answer[8], const uint8_t *text, uint32_t ending, Fault
         give_position(answer, text, fault);
 }
 
+/* What Check answers. */
+static void give_verdict(const Reader *r, uint32_t answer[8])
+{
+    give(answer, r->text, r->fault.number == 0 ? DONE : REFUSED, r->fault, 0);
+    if (r->fault.number == 0) {
+        answer[DECLARATIONS] = r->declaration_count;
+        answer[WORDS] = r->word_count;
+    }
+}
+
 uint32_t reference_check(const uint8_t *text, size_t text_len, uint32_t answer[8])
 {
     Reader r;
     read_text(&r, text, text_len);
-    give(answer, text, r.fault.number == 0 ? DONE : REFUSED, r.fault, 0);
-    if (r.fault.number == 0) {
-        answer[DECLARATIONS] = r.declaration_count;
-        answer[WORDS] = r.word_count;
-    }
+    give_verdict(&r, answer);
     give_back_memory(r.memory);
     return answer[NUMBER];
 }

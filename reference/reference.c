@@ -39,3 +39,4 @@ enum { DONE, STOPPED, PAUSED, FAULTED, REFUSED, NO_BOUND };
 #include "profile.c"
 #include "paths.c"
 #include "bound.c"
+#include "why.c"

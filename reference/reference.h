@@ -35,4 +35,7 @@ bool reference_profile_search(const uint8_t *text, size_t text_len, const uint8_
 /* The bound on the steps of a run. */
 uint32_t reference_bound(const uint8_t *text, size_t text_len, uint32_t answer[8]);
 
+/* The answer of Check, and the reason of a refusal as the 24 numbers that include/isps.h lists. */
+uint32_t reference_why(const uint8_t *text, size_t text_len, uint32_t reason[24], uint32_t answer[8]);
+
 #endif
