@@ -1,4 +1,4 @@
-/* The edges of the calls: lengths off by one, every byte value, each carrier bit, names of every kind, paths past a test,
+/* The edges of the calls: lengths off by one, every byte value, each carrier bit, reasons of races and chains, names of every kind, paths past a test,
  * images of every shape, bounds around the most steps. Prints what fails, and `N passed, M failed`. */
 #include <stdbool.h>
 #include <stdio.h>
@@ -67,6 +67,24 @@ static void judge_elsewhere(const char *what, unsigned detail, const uint32_t an
     judge_position(what, detail, answer, 1, 1);
 }
 
+static const uint32_t nothing_more[24];
+
+static void judge_reason(const char *what, unsigned detail, const uint32_t reason[24], const uint32_t expected[24])
+{
+    if (memcmp(reason, expected, 24 * sizeof *reason) == 0) {
+        passed++;
+        return;
+    }
+    failed++;
+    printf("%s, %u: reason and what was expected:\n", what, detail);
+    for (int i = 0; i < 24; i++)
+        printf(" %u", reason[i]);
+    printf("\n");
+    for (int i = 0; i < 24; i++)
+        printf(" %u", expected[i]);
+    printf("\n");
+}
+
 /* The image of one word that holds 15. */
 static void make_image_of_15(uint8_t image[BLOCK_SIZE])
 {
@@ -80,12 +98,15 @@ static void make_image_of_15(uint8_t image[BLOCK_SIZE])
 /* All calls on a text, with lengths of one's own. */
 static void all_refuse(const char *what, unsigned detail, const Lengths *lengths, const uint8_t *text, size_t len, uint32_t number, uint32_t place)
 {
-    uint32_t answer[8];
+    uint32_t answer[8], reason[24];
     const char *broken;
     uint8_t carriers[8] = {0}, image[BLOCK_SIZE];
     make_image_of_15(image);
     lent_check_with(lengths, text, len, answer, &broken);
     judge_refusal(what, detail, answer, text, number, place, broken);
+    lent_why_with(lengths, ISPS_REASON_SIZE, text, len, reason, answer, &broken);
+    judge_refusal(what, detail, answer, text, number, place, broken);
+    judge_reason(what, detail, reason, nothing_more);
     lent_run_with(lengths, text, len, carriers, sizeof carriers, 5, answer, &broken);
     judge_refusal(what, detail, answer, text, number, place, broken);
     lent_profile_with(lengths, text, len, (const uint8_t *)"P", 1, (const uint8_t *)"A", 1, answer, &broken);
@@ -100,13 +121,16 @@ static void all_refuse(const char *what, unsigned detail, const Lengths *lengths
 
 static void all_accept(const char *what, unsigned detail, const Lengths *lengths)
 {
-    uint32_t answer[8];
+    uint32_t answer[8], reason[24];
     const char *broken;
     const uint8_t *text = (const uint8_t *)accepted;
     uint8_t carriers[8] = {15}, fifteen[8] = {15}, image[BLOCK_SIZE] = {0}, image_of_15[BLOCK_SIZE];
     make_image_of_15(image_of_15);
     lent_check_with(lengths, text, strlen(accepted), answer, &broken);
     judge(what, detail, answer, ISPS_DONE, 0, 0, 0, broken);
+    lent_why_with(lengths, ISPS_REASON_SIZE, text, strlen(accepted), reason, answer, &broken);
+    judge(what, detail, answer, ISPS_DONE, 0, 0, 0, broken);
+    judge_reason(what, detail, reason, nothing_more);
     lent_run_with(lengths, text, strlen(accepted), carriers, sizeof carriers, 5, answer, &broken);
     judge(what, detail, answer, ISPS_DONE, 0, 0, 1, carriers[0] != 0 ? "wrong carriers" : broken);
     lent_profile_with(lengths, text, strlen(accepted), (const uint8_t *)"P", 1, (const uint8_t *)"A", 1, answer, &broken);
@@ -431,6 +455,130 @@ static void try_names(void)
     judge_refusal("refused text and names of nothing", 0, answer, blanks, 20, 7, broken);
 }
 
+/* ---- Reasons ---- */
+
+static const char racing[] = "N := BEGIN A<3:0>, MAIN P := BEGIN A = 1; A = 2 END END";
+
+/* Why, with a reason of this length, on a text that has a reason, one that is accepted and one that is too long. */
+static void why_with_length(size_t reason_len, const Lengths *lengths, uint32_t number)
+{
+    uint32_t answer[8], reason[24], of_race[24] = {ISPS_RACING, place_in(racing, "A = 1"), place_in(racing, "A = 2"), 0, place_in(racing, "A<"), 3};
+    const char *broken;
+    bool is_short = number == ISPS_WORK_TOO_SHORT;
+    unsigned detail = (unsigned)reason_len;
+    lent_why_with(lengths, reason_len, (const uint8_t *)racing, strlen(racing), reason, answer, &broken);
+    judge_refusal("length of the reason", detail, answer, (const uint8_t *)racing, is_short ? 1 : 53, is_short ? 0 : of_race[ISPS_LATER_MEMBER], broken);
+    judge_reason("length of the reason", detail, reason, is_short ? nothing_more : of_race);
+    lent_why_with(lengths, reason_len, (const uint8_t *)accepted, strlen(accepted), reason, answer, &broken);
+    judge("length of the reason, accepted text", detail, answer, is_short ? ISPS_REFUSED : ISPS_DONE, is_short ? 1 : 0, 0, 0, broken);
+    lent_why_with(lengths, reason_len, blanks, ISPS_LONGEST_TEXT + 1, reason, answer, &broken);
+    judge_refusal("length of the reason, text too long", detail, answer, blanks, is_short ? 1 : 2, 0, broken);
+}
+
+static void try_lengths_of_reasons(void)
+{
+    for (size_t len = 0; len < ISPS_REASON_SIZE; len++)
+        why_with_length(len, &published, ISPS_WORK_TOO_SHORT);
+    why_with_length(ISPS_REASON_SIZE, &published, 0);
+    why_with_length(ISPS_REASON_SIZE + 1, &published, 0);
+    why_with_length(LONGEST_LENT, &published, 0);
+    for (unsigned i = 0; i < 4; i++) {
+        Lengths lengths = published;
+        *length_number(&lengths, i) -= 1;
+        why_with_length(ISPS_REASON_SIZE, &lengths, ISPS_WORK_TOO_SHORT);
+        *length_number(&lengths, i) += 2;
+        why_with_length(ISPS_REASON_SIZE + 1, &lengths, 0);
+        why_with_length(ISPS_REASON_SIZE - 1, &lengths, ISPS_WORK_TOO_SHORT);
+    }
+}
+
+/* A text that is refused with 53 or 51, and its reason. */
+static void why_and_judge(const char *text, uint32_t number, uint32_t place, const uint32_t expected[24])
+{
+    uint32_t answer[8], reason[24];
+    const char *broken;
+    lent_why((const uint8_t *)text, strlen(text), reason, answer, &broken);
+    judge_refusal(text, number, answer, (const uint8_t *)text, number, place, broken);
+    judge_reason(text, number, reason, expected);
+}
+
+/* MAIN with this block, whose first group has the two members, over carriers, a mapping, a body with bits and bodies that read and write. */
+static void race_of_block(const char *block, const char *earlier, const char *later, uint32_t number, const char *carrier, uint32_t writers)
+{
+    static char text[1024];
+    snprintf(text, sizeof text,
+             "N := BEGIN A<3:0>, M<1:0> := B<1:0>, B<3:0>, K[0:3]<3:0>, F<3:0> := BEGIN F = A END, W := BEGIN B = 1 END, D := BEGIN W() END, MAIN P := %s END",
+             block);
+    uint32_t expected[24] = {ISPS_RACING, place_in(text, earlier), place_in(text, later), number, place_in(text, carrier), writers};
+    why_and_judge(text, ISPS_RACE, expected[ISPS_LATER_MEMBER], expected);
+}
+
+static void try_races(void)
+{
+    enum { EARLIER = 1, LATER = 2, BOTH = 3 };
+    race_of_block("BEGIN A = 1; A = 2 END", "A = 1", "A = 2", 0, "A<", BOTH);
+    race_of_block("BEGIN A = 1; K[0] = A END", "A = 1", "K[0] =", 0, "A<", EARLIER);
+    race_of_block("BEGIN K[A] = 0; A = 2 END", "K[A] =", "A = 2", 0, "A<", LATER);
+    race_of_block("BEGIN A = B; B = A END", "A = B", "B = A", 0, "A<", EARLIER);
+    race_of_block("BEGIN B = A; A = B END", "B = A", "A = B", 0, "A<", LATER);
+    race_of_block("BEGIN B @ A = 7; A @ B = 9 END", "B @ A", "A @ B", 0, "A<", BOTH);
+    race_of_block("BEGIN B = 5; M = 2 END", "B = 5", "M = 2", 2, "B<3", BOTH);
+    race_of_block("BEGIN IF M => NO.OP(); W() END", "IF M", "W() END END", 2, "B<3", LATER);
+    race_of_block("BEGIN D(); IF M => NO.OP() END", "D(); ", "IF M", 2, "B<3", EARLIER);
+    race_of_block("BEGIN D(); W() END", "D(); ", "W() END END", 2, "B<3", BOTH);
+    race_of_block("BEGIN K[1] = 1; K[2] = 2 END", "K[1] =", "K[2] =", 3, "K[0", BOTH);
+    race_of_block("BEGIN A = F; F() END", "A = F;", "F() END END", 0, "A<", EARLIER);
+    race_of_block("BEGIN B = F; F() END", "B = F;", "F() END END", 4, "F<", LATER);
+    race_of_block("BEGIN A = 1; B = 2; K[0] = 3; B = 4 END", "B = 2", "B = 4", 2, "B<3", BOTH);
+    race_of_block("BEGIN K[0] = A; B = A; A = 1; K[0] = A END", "K[0] = A;", "A = 1", 0, "A<", LATER);
+    race_of_block("BEGIN A = 1; L := BEGIN NO.OP() NEXT B = 2; B = 3 END END", "B = 2", "B = 3", 2, "B<3", BOTH);
+    race_of_block("BEGIN NO.OP() NEXT DECODE A => BEGIN NO.OP(), BEGIN A = 3; A = 4 END END END", "A = 3", "A = 4", 0, "A<", BOTH);
+}
+
+/* Bodies P0, P1 and so on, of which each activates the next one; the last one does `last`. MAIN is a body of its own. */
+static const char *text_of_chain(unsigned bodies, const char *last)
+{
+    static char text[1024];
+    size_t len = (size_t)snprintf(text, sizeof text, "N := BEGIN MAIN GO := BEGIN NO.OP() END, ");
+    for (unsigned i = 0; i + 1 < bodies; i++)
+        len += (size_t)snprintf(text + len, sizeof text - len, "P%u := BEGIN P%u() END, ", i, i + 1);
+    snprintf(text + len, sizeof text - len, "P%u := BEGIN %s END END", bodies - 1, last);
+    return text;
+}
+
+static uint32_t place_of_body(const char *text, unsigned body)
+{
+    char head[16];
+    snprintf(head, sizeof head, "P%u :=", body);
+    return place_in(text, head);
+}
+
+/* The chain goes from the first body on; of those listed the last one is the body `closing`, or just the last of 17. */
+static void try_chain(unsigned bodies, const char *last, unsigned listed, unsigned closing)
+{
+    const char *text = text_of_chain(bodies, last);
+    uint32_t expected[24] = {ISPS_CHAINED, listed};
+    for (unsigned i = 0; i < listed; i++)
+        expected[ISPS_FIRST_BODY + i] = place_of_body(text, i + 1 < listed ? i : closing);
+    why_and_judge(text, ISPS_LONG_CHAIN, place_of_body(text, 0), expected);
+}
+
+static void try_chains(void)
+{
+    try_chain(1, "P0()", 2, 0);
+    try_chain(2, "P0()", 3, 0);
+    try_chain(2, "P1()", 3, 1);
+    try_chain(15, "P0()", 16, 0);
+    try_chain(16, "P0()", 17, 0);
+    try_chain(16, "P15()", 17, 15);
+    try_chain(17, "P0()", 17, 16);
+    try_chain(17, "NO.OP()", 17, 16);
+    try_chain(18, "NO.OP()", 17, 16);
+    try_chain(30, "P29()", 17, 16);
+    try_chain(3, "GO(); P1(); P0()", 4, 1);
+    try_chain(3, "IF 1 => P0() NEXT P1()", 4, 0);
+}
+
 /* ---- Images ---- */
 
 enum { MOST_WORDS = 4096, MOST_BLOCKS = 66 };
@@ -667,6 +815,9 @@ int main(void)
     try_every_byte();
     try_lengths_of_carriers();
     try_every_carrier_bit();
+    try_lengths_of_reasons();
+    try_races();
+    try_chains();
     try_names();
     try_paths();
     try_numbers_of_words();

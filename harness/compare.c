@@ -1,5 +1,5 @@
 /* compare [SEED [COUNT [ORDERS]]]: makes COUNT texts, carriers and budgets at random and compares the library with the reference: all numbers of
- * all calls, carriers and work memory. What ends Done or Stopped is also run in ORDERS orders of single steps, each of which must agree; what
+ * all calls, reasons, carriers and work memory. What ends Done or Stopped is also run in ORDERS orders of single steps, each of which must agree; what
  * faults or pauses must not end Done or Stopped in any of them. Profiles are asked for PROFILES pairs of names for each text and must also agree with a search
  * over all paths; where that is given up, it may not have found a transfer that is lower. The carriers are stored and, from an image that is sound or damaged,
  * loaded. Where a text has a bound, a run with that budget and ORDERS orders of it are not Paused. Shows the first difference and ends with 1 if there is one. */
@@ -27,13 +27,14 @@ static size_t carriers_len, image_len;
 static uint32_t budget;
 static Asked test, output;
 static unsigned differences, orders_run, paths_searched, searches_given_up, bounds_by_ending[6], runs_in_bound;
+static unsigned races_by_writers[4], chains_by_count[18]; /* 0: no race, no chain */
 static unsigned checks_by_number[100], runs_by_number[100], runs_by_ending[5], profiles_by_number[100], stores_by_number[100], loads_by_number[100];
 
-static void print_answer(const char *who, const uint32_t answer[8])
+static void print_numbers(const char *who, const uint32_t *numbers, int count)
 {
     printf("%s:", who);
-    for (int i = 0; i < 8; i++)
-        printf(" %u", answer[i]);
+    for (int i = 0; i < count; i++)
+        printf(" %u", numbers[i]);
     printf("\n");
 }
 
@@ -50,8 +51,8 @@ static void differ(const char *what, const uint32_t wanted[8], const uint32_t an
     if (differences++ > 0)
         return;
     printf("FIRST DIFFERENCE: %s, budget %u, %u bytes of carriers\n", what, budget, (unsigned)carriers_len);
-    print_answer("reference", wanted);
-    print_answer("got", answer);
+    print_numbers("reference", wanted, 8);
+    print_numbers("got", answer, 8);
     print_bytes("carriers at the start", start, carriers_len);
     print_bytes("image at the start", image, image_len);
     print_bytes("name of the test", test.bytes, test.len);
@@ -59,6 +60,15 @@ static void differ(const char *what, const uint32_t wanted[8], const uint32_t an
     printf("text of %u bytes:\n", (unsigned)text.len);
     fwrite(text.bytes, 1, text.len, stdout);
     printf("\n");
+}
+
+static void differ_in_reason(const uint32_t wanted[24], const uint32_t reason[24], const uint32_t answer[8])
+{
+    if (differences == 0) {
+        print_numbers("reason of the reference", wanted, 24);
+        print_numbers("reason", reason, 24);
+    }
+    differ("reasons", answer, answer);
 }
 
 static uint32_t some_budget(void)
@@ -99,6 +109,23 @@ static void compare_check(uint32_t wanted[8])
         differ("answers of Check", wanted, answer);
     else if (broken != NULL)
         differ(broken, wanted, answer);
+}
+
+/* The answer is Check's, the reason that of the reference. */
+static void compare_why(const uint32_t checked[8])
+{
+    uint32_t wanted[24], wanted_answer[8], reason[24], answer[8];
+    const char *broken;
+    reference_why(text.bytes, text.len, wanted, wanted_answer);
+    lent_why(text.bytes, text.len, reason, answer, &broken);
+    races_by_writers[wanted[ISPS_REASON] == ISPS_RACING ? wanted[ISPS_WRITERS] : 0]++;
+    chains_by_count[wanted[ISPS_REASON] == ISPS_CHAINED ? wanted[ISPS_BODIES] : 0]++;
+    if (memcmp(checked, answer, sizeof answer) != 0)
+        differ("answers of Why", checked, answer);
+    else if (memcmp(wanted, reason, sizeof reason) != 0)
+        differ_in_reason(wanted, reason, answer);
+    else if (broken != NULL)
+        differ(broken, checked, answer);
 }
 
 static void compare_run(uint32_t wanted[8])
@@ -331,6 +358,7 @@ int main(int count, char **arguments)
         set_seed(seed * 1000003 + i);
         generate(&text);
         compare_check(wanted);
+        compare_why(wanted);
         make_carriers(wanted[ISPS_WORDS]);
         budget = some_budget();
         compare_run(wanted);
@@ -343,6 +371,8 @@ int main(int count, char **arguments)
         compare_bound(orders);
     }
     print_counts("Check, by number (0 is accepted)", checks_by_number, 100);
+    print_counts("Why, races by who writes (1 the earlier, 2 the later, 3 both; 0 is no race)", races_by_writers, 4);
+    print_counts("Why, chains by the bodies listed (0 is no chain)", chains_by_count, 18);
     print_counts("Run, by number", runs_by_number, 100);
     printf("Run, by ending: done %u, stopped %u, paused %u, fault %u, refused %u\n", runs_by_ending[ISPS_DONE], runs_by_ending[ISPS_STOPPED],
            runs_by_ending[ISPS_PAUSED], runs_by_ending[ISPS_FAULT], runs_by_ending[ISPS_REFUSED]);

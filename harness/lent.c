@@ -13,7 +13,7 @@ typedef struct {
     const uint8_t *before; /* what was lent; of rubbish nothing is kept */
 } Buffer;
 
-static Buffer lent_text, lent_read[2], lent_written, lent_work[3], lent_answer;
+static Buffer lent_text, lent_read[2], lent_written, lent_reason, lent_work[3], lent_answer;
 
 static uint8_t *bytes_of(Buffer *buffer)
 {
@@ -60,16 +60,26 @@ static bool is_unchanged(const Buffer *buffer)
     return buffer->len == 0 || memcmp(buffer->room + GUARD, buffer->before, buffer->len) == 0;
 }
 
-/* A buffer is full of a byte if its first one is that byte and each equals the one before it. */
+/* Bytes are all the same if the first one is that byte and each equals the one before it. */
+static bool are_all(const uint8_t *bytes, size_t len, uint8_t byte)
+{
+    return len == 0 || (bytes[0] == byte && memcmp(bytes, bytes + 1, len - 1) == 0);
+}
+
 static bool is_full_of(const Buffer *buffer, uint8_t byte)
 {
-    const uint8_t *bytes = buffer->room + GUARD;
-    return buffer->len == 0 || (bytes[0] == byte && memcmp(bytes, bytes + 1, buffer->len - 1) == 0);
+    return are_all(buffer->room + GUARD, buffer->len, byte);
+}
+
+static void read_numbers(Buffer *buffer, size_t count, uint32_t *numbers)
+{
+    const uint8_t *bytes = bytes_of(buffer);
+    for (size_t i = 0; i < count; i++)
+        numbers[i] = (uint32_t)bytes[4 * i] | (uint32_t)bytes[4 * i + 1] << 8 | (uint32_t)bytes[4 * i + 2] << 16 | (uint32_t)bytes[4 * i + 3] << 24;
 }
 
 static void read_answer(uint32_t returned, uint32_t answer[8])
 {
-    const uint8_t *bytes = bytes_of(&lent_answer);
     memset(answer, 0, 8 * sizeof *answer);
     if (returned == ISPS_WORK_TOO_SHORT || returned == ISPS_TEXT_TOO_LONG) {
         answer[ISPS_ENDING] = ISPS_REFUSED;
@@ -77,8 +87,7 @@ static void read_answer(uint32_t returned, uint32_t answer[8])
         answer[ISPS_LINE] = answer[ISPS_COLUMN] = 1;
         return;
     }
-    for (size_t i = 0; i < 8; i++)
-        answer[i] = (uint32_t)bytes[4 * i] | (uint32_t)bytes[4 * i + 1] << 8 | (uint32_t)bytes[4 * i + 2] << 16 | (uint32_t)bytes[4 * i + 3] << 24;
+    read_numbers(&lent_answer, 8, answer);
 }
 
 static const char *fault_of_work_memory(bool untouched)
@@ -161,6 +170,33 @@ uint32_t lent_check_with(const Lengths *lengths, const uint8_t *text, size_t tex
     return look_after(isps_check(LENT(lent_text), LENT_WORK_AND_ANSWER), answer, broken);
 }
 
+/* A reason is written with every answer, into the first bytes of its buffer. */
+static const char *fault_of_reason(bool untouched)
+{
+    size_t written = untouched ? 0 : ISPS_REASON_SIZE;
+    if (!guards_stand(&lent_reason))
+        return "wrote outside the reason";
+    if (!are_all(bytes_of(&lent_reason) + written, lent_reason.len - written, RUBBISH))
+        return untouched ? "wrote a reason after 1 or 2" : "changed bytes behind the reason";
+    return NULL;
+}
+
+uint32_t lent_why_with(const Lengths *lengths, size_t reason_len, const uint8_t *text, size_t text_len, uint32_t reason[24], uint32_t answer[8],
+                       const char **broken)
+{
+    lend(lengths, text, text_len);
+    lend_rubbish(&lent_reason, reason_len);
+    uint32_t returned = look_after(isps_why(LENT(lent_text), LENT(lent_work[0]), LENT(lent_work[1]), LENT(lent_work[2]), LENT(lent_reason), LENT(lent_answer)),
+                                   answer, broken);
+    bool untouched = returned == ISPS_WORK_TOO_SHORT || returned == ISPS_TEXT_TOO_LONG;
+    if (*broken == NULL)
+        *broken = fault_of_reason(untouched);
+    memset(reason, 0, 24 * sizeof *reason);
+    if (!untouched)
+        read_numbers(&lent_reason, 24, reason);
+    return returned;
+}
+
 uint32_t lent_run_with(const Lengths *lengths, const uint8_t *text, size_t text_len, uint8_t *carriers, size_t carriers_len, uint32_t budget,
                        uint32_t answer[8], const char **broken)
 {
@@ -213,6 +249,11 @@ static const Lengths published = {{ISPS_WORK_SIZE, ISPS_WORK_SIZE, ISPS_WORK_SIZ
 uint32_t lent_check(const uint8_t *text, size_t text_len, uint32_t answer[8], const char **broken)
 {
     return lent_check_with(&published, text, text_len, answer, broken);
+}
+
+uint32_t lent_why(const uint8_t *text, size_t text_len, uint32_t reason[24], uint32_t answer[8], const char **broken)
+{
+    return lent_why_with(&published, ISPS_REASON_SIZE, text, text_len, reason, answer, broken);
 }
 
 uint32_t lent_run(const uint8_t *text, size_t text_len, uint8_t *carriers, size_t carriers_len, uint32_t budget, uint32_t answer[8],

@@ -11,6 +11,7 @@ enum { LONGEST_LENT = 98304 }; /* bytes that a lent buffer may have here */
  * answer into eight numbers. A buffer of length 0 is lent as NULL. They return the number that the call returned, and set `broken` to what the call did wrong
  * with its buffers, or to NULL. */
 uint32_t lent_check(const uint8_t *text, size_t text_len, uint32_t answer[8], const char **broken);
+uint32_t lent_why(const uint8_t *text, size_t text_len, uint32_t reason[24], uint32_t answer[8], const char **broken); /* all 0 if no reason is written */
 uint32_t lent_run(const uint8_t *text, size_t text_len, uint8_t *carriers, size_t carriers_len, uint32_t budget, uint32_t answer[8],
                   const char **broken);
 uint32_t lent_profile(const uint8_t *text, size_t text_len, const uint8_t *test, size_t test_len, const uint8_t *output, size_t output_len,
@@ -28,6 +29,8 @@ typedef struct {
 } Lengths;
 
 uint32_t lent_check_with(const Lengths *lengths, const uint8_t *text, size_t text_len, uint32_t answer[8], const char **broken);
+uint32_t lent_why_with(const Lengths *lengths, size_t reason_len, const uint8_t *text, size_t text_len, uint32_t reason[24], uint32_t answer[8],
+                       const char **broken);
 uint32_t lent_run_with(const Lengths *lengths, const uint8_t *text, size_t text_len, uint8_t *carriers, size_t carriers_len, uint32_t budget,
                        uint32_t answer[8], const char **broken);
 uint32_t lent_profile_with(const Lengths *lengths, const uint8_t *text, size_t text_len, const uint8_t *test, size_t test_len, const uint8_t *output,

@@ -1,4 +1,5 @@
 /* speed [MILLISECONDS]: times the library against the reference, which is built at -O2 for the same target, side by side in one run.
+ * Why on refused texts: nanoseconds for a byte of text, and the ratio to Check.
  * Check, Profile and Bound: nanoseconds for a byte of text, the ratio of the two, and the library's time relative to its time for a typical text.
  * Run: million steps a second, and the ratio; for a short run, which reading dominates, thousand runs a second. */
 #define _POSIX_C_SOURCE 200809L
@@ -10,11 +11,13 @@
 
 #include "../include/isps.h"
 #include "../reference/reference.h"
+#include "refused.h"
 #include "texts.h"
 
 enum { MOST_WORDS = 4096, TRIES = 8, LONG_RUN = 200000 };
 
 static uint8_t text[ISPS_LONGEST_TEXT], carriers[8 * MOST_WORDS], work[3][ISPS_WORK_SIZE], answer[ISPS_ANSWER_SIZE];
+static uint8_t reason[ISPS_REASON_SIZE];
 static size_t text_len, carriers_len;
 static uint32_t budget, numbers[8];
 static double least_time; /* in nanoseconds, for each figure */
@@ -22,6 +25,11 @@ static double least_time; /* in nanoseconds, for each figure */
 static void library_check(void)
 {
     isps_check(text, text_len, work[0], ISPS_WORK_SIZE, work[1], ISPS_WORK_SIZE, work[2], ISPS_WORK_SIZE, answer, ISPS_ANSWER_SIZE);
+}
+
+static void library_why(void)
+{
+    isps_why(text, text_len, work[0], ISPS_WORK_SIZE, work[1], ISPS_WORK_SIZE, work[2], ISPS_WORK_SIZE, reason, ISPS_REASON_SIZE, answer, ISPS_ANSWER_SIZE);
 }
 
 static void library_run(void)
@@ -126,6 +134,19 @@ static void time_by_byte(const char *what, void (*library_call)(void), void (*re
     printf("\n");
 }
 
+/* On the refused texts, of which it says more than Check does. */
+static void time_why(void)
+{
+    const char *name;
+    printf("%-36s %6s %9s %9s %7s\n", "Why, nanoseconds a byte", "bytes", "Why", "Check", "ratio");
+    for (unsigned i = 0; (name = refused_text(i, text, &text_len)) != NULL; i++) {
+        Times times = time_both(library_why, library_check);
+        double why = times.library / (double)text_len, check = times.reference / (double)text_len;
+        printf("%-36s %6u %9.1f %9.1f %7.2f\n", name, (unsigned)text_len, why, check, why / check);
+    }
+    printf("\n");
+}
+
 /* Leaves the steps of the run in `numbers`. */
 static Times time_run(const char *source, uint32_t most_steps)
 {
@@ -171,6 +192,7 @@ int main(int count, char **arguments)
 {
     least_time = (count > 1 ? (double)strtoul(arguments[1], NULL, 10) : 50) * 1e6;
     time_by_byte("Check, nanoseconds a byte", library_check, reference_check_once);
+    time_why();
     time_by_byte("Profile, nanoseconds a byte", library_profile, reference_profile_once);
     time_by_byte("Bound, nanoseconds a byte", library_bound, reference_bound_once);
     printf("%-36s %6s %9s %9s %7s\n", "Run, million steps a second", "steps", "library", "reference", "ratio");

@@ -4,17 +4,24 @@
 #include <string.h>
 
 #include "../include/isps.h"
+#include "refused.h"
 #include "texts.h"
 
 enum { PAINTED = 4 << 20, PAINT = 0x5A, MOST_WORDS = 4096, BUDGET = 20000 };
 
 static uint8_t text[ISPS_LONGEST_TEXT], carriers[8 * MOST_WORDS], image[ISPS_IMAGE_SIZE(MOST_WORDS)], work[3][ISPS_WORK_SIZE], answer[ISPS_ANSWER_SIZE];
+static uint8_t reason[ISPS_REASON_SIZE];
 static size_t text_len, carriers_len;
 static uintptr_t far_end; /* of the painted stretch */
 
 static void call_check(void)
 {
     isps_check(text, text_len, work[0], ISPS_WORK_SIZE, work[1], ISPS_WORK_SIZE, work[2], ISPS_WORK_SIZE, answer, ISPS_ANSWER_SIZE);
+}
+
+static void call_why(void)
+{
+    isps_why(text, text_len, work[0], ISPS_WORK_SIZE, work[1], ISPS_WORK_SIZE, work[2], ISPS_WORK_SIZE, reason, ISPS_REASON_SIZE, answer, ISPS_ANSWER_SIZE);
 }
 
 static void call_run(void)
@@ -51,7 +58,7 @@ static void call_bound(void)
 static const struct {
     const char *name;
     void (*call)(void);
-} calls[] = {{"Check", call_check}, {"Run", call_run}, {"Profile", call_profile}, {"Store", call_store}, {"Load", call_load}, {"Bound", call_bound}};
+} calls[] = {{"Check", call_check}, {"Why", call_why}, {"Run", call_run}, {"Profile", call_profile}, {"Store", call_store}, {"Load", call_load}, {"Bound", call_bound}};
 
 enum { CALLS = sizeof calls / sizeof calls[0] };
 
@@ -109,6 +116,10 @@ int main(void)
     size_t most = measure("typical");
     const char *name;
     for (unsigned i = 0; (name = hard_text(i, text, &text_len)) != NULL; i++) {
+        size_t used = measure(name);
+        most = used > most ? used : most;
+    }
+    for (unsigned i = 0; (name = refused_text(i, text, &text_len)) != NULL; i++) {
         size_t used = measure(name);
         most = used > most ? used : most;
     }

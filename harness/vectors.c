@@ -4,6 +4,7 @@
  * vectors position: reads a text, carriers, each after its length, and a budget in 4 bytes, over and over, and writes for each one line, with all numbers:
  *     check EIGHT run EIGHT carriers HASH
  * where the hash is that of the carriers, whatever the ending.
+ * vectors why: reads texts, each after its length, and writes for each one line: EIGHT reason TWENTY-FOUR
  * vectors profile: reads a text, the name of a test and that of an output, each after its length, over and over, and writes for each its eight numbers.
  * vectors image: reads a text, 0 for Store or 1 for Load in 4 bytes, carriers and an image, each after its length, over and over, and writes for each one line:
  *     store EIGHT image HASH, or load EIGHT carriers HASH
@@ -70,10 +71,15 @@ static void print_run(const uint32_t answer[8], size_t carriers_len)
     printf(" carriers %016llx\n", hash(carriers, answer[ISPS_ENDING] == ISPS_REFUSED ? 0 : carriers_len));
 }
 
+static void print_all(const uint32_t *numbers, int count)
+{
+    for (int i = 0; i < count; i++)
+        printf(i == 0 ? "%u" : " %u", numbers[i]);
+}
+
 static void print_eight(const uint32_t answer[8])
 {
-    for (int i = 0; i < 8; i++)
-        printf(i == 0 ? "%u" : " %u", answer[i]);
+    print_all(answer, 8);
 }
 
 static void print_numbers(const char *who, const uint32_t answer[8])
@@ -95,6 +101,21 @@ static void answer_positions(void)
         lent_run(text, len, carriers, carriers_len, budget, answer, &broken);
         print_numbers(" run", answer);
         printf(" carriers %016llx\n", hash(carriers, carriers_len));
+        report(broken);
+    }
+}
+
+static void answer_whys(void)
+{
+    size_t len;
+    while (read_bytes(text, sizeof text, &len)) {
+        uint32_t answer[8], reason[24];
+        const char *broken;
+        lent_why(text, len, reason, answer, &broken);
+        print_eight(answer);
+        printf(" reason ");
+        print_all(reason, 24);
+        printf("\n");
         report(broken);
     }
 }
@@ -168,6 +189,8 @@ int main(int count, char **arguments)
     const char *set = count > 1 ? arguments[1] : "base";
     if (strcmp(set, "position") == 0)
         answer_positions();
+    else if (strcmp(set, "why") == 0)
+        answer_whys();
     else if (strcmp(set, "profile") == 0)
         answer_profiles();
     else if (strcmp(set, "image") == 0)

@@ -1,4 +1,4 @@
-/* The calls of the reader and runner for a bench subset of ISPS: Check and Run; Profile; Store and Load; Bound.
+/* The calls of the reader and runner for a bench subset of ISPS: Check and Run; Why; Profile; Store and Load; Bound.
  *
  * Each byte buffer is lent as a pointer and a length. Where the length is 0, the pointer may be anything, NULL included: it is not followed. The calls keep
  * nothing from one call to the next, allocate nothing, and write only to the three work buffers, `answer`, and where a call's comment says so.
@@ -15,12 +15,20 @@ extern "C" {
 
 #define ISPS_WORK_SIZE 65536    /* least length of each of the three work buffers */
 #define ISPS_ANSWER_SIZE 32     /* least length of `answer` */
+#define ISPS_REASON_SIZE 96     /* least length of `reason`, of Why */
 #define ISPS_LONGEST_TEXT 32768 /* in bytes */
 
 /* Checks a description. Returns its refusal number, 0 if it is accepted, and fills `answer`. */
 uint32_t isps_check(const uint8_t *text, size_t text_len,
                     uint8_t *work_a, size_t a_len, uint8_t *work_b, size_t b_len, uint8_t *work_c, size_t c_len,
                     uint8_t *answer, size_t answer_len);
+
+/* Checks a description and says why it is refused. Returns and fills `answer` as isps_check does, and fills `reason` with 24 little-endian numbers of 4 bytes, in
+ * the order that is listed below; bytes behind its first 96 stay as they are. A `reason` that is shorter than published is 1. */
+uint32_t isps_why(const uint8_t *text, size_t text_len,
+                  uint8_t *work_a, size_t a_len, uint8_t *work_b, size_t b_len, uint8_t *work_c, size_t c_len,
+                  uint8_t *reason, size_t reason_len,
+                  uint8_t *answer, size_t answer_len);
 
 /* Reads a description afresh and runs it from the given carriers, for at most `budget` steps. Returns the number of the refusal or of the
  * fault, 0 if there is neither, and fills `answer`.
@@ -81,7 +89,7 @@ enum {
     ISPS_NUMBER,       /* of the refusal or fault, else 0; the call returns it too */
     ISPS_PLACE,        /* of the refusal or fault, else 0: an offset in bytes into the text (for 61 into the carriers, for 63 and 64 into the image) */
     ISPS_STEPS,        /* that Run took, or Bound's bound; 0 after a refusal */
-    ISPS_DECLARATIONS, /* number of declarations, in Check's answer to an accepted text, else 0 */
+    ISPS_DECLARATIONS, /* number of declarations, in the answer of Check and Why to an accepted text, else 0 */
     ISPS_WORDS,        /* number of words of all carriers, likewise */
     ISPS_LINE,         /* of the place of a refusal or fault, else 0; see below */
     ISPS_COLUMN        /* likewise */
@@ -90,9 +98,34 @@ enum {
 /* Line and column are counted from 1. Byte 10 ends a line; every other byte, tab and 13 included, is one column. The end of the text has what the next
  * byte would have. Where the place is no offset into the text (1, 2, 60 to 64, 90, 91), line and column are 1. */
 
+/* `reason` has 24 numbers. The first is its kind, which says what those behind it are; numbers that are not listed for a kind are 0. Each place is an offset
+ * in bytes into the text. */
+enum {
+    ISPS_REASON, /* one of the kinds below */
+
+    /* of a race: the member at the refusal's place, and the earliest in its group that races with it */
+    ISPS_EARLIER_MEMBER = 1, /* place of the earlier one */
+    ISPS_LATER_MEMBER = 2,   /* place of the later one, which is the refusal's */
+    ISPS_SHARED = 3,         /* the first storage carrier, in declaration order, that they share in conflict: the number of its declaration, from 0 */
+    ISPS_SHARED_NAME = 4,    /* place of the name of that declaration */
+    ISPS_WRITERS = 5,        /* who writes it: 1 the earlier member, 2 the later one, 3 both */
+
+    /* of a chain: bodies, each of which activates the next one. The first is the refused one. The last stands among those before it, so that the chain
+     * closes, or is the 17th. */
+    ISPS_BODIES = 1,    /* how many are listed, 2 to 17 */
+    ISPS_FIRST_BODY = 2 /* from here on the place of the declared name of each */
+};
+
+/* Kinds of reasons. */
+enum {
+    ISPS_NO_REASON, /* the text is accepted, or its refusal is neither 53 nor 51: number and place say it all */
+    ISPS_RACING,    /* 53 */
+    ISPS_CHAINED    /* 51 */
+};
+
 /* Endings. */
 enum {
-    ISPS_DONE,    /* the run came to its end; or Check accepted the text, Profile the profile; Store and Load wrote their buffer; Bound has one */
+    ISPS_DONE,    /* the run came to its end; or Check or Why accepted the text, Profile the profile; Store and Load wrote their buffer; Bound has one */
     ISPS_STOPPED, /* the run came to a STOP() */
     ISPS_PAUSED,  /* more steps than the budget were needed */
     ISPS_FAULT,   /* a step could not be taken: 70 or 71 */
@@ -103,7 +136,7 @@ enum {
 /* Numbers. The comment says when, and the place where it is not the thing itself. */
 enum {
     /* the call: place 0, and nothing is written */
-    ISPS_WORK_TOO_SHORT = 1, /* a work buffer or `answer` is shorter than published */
+    ISPS_WORK_TOO_SHORT = 1, /* a work buffer, `answer` or `reason` is shorter than published */
     ISPS_TEXT_TOO_LONG = 2,  /* text over 32,768 bytes */
 
     /* bytes and tokens */

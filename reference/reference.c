@@ -31,6 +31,7 @@ enum { DONE, STOPPED, PAUSED, FAULTED, REFUSED, NO_BOUND };
 #include "bodies.c"
 #include "whole.c"
 #include "read.c"
+#include "why.c"
 #include "steps.c"
 #include "runs.c"
 #include "orders.c"
@@ -39,4 +40,3 @@ enum { DONE, STOPPED, PAUSED, FAULTED, REFUSED, NO_BOUND };
 #include "profile.c"
 #include "paths.c"
 #include "bound.c"
-#include "why.c"

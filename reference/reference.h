@@ -9,6 +9,9 @@
 
 uint32_t reference_check(const uint8_t *text, size_t text_len, uint32_t answer[8]);
 
+/* The answer of Check, and the reason of a refusal as the 24 numbers that include/isps.h lists. */
+uint32_t reference_why(const uint8_t *text, size_t text_len, uint32_t reason[24], uint32_t answer[8]);
+
 /* Left to right, each member to its end. */
 uint32_t reference_run(const uint8_t *text, size_t text_len, uint8_t *carriers, size_t carriers_len, uint32_t budget, uint32_t answer[8]);
 
@@ -34,8 +37,5 @@ bool reference_profile_search(const uint8_t *text, size_t text_len, const uint8_
 
 /* The bound on the steps of a run. */
 uint32_t reference_bound(const uint8_t *text, size_t text_len, uint32_t answer[8]);
-
-/* The answer of Check, and the reason of a refusal as the 24 numbers that include/isps.h lists. */
-uint32_t reference_why(const uint8_t *text, size_t text_len, uint32_t reason[24], uint32_t answer[8]);
 
 #endif
