@@ -19,8 +19,8 @@ pub struct Answer {
     pub column: u64,
 }
 
-// The number i.
-fn get32(answer: &[u8], i: usize) -> u64
+// The number i of an answer, or of any such numbers.
+pub fn get32(answer: &[u8], i: usize) -> u64
     requires { ⌜ 4 * i + 4 ≤ length (now answer) ⌝ }
     ensures { λ r. ⌜ r ≡ cell 4 (now (answer .entry)) i ⌝ }
 {
