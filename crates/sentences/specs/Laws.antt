@@ -1,0 +1,3 @@
+-- The laws of sentences.
+pub mod Sentences
+pub mod Own
