@@ -5,6 +5,7 @@ use isps::isps_load;
 use isps::isps_profile;
 use isps::isps_run;
 use isps::isps_store;
+use isps::isps_why;
 use lines::answers::Answer;
 use lines::answers::answer_of;
 use rules::limits::MOST_WORDS;
@@ -13,6 +14,13 @@ ghost use Prim.Native.Nat.{_≤_};
 pub fn check(text: &[u8], a: &mut [u8], b: &mut [u8], c: &mut [u8]) -> Answer {
     let mut answer = [0u8; 32];
     let number = isps_check(text, a, b, c, &mut answer);
+    answer_of(number, &answer)
+}
+
+// The reason is left in its own buffer, as the 24 numbers that the call writes.
+pub fn why(text: &[u8], a: &mut [u8], b: &mut [u8], c: &mut [u8], reason: &mut [u8]) -> Answer {
+    let mut answer = [0u8; 32];
+    let number = isps_why(text, a, b, c, reason, &mut answer);
     answer_of(number, &answer)
 }
 
