@@ -1,4 +1,4 @@
--- "Every refusal number has its own sentence": the numbers of document 01's table that a text or its carriers are refused with, and that no two sentences are the same.
+-- "Every refusal number has its own sentence": the refusal numbers of document 01's table, and that no two of their sentences are the same.
 use Prim.Native.Nat.{ℕ}
 use mathlib.Core.Bool.{Bool, true, false, _&&_, not}
 use mathlib.Core.List.{List, [], _∷_}
