@@ -30,13 +30,14 @@ use Rattle.traces.specs.Marking.{at, never}
 use Rattle.traces.specs.Machine.{state, tellAll, answerOf}
 use Rattle.traces.specs.Traces.{left-to-right-decides}
 use Rattle.telling.specs.Cited.Cells.{Cells, memberOf, cellGrouping, AllMarked}
-use Rattle.telling.specs.Cited.Passing.{Grouping}
+use Rattle.telling.specs.Cited.Passing.{Grouping, passage}
 use Rattle.telling.specs.Cited.Tracing.{nextT, pairsOf, traceRun}
 use Rattle.telling.specs.Holding.{HoldsGrouped}
 use Rattle.telling.specs.Running.{Traces, trace-agrees}
 use Rattle.telling.specs.Assembled.{grouped-assembled}
 use Rattle.telling.specs.Marked.{from-few, all-grouped}
-use Rattle.telling.specs.Places.{TracePlace, place-first, place-next, place-stack, place-active, place-groups}
+use Rattle.telling.specs.Moves.{Follows}
+use Rattle.telling.specs.Places.{TracePlace, place-first, place-next, place-stack, place-active, place-groups, first-moves, place-moves}
 use Rattle.telling.specs.Standing.{whole, Activations}
 
 -- how many activations can go on inside MAIN
@@ -108,5 +109,19 @@ module _ (text : List ℕ) (n w : ℕ) (accepts : Checks text (accepted n w)) (d
     pub main-active : {n : ℕ} {κ : List ℕ} → MainPlace n κ → Activations (descriptionCode d) (cellGrouping K) κ
     main-active = place-active ds (descriptionCode d) (cellGrouping K) (printsOf ds) inMain main
 
-    pub main-groups : {n : ℕ} {κ : List ℕ} → MainPlace n κ → length (cellGrouping K .around n ++ whole (descriptionCode d) (cellGrouping K) κ) ≤ deepest * longestChain
+    -- the members whose groups are open
+    abbrev pub openAt : ℕ → List ℕ → List ℕ
+    openAt n κ = cellGrouping K .around n ++ whole (descriptionCode d) (cellGrouping K) κ
+
+    pub main-groups : {n : ℕ} {κ : List ℕ} → MainPlace n κ → length (openAt n κ) ≤ deepest * longestChain
     main-groups = place-groups ds (descriptionCode d) (cellGrouping K) (printsOf ds) inMain main (λ n. from-few K deepest (memberOf K n))
+
+    -- what is passed leads to the groups that are open there
+    pub main-opens :
+        Follows (cellGrouping K) [] (passage (cellGrouping K) [] (cellGrouping K .around (descriptionCode d .first main))) (openAt (descriptionCode d .first main) [])
+    main-opens = first-moves ds (descriptionCode d) (cellGrouping K) (printsOf ds) inMain main (bodies-ok ds orderly) marked-held (orderly .chains main)
+
+    pub main-moves :
+        {n : ℕ} {κ : List ℕ} → MainPlace n κ → (v n′ : ℕ) (κ′ : List ℕ) → nextT (descriptionCode d) (cellGrouping K) n (descriptionCode d .instr n) κ v .control ≡ pc n′ κ′
+        → Follows (cellGrouping K) (openAt n κ) (nextT (descriptionCode d) (cellGrouping K) n (descriptionCode d .instr n) κ v .passed) (openAt n′ κ′)
+    main-moves = place-moves ds (descriptionCode d) (cellGrouping K) (printsOf ds) inMain main (bodies-ok ds orderly) marked-held (orderly .chains main)

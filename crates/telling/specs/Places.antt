@@ -20,10 +20,11 @@ use Rattle.laws_orders.specs.Orders.Depth.{Chained, ChainedS, call-chained, nex
 use Rattle.laws_orders.specs.Cited.Flat.{Link, at, exit, Code, pc, Labels, bind, leaveTo, restartTo, ownLabel}
 use Rattle.traces.specs.Machine.{Event}
 use Rattle.traces.specs.Telling.{stepEvents}
-use Rattle.telling.specs.Cited.Passing.{Grouping}
+use Rattle.telling.specs.Cited.Passing.{Grouping, passage}
 use Rattle.telling.specs.Cited.Tracing.{Told, return, nextT}
 use Rattle.telling.specs.Holding.{Spot, alone, rest, base, onward, HoldsGrouped}
-use Rattle.telling.specs.Standing.{whole, Activations, Stands, Says, Jumping, start-stands, next-says, ends-over}
+use Rattle.telling.specs.Moves.{Follows}
+use Rattle.telling.specs.Standing.{whole, Activations, Stands, Says, Jumping, start-stands, next-says, ends-over, body-moves}
 
 module _ (ds : Table) (C : Code) (M : Grouping) where
   -- an activation for each body of the chain, but the outermost
@@ -139,3 +140,52 @@ module _ (ds : Table) (C : Code) (M : Grouping) where
           by (restarts l) m i o k q = again (sameBytes l p) m i q
           by stops m i o k q = let d = ap (λ (z : Told). z .control) (q .0) in impossible (cc)
           by (faults x y) m i o k q = let d = ap (λ (z : Told). z .control) (q .0) in impossible (cc)
+
+      -- the groups that open where the body begins
+      pub first-moves : Follows M [] (passage M [] (M .around (C .first p))) (M .around (C .first p) ++ whole C M [])
+      unfolding whole
+      first-moves = body-moves C M (bodyAct ds) bodies p [] .follows
+
+      -- what a step passes leads to the groups that are open where it has come to
+      pub place-moves :
+          {n : ℕ} {κ : List ℕ} → TracePlace n κ → (v n′ : ℕ) (κ′ : List ℕ) → nextT C M n (C .instr n) κ v .control ≡ pc n′ κ′
+          → Follows M (M .around n ++ whole C M κ) (nextT C M n (C .instr n) κ v .passed) (M .around n′ ++ whole C M κ′)
+      unfolding return leaveTo restartTo whole
+      place-moves {n} {κ} h v n′ κ′ e =
+          by (next (bodyAct ds) (h .left) (leftmost (h .left)) v) (nextT C M n (C .instr n) κ v) e
+          (next-says C M (bodyAct ds) bodies P ok (h .left) (inBody P p) (alone []) (ownLabel C p) exit [] n κ (h .sound) (h .stands) v)
+        where
+          w : List ℕ
+          w = M .around n ++ whole C M κ
+
+          es : List Event
+          es = stepEvents (bodyAct ds) (h .left) v
+
+          Arrives : Told → Type 0
+          Arrives m = Follows M w (m .passed) (M .around n′ ++ whole C M κ′)
+
+          again : (b : Bool) (m : Told) → m .control ≡ pc n′ κ′ → Jumping C M (cond b (some (at (C .first p))) none) (alone []) [] w es m → Arrives m
+          again true m i q =
+              let d = q .jumped in
+              let x : C .first p ≡ n′ = cc in
+              let y : _≡_ {A = List ℕ} [] κ′ = cc in
+              subst (λ (z : Told). Follows M w (z .passed) (M .around n′ ++ whole C M κ′)) (sym d)
+              (subst₂ (λ x y. Follows M w (passage M [] (M .around (C .first p))) (M .around x ++ whole C M y)) x y
+              (subst (λ z. Follows M z (passage M [] (M .around (C .first p))) (M .around (C .first p) ++ [])) (sym (q .same)) (body-moves C M (bodyAct ds) bodies p [] .follows)))
+          again false m i q = absurd (q .jumped)
+
+          gone : (b : Bool) (m : Told) → m .control ≡ pc n′ κ′ → Jumping C M (cond b (some exit) none) (alone []) [] w es m → Arrives m
+          gone true m i q = let d = q .jumped in impossible (cc)
+          gone false m i q = absurd (q .jumped)
+
+          by : (x : Sig) (m : Told) → m .control ≡ pc n′ κ′ → Says C M (alone []) (ownLabel C p) exit [] w es x m → Arrives m
+          by ends m i q = let d = ends-over C M q .0 in impossible (cc)
+          by (goes r) m i q =
+              let d = q .control in
+              let x : q .n ≡ n′ = cc in
+              let y : q .κ ≡ κ′ = cc in
+              subst₂ (λ x y. Follows M w (m .passed) (M .around x ++ whole C M y)) x y (q .moves .follows)
+          by (leaves l) m i q = gone (sameBytes l p) m i q
+          by (restarts l) m i q = again (sameBytes l p) m i q
+          by stops m i q = let d = ap (λ (z : Told). z .control) (q .0) in impossible (cc)
+          by (faults x y) m i q = let d = ap (λ (z : Told). z .control) (q .0) in impossible (cc)
