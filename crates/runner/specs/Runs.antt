@@ -1,9 +1,9 @@
 -- The run with a budget, over the table.
-use Prim.Native.Nat.{ℕ, _*_}
+use Prim.Native.Nat.{ℕ, zero, suc, _*_}
 use mathlib.Core.Path.{_≡_}
-use mathlib.Core.List.{List}
+use mathlib.Core.List.{List, [], _∷_}
 use mathlib.Core.Option.{some}
-use lib.ListN.{length}
+use lib.ListN.{length, getD}
 use Rattle.rules.specs.Grammar.Trees.{Tokens, Action}
 use Rattle.rules.specs.Declarations.{Name as Word, Table, bodyOf, totalWords}
 use Rattle.rules.specs.Steps.Runs.{Ending, runWith, done, halted, paused, faulted, run}
@@ -12,6 +12,11 @@ use Rattle.promise.specs.Promise.{Promise}
 use Rattle.operands.specs.Scene.{carrierWords}
 use Rattle.runner.specs.declared.runs.Ended.{Ended}
 use Rattle.runner.specs.declared.runs.Ended.the-variants.{Done, Stopped, Paused, Fault as Broken}
+
+-- a stack in an array: the newest of its numbers stands last
+unfoldable pub stackOf : List ℕ → ℕ → List ℕ
+stackOf links zero = []
+stackOf links (suc d) = getD links d 0 ∷ stackOf links d
 
 -- an accepted text whose body `main` begins at `start`, and as many words as its carriers have
 pub record RunAt (records values decls carriers : List ℕ) (start : ℕ) : Type 0 where

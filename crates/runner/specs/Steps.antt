@@ -6,7 +6,7 @@ use lib.ListN.{length}
 use Rattle.rules.specs.Text.Tokens.{Const}
 use Rattle.rules.specs.Declarations.{totalWords}
 use Rattle.rules.specs.Limits.{mostDeclarations}
-use Rattle.laws_orders.specs.Cited.Flat.{Code, pc, halt, broken, return, put, stepM}
+use Rattle.laws_orders.specs.Cited.Flat.{Instr, ifI, decodeI, goI, callI, stopI, moveI, Code, pc, halt, broken, return, put, stepM}
 use Rattle.laws_orders.specs.Cited.Flat as flat
 use Rattle.table.specs.Holds.{tokenAt}
 use Rattle.promise.specs.Instructions.{InstructionHolds}
@@ -47,8 +47,24 @@ Keeps (Call f k) before after = Unit {0}
 Keeps Stop before after = Unit {0}
 Keeps (Fault m p) before after = after ≡ before
 
+abbrev pub Activates : Instr → Type 0
+Activates (ifI e g k) = ⊥
+Activates (decodeI p e t) = ⊥
+Activates (goI k) = ⊥
+Activates (callI p k) = Unit {0}
+Activates stopI = ⊥
+Activates (moveI d e k) = ⊥
+
+-- just an activation leads into a body
+abbrev pub Into : Moved → Instr → Type 0
+Into (Go k) i = Activates i → ⊥
+Into (Call f k) i = Activates i
+Into Stop i = Activates i → ⊥
+Into (Fault m p) i = Activates i → ⊥
+
 pub record StepAnswer {records values decls carriers : List ℕ} {n : ℕ} (v : StepAt records values decls carriers n) (after : List ℕ) (r : Moved) : Type 0 where
   pub comes : (σ : List ℕ)
       → stepM (v .scene .table) (v .code) n σ (wordsOf (v .scene))
       ≡ put (wordsOf (v .scene)) (carrierWords (totalWords (v .scene .table)) after) (control r σ)
   pub kept : Keeps r carriers after
+  pub into : Into r (v .code .instr n)

@@ -21,13 +21,9 @@ use Rattle.runner.specs.declared.runs.Ended.the-variants.{Done, Stopped,
 use Rattle.runner.specs.declared.steps.Moved.{Moved}
 use Rattle.runner.specs.declared.steps.Moved.the-variants.{Go, Call, Stop, Fault}
 use Rattle.runner.specs.Steps.{returning, control, Keeps, StepAt, StepAnswer}
-use Rattle.runner.specs.Runs.{RunAt, RunAnswer}
+use Rattle.runner.specs.Runs.{stackOf, RunAt, RunAnswer}
 
--- THE STACK: the newest of the return addresses stands last
-unfoldable pub stackOf : List ℕ → ℕ → List ℕ
-stackOf links zero = []
-stackOf links (suc d) = getD links d 0 ∷ stackOf links d
-
+-- THE STACK
 pub stack-length : (links : List ℕ) (d : ℕ) → length (stackOf links d) ≡ d
 unfolding stackOf
 stack-length links zero = refl

@@ -15,8 +15,10 @@ use Rattle.rules.specs.Grammar.Precedence.{Expr}
 use Rattle.rules.specs.Selectors.{takes}
 use Rattle.rules.specs.Values.{value}
 use Rattle.rules.specs.Declarations.{totalWords}
+use Rattle.rules.specs.Stores.{made}
 use Rattle.rules.specs.Limits.{mostDeclarations}
 use Rattle.rules.specs.Steps.Actions.{Access}
+use Rattle.rules.specs.Steps.Control.{moves}
 use Rattle.rules.specs.Steps.Evaluation.{Carriers}
 use Rattle.rules.specs.Steps.Runs.{moved, tested, perform}
 use Rattle.laws_grammar.specs.Grammar.Kinds.{kindAt-kindNo}
@@ -35,7 +37,7 @@ use Rattle.evaluation.specs.Transfers.{TransferAt, TransferAnswer}
 use Rattle.runner.specs.declared.steps.Moved.{Moved}
 use Rattle.runner.specs.declared.steps.Moved.the-variants.{Go, Call, Stop, Fault}
 use Rattle.runner.specs.Choice.{placeNo, ChoiceView}
-use Rattle.runner.specs.Steps.{onward, returning, StepAt, control, Keeps, StepAnswer}
+use Rattle.runner.specs.Steps.{onward, returning, StepAt, control, Keeps, Into, StepAnswer}
 
 -- LINKS
 link-goes : (k : Link) → ((g : ℕ) → k ≡ at g → 0 < g) → (σ : List ℕ) → go k σ ≡ onward (linkNo k) σ
@@ -52,7 +54,7 @@ place-goes : (g : ℕ) → 0 < g → (σ : List ℕ) → pc g σ ≡ onward g σ
 place-goes zero h σ = absurd (omega arith)
 place-goes (suc g) h σ = refl
 
-chosen-leads : (t : Entries) (x g : ℕ) → find t x ≡ some g → EntryAt t g
+pub chosen-leads : (t : Entries) (x g : ℕ) → find t x ≡ some g → EntryAt t g
 unfolding find
 chosen-leads no-entry x g e = absurd (let z : _≡_ {A = ℕ} 0 1 = cc in omega arith)
 chosen-leads (entry c f t) x g e = by (takes c x) (chosen-leads t x g) e
@@ -190,8 +192,8 @@ module _ {records values decls carriers : List ℕ} {n : ℕ} (v : StepAt record
 
   -- ANSWERS
   answer : (i : Instr) → v .code .instr n ≡ i → (after : List ℕ) (r : Moved)
-      → ((σ : List ℕ) → stepI σ i ≡ put words (carrierWords (totalWords (v .scene .table)) after) (control r σ)) → Keeps r carriers after → StepAnswer v after r
-  answer i q after r e k = record { comes = λ σ. ap (stepI σ) q ∙ e σ; kept = k }
+      → ((σ : List ℕ) → stepI σ i ≡ put words (carrierWords (totalWords (v .scene .table)) after) (control r σ)) → Keeps r carriers after → Into r i → StepAnswer v after r
+  answer i q after r e k a = record { comes = λ σ. ap (stepI σ) q ∙ e σ; kept = k; into = subst (Into r) (sym q) a }
 
   leads-by : {i : Instr} → v .code .instr n ≡ i → (g : ℕ) → Leads (v .code) i g → 0 < g
   leads-by q g l = v .leads g (subst (λ i. Leads (v .code) i g) (sym q) l)
@@ -200,10 +202,10 @@ module _ {records values decls carriers : List ℕ} {n : ℕ} (v : StepAt record
       → {l : ℕ} → l ≡ linkCell records n → StepAnswer v carriers (Go l)
   go-answer n₀ n₂₂ n₂₃ n₂₉ {l} e =
       let a = a-go n₀ n₂₂ n₂₃ n₂₉ in
-      answer _ (a .is) carriers (Go l) (λ σ. ap (put words words) (link-goes (a .behind) (leads-by (a .is)) σ ∙ ap (λ k. onward k σ) (sym (e ∙ a .link)))) tt
+      answer _ (a .is) carriers (Go l) (λ σ. ap (put words words) (link-goes (a .behind) (leads-by (a .is)) σ ∙ ap (λ k. onward k σ) (sym (e ∙ a .link)))) tt (λ x. x)
 
   pub stop-answer : kindByte records n ≡ 29 → StepAnswer v carriers Stop
-  stop-answer k = answer stopI (a-stop k) carriers Stop (λ σ. refl) tt
+  stop-answer k = answer stopI (a-stop k) carriers Stop (λ σ. refl) tt (λ x. x)
 
   module _ (k : kindByte records n ≡ 22) where
     pub if-test : TestAt records values carriers n
@@ -215,7 +217,7 @@ module _ {records values decls carriers : List ℕ} {n : ℕ} (v : StepAt record
       if-faults {p} e =
           let a = an-if k in
           let t : TestAnswer if-test (faulted p) = subst (TestAnswer if-test) e (told if-test) in
-          answer _ (a .is) carriers (Fault 70 p) (λ σ. ap (λ o. putAfter words (nextM (v .code) (ifI (a .test) (a .goes) (a .behind)) σ) (tested words o)) t) refl
+          answer _ (a .is) carriers (Fault 70 p) (λ σ. ap (λ o. putAfter words (nextM (v .code) (ifI (a .test) (a .goes) (a .behind)) σ) (tested words o)) t) refl (λ x. x)
 
       if-value : {x m q : ℕ} → r ≡ worked x m q → (σ : List ℕ)
           → stepI σ (ifI (an-if k .test) (an-if k .goes) (an-if k .behind))
@@ -230,13 +232,13 @@ module _ {records values decls carriers : List ℕ} {n : ℕ} (v : StepAt record
       if-passes {x} {m} {q} {l} e z f =
           let a = an-if k in
           answer _ (a .is) carriers (Go l) (λ σ. if-value e σ ∙ ap (put words words) (ap (nextM (v .code) (ifI (a .test) (a .goes) (a .behind)) σ) z
-          ∙ link-goes (a .behind) (λ g s. leads-by (a .is) g (inr s)) σ ∙ ap (λ k. onward k σ) (sym (f ∙ a .link)))) tt
+          ∙ link-goes (a .behind) (λ g s. leads-by (a .is) g (inr s)) σ ∙ ap (λ k. onward k σ) (sym (f ∙ a .link)))) tt (λ x. x)
 
       pub if-acts : {x m q l : ℕ} → r ≡ worked x m q → (x ≡ 0 → ⊥) → l ≡ insideCell records n → StepAnswer v carriers (Go l)
       if-acts {x} {m} {q} {l} e z f =
           let a = an-if k in
           answer _ (a .is) carriers (Go l) (λ σ. if-value e σ ∙ ap (put words words) (acts x z σ
-          ∙ place-goes (a .goes) (leads-by (a .is) (a .goes) (inl refl)) σ ∙ ap (λ k. onward k σ) (sym (f ∙ a .inside)))) tt
+          ∙ place-goes (a .goes) (leads-by (a .is) (a .goes) (inl refl)) σ ∙ ap (λ k. onward k σ) (sym (f ∙ a .inside)))) tt (λ x. x)
         where
           acts : (x : ℕ) → (x ≡ 0 → ⊥) → (σ : List ℕ) → nextM (v .code) (ifI (an-if k .test) (an-if k .goes) (an-if k .behind)) σ x ≡ pc (an-if k .goes) σ
           acts zero z σ = absurd (z refl)
@@ -252,7 +254,7 @@ module _ {records values decls carriers : List ℕ} {n : ℕ} (v : StepAt record
       decode-faults {p} e =
           let a = a-decode k in
           let t : TestAnswer decode-test (faulted p) = subst (TestAnswer decode-test) e (told decode-test) in
-          answer _ (a .is) carriers (Fault 70 p) (λ σ. ap (λ o. putAfter words (nextM (v .code) (decodeI (a .place) (a .test) (a .entries)) σ) (tested words o)) t) refl
+          answer _ (a .is) carriers (Fault 70 p) (λ σ. ap (λ o. putAfter words (nextM (v .code) (decodeI (a .place) (a .test) (a .entries)) σ) (tested words o)) t) refl (λ x. x)
 
       module _ {x m q : ℕ} (e : r ≡ worked x m q) where
         decode-told : TestAnswer decode-test (worked x m q)
@@ -303,13 +305,13 @@ module _ {records values decls carriers : List ℕ} {n : ℕ} (v : StepAt record
           decode-none z {p} w =
               let a = a-decode k in
               answer _ (a .is) carriers (Fault 71 p) (λ σ.
-              decode-value σ ∙ ap (λ o. put words words (picked (a .place) σ o)) (none-chosen z) ∙ ap (λ p. put words words (broken 71 p)) (sym (w ∙ a .placed))) refl
+              decode-value σ ∙ ap (λ o. put words words (picked (a .place) σ o)) (none-chosen z) ∙ ap (λ p. put words words (broken 71 p)) (sym (w ∙ a .placed))) refl (λ x. x)
 
           pub decode-goes : (g ≡ 0 → ⊥) → StepAnswer v carriers (Go g)
           decode-goes z =
               let a = a-decode k in
               answer _ (a .is) carriers (Go g) (λ σ. decode-value σ ∙ ap (λ o. put words words (picked (a .place) σ o)) (some-chosen z)
-              ∙ ap (put words words) (place-goes g (leads-by (a .is) g (chosen-leads (a .entries) x g (some-chosen z))) σ)) tt
+              ∙ ap (put words words) (place-goes g (leads-by (a .is) g (chosen-leads (a .entries) x g (some-chosen z))) σ)) tt (λ x. x)
 
   -- an activation
   record ACall : Type 0 where
@@ -349,6 +351,14 @@ module _ {records values decls carriers : List ℕ} {n : ℕ} (v : StepAt record
   next-kind : n + 1 < length ts → kindByte records (n + 1) ≡ kindNo (tokenAt ts (n + 1) .kind)
   next-kind l = v .scene .holds .entry (n + 1) l .kind
 
+  -- behind the name with which a transfer begins stands no `(`
+  pub no-move : (kindByte records n ≡ 0 → kindByte records (n + 1) ≡ 3) → (d : List Access) (e : Expr) (l : Link) → v .code .instr n ≡ moveI d e l → ⊥
+  no-move o d e l q =
+      let h : Held-instruction (moveI d e l) = subst Held-instruction q (v .holds) in
+      let z = h .1 .1 .1 .0 in
+      let w = two-within ts n (z .name) (z .subscript) (z .bits) (z .joined) (z .equals) (z .rest) (z .reads) in
+      h .1 .0 (sym (kindAt-kindNo (tokenAt ts (n + 1) .kind)) ∙ ap kindAt (sym (next-kind w) ∙ o (kind-of ∙ ap kindNo (h .0))))
+
   a-call : kindByte records n ≡ 0 → kindByte records (n + 1) ≡ 3 → ACall
   a-call k o = by (v .code .instr n) refl (v .holds)
     where
@@ -366,10 +376,7 @@ module _ {records values decls carriers : List ℕ} {n : ℕ} (v : StepAt record
         first = h .1 .1 .1 .1 .1;
       }
       by stopI q h = absurd (omega (arith, kind-of, ap kindNo h))
-      by (moveI d e l) q h =
-          let z = h .1 .1 .1 .0 in
-          let w = two-within ts n (z .name) (z .subscript) (z .bits) (z .joined) (z .equals) (z .rest) (z .reads) in
-          absurd (h .1 .0 (sym (kindAt-kindNo (tokenAt ts (n + 1) .kind)) ∙ ap kindAt (sym (next-kind w) ∙ o)))
+      by (moveI d e l) q h = absurd (no-move (λ z. o) d e l q)
 
   a-move : kindByte records n ≡ 0 → (kindByte records (n + 1) ≡ 3 → ⊥) → AMove
   a-move k o = by (v .code .instr n) refl (v .holds)
@@ -403,11 +410,17 @@ module _ {records values decls carriers : List ℕ} {n : ℕ} (v : StepAt record
       call-answer {f} {l} e w =
           let a = a-call k o in
           answer _ (a .is) carriers (Call f l) (λ σ. ap (put words words) (ap (λ f. pc f (push (a .behind) σ)) (sym (e ∙ a .first))
-          ∙ ap (pc f) (link-pushes (a .behind) (λ g s. leads-by (a .is) g (inr s)) σ ∙ ap (λ l. returning l σ) (sym (w ∙ a .link))))) tt
+          ∙ ap (pc f) (link-pushes (a .behind) (λ g s. leads-by (a .is) g (inr s)) σ ∙ ap (λ l. returning l σ) (sym (w ∙ a .link))))) tt tt
 
     module _ (o : kindByte records (n + 1) ≡ 3 → ⊥) where
       pub move-at : TransferAt records values carriers n
       move-at = let a = a-move k o in record { scene = v .scene; to = a .to; right = a .right; behind = a .end; destination = a .destination; value = a .stands }
+
+      -- the stores of the transfer are those of the instruction
+      pub move-made :
+          made (move-at .scene .table) (moves (move-at .to) (move-at .right)) (wordsOf (move-at .scene)) ≡ made (v .scene .table) (workM (v .code .instr n)) (wordsOf (v .scene))
+      unfolding move-at
+      move-made = ap (λ (i : Instr). made (v .scene .table) (workM i) (wordsOf (v .scene))) (sym (a-move k o .is))
 
       module _ {after : List ℕ} {r : Transferred} (told : (t : TransferAt records values carriers n) → TransferAnswer t after r) where
         pub move-faults : {p : ℕ} → r ≡ unstored p → StepAnswer v after (Fault 70 p)
@@ -415,7 +428,7 @@ module _ {records values decls carriers : List ℕ} {n : ℕ} (v : StepAt record
         move-faults {p} e =
             let a = a-move k o in
             let t : TransferAnswer move-at after (unstored p) = subst (TransferAnswer move-at after) e (told move-at) in
-            answer _ (a .is) after (Fault 70 p) (λ σ. ap (λ o. putAfter words (nextM (v .code) (moveI (a .to) (a .right) (a .behind)) σ) (moved o)) (t .0)) (t .1)
+            answer _ (a .is) after (Fault 70 p) (λ σ. ap (λ o. putAfter words (nextM (v .code) (moveI (a .to) (a .right) (a .behind)) σ) (moved o)) (t .0)) (t .1) (λ x. x)
 
         pub move-goes : {l : ℕ} → r ≡ Stored → l ≡ linkCell records n → StepAnswer v after (Go l)
         unfolding move-at
@@ -423,4 +436,4 @@ module _ {records values decls carriers : List ℕ} {n : ℕ} (v : StepAt record
             let a = a-move k o in
             let t : TransferAnswer move-at after Stored = subst (TransferAnswer move-at after) e (told move-at) in
             answer _ (a .is) after (Go l) (λ σ. ap (λ o. putAfter words (nextM (v .code) (moveI (a .to) (a .right) (a .behind)) σ) (moved o)) (t .0)
-            ∙ ap (put words _) (link-goes (a .behind) (leads-by (a .is)) σ ∙ ap (λ k. onward k σ) (sym (w ∙ a .link)))) tt
+            ∙ ap (put words _) (link-goes (a .behind) (leads-by (a .is)) σ ∙ ap (λ k. onward k σ) (sym (w ∙ a .link)))) tt (λ x. x)

@@ -5,8 +5,8 @@ use native.Mathlib.Omega.{arith}
 use mathlib.Core.Path.{_≡_, refl}
 use Prim.Native.Nat.{_-_, _≤_}
 use lib.ListN.{length, length-set}
-use Rattle.runner.specs.Runs.{RunAt}
-use Rattle.runner.specs.Laws.Runs.{stackOf, bottom, popped, Running, run-begins, step-at, faults-there, stops-there, ends-there, call-last, call-more, goes-there, goes-back, pauses, stack-room, push-room, pushed}
+use Rattle.runner.specs.Runs.{stackOf, RunAt}
+use Rattle.runner.specs.Laws.Runs.{bottom, popped, Running, run-begins, step-at, faults-there, stops-there, ends-there, call-last, call-more, goes-there, goes-back, pauses, stack-room, push-room, pushed}
 use Rattle.runner.proofs.runs.run.Statement.{statement}
 use Rattle.runner.proofs.runs.run.Tie as tie
 
