@@ -1,0 +1,4 @@
+pub mod Ways
+pub mod Depth
+pub mod Climbing
+pub mod Laws
