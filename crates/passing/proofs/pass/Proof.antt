@@ -10,25 +10,43 @@ use Rattle.passing.proofs.pass.Tie as tie
 
 meet-requires : tie.Need-meet-requires
 meet-requires c κs =
-    let pre = c .before .before .before .before .before .before .before .before .before .before .before .before .before .pre in
-    let e = passes-up _ _ _ (c .before .before .before .before .before .before .before .before .before .before .member-of .ensures) (c .before .before .before .before .before .before .before .before .before .member-of2 .ensures) (c .before .before .before .before .before .before .before .before .depth-of .ensures) (c .before .before .before .before .before .before .before .depth-of2 .ensures) (omega arith) (c .before .up-by .ensures) in
+    let t = c .before .before .before .before .before .before .before in
+    let pre = t .before .before .before .before .before .before .pre in
+    let e =
+    passes-up _ _ _ (t .before .before .before .member-of .ensures) (t .before .before .member-of2 .ensures) (t .before .depth-of .ensures) (t .depth-of2 .ensures) (omega arith)
+    (c .before .up-by .ensures)
+    in
     let n = some-told _ _ (left-as (sym e) (all-left _ _)) (c .before .before .before .before .close-all .ensures) in
-    (pre .0, omega (arith, few-around _ _ (c .before .before .before .before .before .before .before .depth-of2 .ensures)), (pre .1 .0, still-fits n (passed-fits _ (pre .1 .1))))
+    (pre .0, omega (arith, few-around _ _ (t .depth-of2 .ensures)), (pre .1 .0, still-fits n (passed-fits _ (pre .1 .1))))
 
 returns : tie.Need-returns
 returns c =
-    let e = passes-up _ _ _ (c .before .before .before .before .before .before .before .before .before .before .before .before .before .member-of .ensures) (c .before .before .before .before .before .before .before .before .before .before .before .before .member-of2 .ensures) (c .before .before .before .before .before .before .before .before .before .before .before .depth-of .ensures) (c .before .before .before .before .before .before .before .before .before .before .depth-of2 .ensures) (omega arith) (c .before .before .before .before .up-by .ensures) in
+    let t = c .before .before .before .before .before .before .before .before .before .before in
+    let e =
+    passes-up _ _ _ (t .before .before .before .member-of .ensures) (t .before .before .member-of2 .ensures) (t .before .depth-of .ensures) (t .depth-of2 .ensures) (omega arith)
+    (c .before .before .before .before .up-by .ensures)
+    in
     let n = some-told _ _ (left-as (sym e) (all-left _ _)) (c .before .before .before .before .before .before .before .close-all .ensures) in
     all-told n (c .before .before .meet .ensures)
 
 meet-requires-2 : tie.Need-meet-requires-2
 meet-requires-2 c κs =
-    let pre = c .before .before .before .before .before .before .before .before .before .pre in
-    let e = passes-down _ _ _ (c .before .before .before .before .before .before .member-of .ensures) (c .before .before .before .before .before .member-of2 .ensures) (c .before .before .before .before .depth-of .ensures) (c .before .before .before .depth-of2 .ensures) (omega arith) (c .before .up-by2 .ensures) in
-    (pre .0, omega (arith, few-around _ _ (c .before .before .before .depth-of2 .ensures)), (pre .1 .0, fits-as e (passed-fits _ (pre .1 .1))))
+    let t = c .before .before .before in
+    let pre = t .before .before .before .before .before .before .pre in
+    let e =
+    passes-down _ _ _ (t .before .before .before .member-of .ensures) (t .before .before .member-of2 .ensures) (t .before .depth-of .ensures) (t .depth-of2 .ensures) (omega arith)
+    (c .before .up-by2 .ensures)
+    in
+    (pre .0, omega (arith, few-around _ _ (t .depth-of2 .ensures)), (pre .1 .0, fits-as e (passed-fits _ (pre .1 .1))))
 
 returns-2 : tie.Need-returns-2
-returns-2 c = told-as (passes-down _ _ _ (c .before .before .before .before .before .before .before .before .before .member-of .ensures) (c .before .before .before .before .before .before .before .before .member-of2 .ensures) (c .before .before .before .before .before .before .before .depth-of .ensures) (c .before .before .before .before .before .before .depth-of2 .ensures) (omega arith) (c .before .before .before .before .up-by2 .ensures)) (c .before .before .meet2 .ensures)
+returns-2 c =
+    let t = c .before .before .before .before .before .before in
+    let e =
+    passes-down _ _ _ (t .before .before .before .member-of .ensures) (t .before .before .member-of2 .ensures) (t .before .depth-of .ensures) (t .depth-of2 .ensures) (omega arith)
+    (c .before .before .before .before .up-by2 .ensures)
+    in
+    told-as e (c .before .before .meet2 .ensures)
 
 pub pass-spec : {M : Type 1} → statement M
 pass-spec =

@@ -37,7 +37,10 @@ module _ (K : Cells) (d x y k : ℕ) where
 
   one-met : 0 < d → meetTold K d x y k ≡ meetingTold (eqb x y) (cellGrouping K .before y) k (meetTold K (d - 1) (K .up x) (K .up y) (k + 1))
   unfolding meetTold
-  one-met h = let p : d ≡ suc (d - 1) = omega arith in ap (λ n. meetTold K n x y k) p ∙ ap (λ n. meetingTold (eqb x y) (cellGrouping K .before y) k (meetTold K (d - 1) (K .up x) (K .up y) n)) (sym (add-one k))
+  one-met h =
+      let p : d ≡ suc (d - 1) = omega arith in
+      ap (λ n. meetTold K n x y k) p
+      ∙ ap (λ n. meetingTold (eqb x y) (cellGrouping K .before y) k (meetTold K (d - 1) (K .up x) (K .up y) n)) (sym (add-one k))
 
   pub same-met : 0 < d → x ≡ y → meetTold K d x y k ≡ times k opens
   same-met h e = one-met h ∙ ap (λ b. meetingTold b (cellGrouping K .before y) k (meetTold K (d - 1) (K .up x) (K .up y) (k + 1))) (eq-eqb x y e)
@@ -53,7 +56,8 @@ module _ (K : Cells) (d x y k : ℕ) where
     first-met t p q = other-met ∙ close-told (cellGrouping K .before y) k _ (omega arith) ∙ ap₂ (λ u v. closes ∷ meetTold K (d - 1) u v (k + 1)) (sym p) (sym q)
 
 -- what control passes leaves few enough groups open
-pub passed-fits : {l : List Entry} {room : List ℕ} (ps : List Passing) → Sound l room × (depthAfter ps (length (matchingIn l room .groups)) ≤ mostGroups) → Fits (map groupEvent ps) l room
+pub passed-fits : {l : List Entry} {room : List ℕ} (ps : List Passing) → Sound l room × (depthAfter ps (length (matchingIn l room .groups)) ≤ mostGroups)
+    → Fits (map groupEvent ps) l room
 passed-fits {l} {room} ps h = record { sound = h .0; few = omega (arith, h .1, depth-told ps (matchingIn l room)) }
 
 -- brackets nest no deeper
@@ -70,8 +74,10 @@ module _ (K : Cells) (from : ℕ) {x a : ℕ} (p : x ≡ memberOf K from) (q : a
   pub enters : times a opens ≡ map groupEvent (passage (cellGrouping K) [] (cellGrouping K .around from))
   enters = sym (entered-told K deepest x q) ∙ ap (λ (xs : List ℕ). map groupEvent (passage (cellGrouping K) [] xs)) around-is
 
-module _ (K : Cells) (from to : ℕ) {x y a b : ℕ} (p : x ≡ memberOf K from) (q : y ≡ memberOf K to) (r : a ≡ length (upFrom K deepest x)) (s : b ≡ length (upFrom K deepest y)) where
-  as-passage : map groupEvent (passage (cellGrouping K) (upFrom K deepest x) (upFrom K deepest y)) ≡ map groupEvent (passage (cellGrouping K) (cellGrouping K .around from) (cellGrouping K .around to))
+module _ (K : Cells) (from to : ℕ) {x y a b : ℕ} (p : x ≡ memberOf K from) (q : y ≡ memberOf K to)
+    (r : a ≡ length (upFrom K deepest x)) (s : b ≡ length (upFrom K deepest y)) where
+  as-passage : map groupEvent (passage (cellGrouping K) (upFrom K deepest x) (upFrom K deepest y))
+      ≡ map groupEvent (passage (cellGrouping K) (cellGrouping K .around from) (cellGrouping K .around to))
   as-passage = ap₂ (λ (xs ys : List ℕ). map groupEvent (passage (cellGrouping K) xs ys)) (around-is K from p r) (around-is K to q s)
 
   pub passes-up : {u : ℕ} → b ≤ a → u ≡ upBy K (a - b) x

@@ -23,32 +23,39 @@ abbrev μ-loop : tie.MeasureT-loop
 
 open-all-requires : tie.Need-open-all-requires Inv-loop μ-loop
 open-all-requires c κs =
+    let t = c .before in
     let pre = c .before .before .before .before .before .before .pre in
-    (pre .2 .0, still-fits (left-as (same-met _ _ _ _ _ (omega arith) (c .before .if1 .taken)) (c .before .before .before .loop .inv .0)) (pre .2 .1))
+    (pre .2 .0, still-fits (left-as (same-met _ _ _ _ _ (omega arith) (t .if1 .taken)) (t .before .before .loop .inv .0)) (pre .2 .1))
 
 returns : tie.Need-returns Inv-loop μ-loop
-returns c = all-told (left-as (same-met _ _ _ _ _ (omega arith) (c .before .before .before .before .if1 .taken)) (c .before .before .before .before .before .before .loop .inv .0)) (c .before .before .open-all .ensures)
+returns c = let t = c .before .before .before .before in all-told (left-as (same-met _ _ _ _ _ (omega arith) (t .if1 .taken)) (t .before .before .loop .inv .0)) (c .before .before .open-all .ensures)
 
 tell-turns-requires : tie.Need-tell-turns-requires Inv-loop μ-loop
-tell-turns-requires c κs = let pre = c .before .before .before .before .before .before .before .before .pre in (pre .2 .0, c .before .before .before .before .before .loop .inv .0 .sound _ (pre .2 .1 .sound))
+tell-turns-requires c κs = let t = c .before .before .before .before .before in let pre = t .before .before .before .pre in (pre .2 .0, t .loop .inv .0 .sound _ (pre .2 .1 .sound))
 
 open-all-requires-2 : tie.Need-open-all-requires-2 Inv-loop μ-loop
 open-all-requires-2 c κs =
-    let pre = c .before .before .before .before .before .before .before .before .before .before .before .before .pre in
-    let n = left-as (next-met _ _ _ _ _ (omega arith) (c .before .before .before .before .before .before .before .if1 .left) (c .before .before .before .before .before .before .rank-at .ensures) (omega arith)) (c .before .before .before .before .before .before .before .before .before .loop .inv .0) in
+    let t = c .before .before .before .before .before .before in
+    let pre = t .before .before .before .before .before .before .pre in
+    let n = left-as (next-met _ _ _ _ _ (omega arith) (t .before .if1 .left) (t .rank-at .ensures) (omega arith)) (t .before .before .before .loop .inv .0) in
     (pre .2 .0, still-fits (one-told turns n (c .before .before .before .tell-turns .ensures)) (pre .2 .1))
 
 returns-2 : tie.Need-returns-2 Inv-loop μ-loop
 returns-2 c =
-    let n = left-as (next-met _ _ _ _ _ (omega arith) (c .before .before .before .before .before .before .before .before .before .before .if1 .left) (c .before .before .before .before .before .before .before .before .before .rank-at .ensures) (omega arith)) (c .before .before .before .before .before .before .before .before .before .before .before .before .loop .inv .0) in
+    let t = c .before .before .before .before .before .before .before .before .before in
+    let n = left-as (next-met _ _ _ _ _ (omega arith) (t .before .if1 .left) (t .rank-at .ensures) (omega arith)) (t .before .before .before .loop .inv .0) in
     all-told (one-told turns n (c .before .before .before .before .before .before .tell-turns .ensures)) (c .before .before .open-all2 .ensures)
 
 tell-closes-requires : tie.Need-tell-closes-requires Inv-loop μ-loop
-tell-closes-requires c κs = let pre = c .before .before .before .before .before .before .before .before .pre in (pre .2 .0, c .before .before .before .before .before .loop .inv .0 .sound _ (pre .2 .1 .sound))
+tell-closes-requires c κs = let t = c .before .before .before .before .before in let pre = t .before .before .before .pre in (pre .2 .0, t .loop .inv .0 .sound _ (pre .2 .1 .sound))
 
 loop-again : tie.Need-loop-again Inv-loop μ-loop
 loop-again c =
-    let n = left-as (first-met _ _ _ _ _ (omega arith) (c .before .before .before .before .before .before .before .before .if1 .left) (c .before .before .before .before .before .before .before .rank-at .ensures) (omega arith) (c .before .up-at .ensures) (c .up-at2 .ensures)) (c .before .before .before .before .before .before .before .before .before .before .loop .inv .0) in
+    let t = c .before .before .before .before .before .before .before in
+    let n =
+    left-as (first-met _ _ _ _ _ (omega arith) (t .before .if1 .left) (t .rank-at .ensures) (omega arith) (c .before .up-at .ensures) (c .up-at2 .ensures))
+    (t .before .before .before .loop .inv .0)
+    in
     (one-told closes n (c .before .before .before .before .tell-closes .ensures), search needs, omega arith)
 
 open-all-requires-3 : tie.Need-open-all-requires-3 Inv-loop μ-loop
