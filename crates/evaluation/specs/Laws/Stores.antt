@@ -78,7 +78,7 @@ pub record Storing {carriers scratch : List ℕ} {count bits : ℕ} (v : StoresA
       ≡ storeAll (cells 8 (totalWords (v .table)) carriers) (v .fields) (cut (sizes (v .fields)) x)
 
 module _ {carriers scratch : List ℕ} {count bits : ℕ} (v : StoresAt carriers scratch count bits) (x : ℕ) where
-  pub storing : Storing v x carriers 0 bits
+  unfoldable pub storing : Storing v x carriers 0 bits
   storing = record {
     left = v .fields;
     counts = omega (arith, v .counts);
@@ -103,16 +103,16 @@ module _ {carriers scratch : List ℕ} {count bits : ℕ} (v : StoresAt carriers
         go (f ∷ fs) c e = absurd (omega arith)
 
     -- the next one
-    record Next : Type 0 where
-      field-next : Field
-      more : List Field
-      are : s .left ≡ field-next ∷ more
-      packs : Packs (bytes.cell 8 scratch k) field-next
-      kept : Kept scratch (k + 1) more
-      inside : Within (v .table) field-next
-      within : AllWithin (v .table) more
+    pub record Next : Type 0 where
+      pub field-next : Field
+      pub more : List Field
+      pub are : s .left ≡ field-next ∷ more
+      pub packs : Packs (bytes.cell 8 scratch k) field-next
+      pub kept : Kept scratch (k + 1) more
+      pub inside : Within (v .table) field-next
+      pub within : AllWithin (v .table) more
 
-    next-field : k < count → Next
+    pub next-field : k < count → Next
     next-field h = go (s .left) refl (s .counts) (s .kept) (s .within)
       where
         go : (fs : List Field) → s .left ≡ fs → k + length fs ≡ count → Kept scratch k fs → AllWithin (v .table) fs → Next
@@ -120,13 +120,13 @@ module _ {carriers scratch : List ℕ} {count bits : ℕ} (v : StoresAt carriers
         go (f ∷ fs) e c q w = record { field-next = f; more = fs; are = e; packs = q .0; kept = q .1; inside = w .0; within = w .1 }
 
     module _ (h : k < count) {c : ℕ} (e : c ≡ bytes.cell 8 scratch k) where
-      n : Next
+      abbrev n : Next
       n = next-field h
 
-      packed : Packs c (n .field-next)
+      pub packed : Packs c (n .field-next)
       packed = subst (λ c. Packs c (n .field-next)) (sym e) (n .packs)
 
-      left-split : rest ≡ n .field-next .size + total (sizes (n .more))
+      pub left-split : rest ≡ n .field-next .size + total (sizes (n .more))
       unfolding total
       left-split = s .left-bits ∙ ap (λ fs. total (sizes fs)) (n .are)
 
@@ -139,25 +139,28 @@ module _ {carriers scratch : List ℕ} {count bits : ℕ} (v : StoresAt carriers
         (omega (arith, packed .low, n .inside .some, n .inside .fits), omega (arith, packed .low, packed .size, n .inside .fits)),
       )
 
-      pub stored-turn : {after : List ℕ} → Put now after (cellFirst c) (cellLow c) (cellBits c) (field (rest - cellBits c) (cellBits c) x)
-          → Storing v x after (k + 1) (rest - cellBits c)
-      unfolding storeAll pieces
-      stored-turn {after} p =
-          let f = n .field-next in
-          let y = field (rest - f .size) (f .size) x in
-          let q : Put now after (f .word) (f .low) (f .size) y = rw (sym (packed .word), sym (packed .low), sym (packed .size)) p in
-          let less : rest - cellBits c ≡ rest - f .size = ap (λ z. rest - z) (packed .size) in
-          record {
-            left = n .more;
-            counts = omega (arith, s .counts, ap length (n .are));
-            kept = n .kept;
-            within = n .within;
-            left-bits = omega (arith, packed .size, left-split);
-            short = omega (arith, s .short);
-            long = put-length (totalWords (v .table)) now after f y q ∙ s .long;
-            same =
-                ap₂ (λ t z. storeAll t (n .more) (pieces (sizes (n .more)) z x))
-                (put-writes (totalWords (v .table)) now after f y q (n .inside .word) (omega (arith, v .words, s .long))) less
-                ∙ ap (λ fs. storeAll (cells 8 (totalWords (v .table)) now) fs (pieces (sizes fs) rest x)) (sym (n .are))
-                ∙ s .same;
-          }
+      module _ {after : List ℕ} (p : Put now after (cellFirst c) (cellLow c) (cellBits c) (field (rest - cellBits c) (cellBits c) x)) where
+        abbrev piece : ℕ
+        piece = field (rest - n .field-next .size) (n .field-next .size) x
+
+        pub put-next : Put now after (n .field-next .word) (n .field-next .low) (n .field-next .size) piece
+        put-next = rw (sym (packed .word), sym (packed .low), sym (packed .size)) p
+
+        pub turn-writes : cells 8 (totalWords (v .table)) after ≡ writeField (cells 8 (totalWords (v .table)) now) (n .field-next) piece
+        turn-writes = put-writes (totalWords (v .table)) now after (n .field-next) piece put-next (n .inside .word) (omega (arith, v .words, s .long))
+
+        unfoldable pub stored-turn : Storing v x after (k + 1) (rest - cellBits c)
+        unfolding storeAll pieces
+        stored-turn = record {
+          left = n .more;
+          counts = omega (arith, s .counts, ap length (n .are));
+          kept = n .kept;
+          within = n .within;
+          left-bits = omega (arith, packed .size, left-split);
+          short = omega (arith, s .short);
+          long = put-length (totalWords (v .table)) now after (n .field-next) piece put-next ∙ s .long;
+          same =
+              ap₂ (λ t z. storeAll t (n .more) (pieces (sizes (n .more)) z x)) turn-writes (ap (λ z. rest - z) (packed .size))
+              ∙ ap (λ fs. storeAll (cells 8 (totalWords (v .table)) now) fs (pieces (sizes fs) rest x)) (sym (n .are))
+              ∙ s .same;
+        }

@@ -7,11 +7,11 @@ use native.Mathlib.Omega.{arith}
 use lib.ListN.{length, drop}
 use Rattle.rules.specs.Text.Tokens.{Name, Equals, kindNo, Token, tk}
 use Rattle.rules.specs.Grammar.Trees.{bitsTokens, subscriptTokens, Joined, alone, joined, joinedTokens}
-use Rattle.rules.specs.Values.{Value, cut}
+use Rattle.rules.specs.Values.{Value, value, cut}
 use Rattle.rules.specs.Limits.{mostBits, deepest, mostTokens}
 use Rattle.rules.specs.Declarations.{totalWords}
 use Rattle.rules.specs.Steps.Actions.{access, joinedAccesses}
-use Rattle.rules.specs.Steps.Evaluation.{Carriers, Outcome, gives, then, evaluateAccesses, storeAll, transferred}
+use Rattle.rules.specs.Steps.Evaluation.{Carriers, Outcome, gives, faulty, then, evaluate, evaluateAccesses, storeAll, transferred}
 use Rattle.table.specs.Laws.Positions.{here, record-within}
 use Rattle.promise.specs.Instructions.{ExpressionStands, DestinationStands}
 use Rattle.operands.specs.declared.accesses.Located.{Located}
@@ -26,6 +26,7 @@ use Rattle.operands.specs.Scene.{Scene, wordsOf, ExpressionAt, ExpressionAnswer
 use Rattle.operands.specs.Laws.Scene.{ExpressionTold, AccessTold}
 use Rattle.operands.specs.Worths.{Within}
 use Rattle.operands.specs.Laws.Worths.{access-within}
+use Rattle.evaluation.specs.Standing.{Stood}
 use Rattle.evaluation.specs.Laws.Standing.{expression-at, expression-stood, destination-fits}
 use Rattle.evaluation.specs.Stores.{sizes, Put, StoresAt, StoresAnswer}
 use Rattle.evaluation.specs.Laws.Stores.{put-length, put-writes, single-store}
@@ -50,13 +51,13 @@ module _ {records values carriers : List ℕ} {word low size p end : ℕ} (g : G
       (ap (λ o. then o (λ fs. gives (storeAll (wordsOf (g .scene)) fs (cut (sizes fs) x)))) (subst (GatherAnswer g scratch) e (f g)), refl)
 
   module _ (scratch : List ℕ) {r : Gathered} {count bits : ℕ} (f : GatherTold scratch r) (e : r ≡ Fields count bits) where
-    gathers : Gathers g scratch count bits
+    pub gathers : Gathers g scratch count bits
     gathers = subst (GatherAnswer g scratch) e (f g)
 
     pub stores-room : 512 ≤ length scratch → 8 * count ≤ length scratch
     stores-room room = omega (arith, gathers .many, gathers .short)
 
-    pub stores-at : StoresAt carriers scratch count bits
+    unfoldable pub stores-at : StoresAt carriers scratch count bits
     stores-at = record {
       table = g .scene .table;
       words = g .scene .words;
@@ -101,16 +102,16 @@ module _ {records values carriers : List ℕ} {n end : ℕ} (d : AssignAt record
   )
 
   module _ {r : Located} {w l m next : ℕ} (f : AccessTold records values carriers n deepest r) (e : r ≡ located w l m next) where
-    a : AccessAnswer first-at (located w l m next)
-    a = subst (AccessAnswer first-at) e (f first-at)
+    pub first-located : AccessAnswer first-at (located w l m next)
+    first-located = subst (AccessAnswer first-at) e (f first-at)
 
     inside : Within (d .scene .table) (fieldAt w l m)
     unfolding first-at access
-    inside = access-within (d .scene .declares) (wordsOf (d .scene)) (access (d .name) (d .subscript) (d .bits)) (fieldAt w l m) (d .sized .parts .0) (a .comes)
+    inside = access-within (d .scene .declares) (wordsOf (d .scene)) (access (d .name) (d .subscript) (d .bits)) (fieldAt w l m) (d .sized .parts .0) (first-located .comes)
 
-    more-reads : drop next (d .scene .tokens) ≡ joinedTokens (d .more) (tk Equals (d .equals) ∷ d .rest)
+    pub more-reads : drop next (d .scene .tokens) ≡ joinedTokens (d .more) (tk Equals (d .equals) ∷ d .rest)
     unfolding first-at
-    more-reads = a .behind ∙ sym (behind (d .more) (d .equals) (d .rest) .reads)
+    more-reads = first-located .behind ∙ sym (behind (d .more) (d .equals) (d .rest) .reads)
 
     pub assign-fits : (8 * w + 8 ≤ length carriers) × ((l < mostBits) × (l + m ≤ mostBits))
     assign-fits = (omega (arith, inside .word, d .scene .words), (omega (arith, inside .some, inside .fits), inside .fits))
@@ -123,7 +124,7 @@ module _ {records values carriers : List ℕ} {n end : ℕ} (d : AssignAt record
         go : (j : Joined) → d .more ≡ j → drop end (d .scene .tokens) ≡ joinedTokens j (tk Equals (d .equals) ∷ d .rest) → AssignAnswer d x after Stored
         go alone z q = (
           ap (λ j. assigned (d .scene .table) (wordsOf (d .scene)) (access (d .name) (d .subscript) (d .bits) ∷ joinedAccesses j) x) z
-              ∙ ap (λ o. then (then o (λ f. gives (f ∷ []))) (λ fs. gives (storeAll (wordsOf (d .scene)) fs (cut (sizes fs) x)))) (a .comes)
+              ∙ ap (λ o. then (then o (λ f. gives (f ∷ []))) (λ fs. gives (storeAll (wordsOf (d .scene)) fs (cut (sizes fs) x)))) (first-located .comes)
               ∙ ap gives (single-store (wordsOf (d .scene)) (fieldAt w l m) x
               ∙ sym (put-writes (totalWords (d .scene .table)) carriers after (fieldAt w l m) x p (inside .word) (omega (arith, d .scene .words)))),
           put-length (totalWords (d .scene .table)) carriers after (fieldAt w l m) x p,
@@ -132,7 +133,7 @@ module _ {records values carriers : List ℕ} {n end : ℕ} (d : AssignAt record
             let clash = ap (λ (t : Token). kindNo (t .kind)) (sym (here _ end _ _ q .token) ∙ here _ end _ _ (d .behind) .token) in absurd (omega arith)
 
     -- more follow
-    pub gather-at : GatherAt records values carriers w l m next end
+    unfoldable pub gather-at : GatherAt records values carriers w l m next end
     unfolding first-at
     gather-at = record {
       scene = d .scene;
@@ -144,7 +145,7 @@ module _ {records values carriers : List ℕ} {n end : ℕ} (d : AssignAt record
       behind = d .behind;
       shallow = d .more-shallow;
       sized = d .sized;
-      comes = a .comes;
+      comes = first-located .comes;
     }
 
     pub assign-joined : (x : ℕ) (after : List ℕ) (q : Transferred)
@@ -158,7 +159,7 @@ module _ {records values carriers : List ℕ} {n : ℕ} (t : TransferAt records 
 
   -- the `=` is the token k
   module _ {k : ℕ} (equals : k ≡ insideCell records n) where
-    destination-here : DestinationStands (t .scene .tokens) (t .scene .outer) (t .scene .table) n k (t .to)
+    pub destination-here : DestinationStands (t .scene .tokens) (t .scene .outer) (t .scene .table) n k (t .to)
     destination-here = subst (λ k. DestinationStands (t .scene .tokens) (t .scene .outer) (t .scene .table) n k (t .to)) (sym equals) (t .destination)
 
     right-here : ExpressionStands (t .scene .tokens) (t .scene .outer) (t .scene .table) (k + 1) (t .behind) (t .right)
@@ -170,16 +171,27 @@ module _ {records values carriers : List ℕ} {n : ℕ} (t : TransferAt records 
     pub right-at : ExpressionAt records values carriers (k + 1) deepest
     right-at = expression-at (t .scene) (k + 1) (t .behind) (t .right) right-here
 
-    -- the stores that follow the right side
+    -- the right side
+    module _ {r : Evaluated} (f : ExpressionTold records values carriers (k + 1) deepest r) where
+      right-stands : (q : Evaluated) → r ≡ q → Stood (t .scene) (t .behind) (t .right) q
+      unfolding right-at
+      right-stands q e = expression-stood (t .scene) (k + 1) (t .behind) (t .right) right-here q (subst (ExpressionAnswer right-at) e (f right-at))
+
+      right-faults : {p : ℕ} → r ≡ faulted p → evaluate (t .scene .table) (wordsOf (t .scene)) (t .right) ≡ faulty 70 p
+      right-faults {p} e = right-stands (faulted p) e
+
+      pub right-gives : {x m p : ℕ} → r ≡ worked x m p → evaluate (t .scene .table) (wordsOf (t .scene)) (t .right) ≡ gives (value m x)
+      right-gives {x} {m} {p} e = right-stands (worked x m p) e .0
+
+    -- the stores that follow it
     abbrev following : Outcome Value → Outcome Carriers
     following o = then o (λ v. assigned (t .scene .table) (wordsOf (t .scene)) (t .to) (v .number))
 
     pub transfer-faults : {r : Evaluated} {p : ℕ} → ExpressionTold records values carriers (k + 1) deepest r → r ≡ faulted p → TransferAnswer t carriers (Fault p)
-    unfolding transferred then right-at
-    transfer-faults {r} {p} f e =
-        (ap following (expression-stood (t .scene) (k + 1) (t .behind) (t .right) right-here (faulted p) (subst (ExpressionAnswer right-at) e (f right-at))), refl)
+    unfolding transferred then
+    transfer-faults f e = (ap following (right-faults f e), refl)
 
-    pub assign-at : AssignAt records values carriers n k
+    unfoldable pub assign-at : AssignAt records values carriers n k
     assign-at =
         let d = destination-here in
         record {
@@ -197,10 +209,12 @@ module _ {records values carriers : List ℕ} {n : ℕ} (t : TransferAt records 
           sized = destination-fits (t .scene) n (d .name) (d .subscript) (d .bits) (d .joined) (tk Equals (d .equals) ∷ d .rest) (d .reads) (d .sound);
         }
 
+    pub assign-to : t .to ≡ access (assign-at .name) (assign-at .subscript) (assign-at .bits) ∷ joinedAccesses (assign-at .more)
+    unfolding assign-at
+    assign-to = destination-here .is
+
     pub transfer-assigned : {r : Evaluated} {x m p : ℕ} → ExpressionTold records values carriers (k + 1) deepest r → r ≡ worked x m p
         → (after : List ℕ) (q : Transferred) → ((d : AssignAt records values carriers n k) → AssignAnswer d x after q) → TransferAnswer t after q
-    unfolding transferred then right-at assign-at
-    transfer-assigned {r} {x} {m} {p} f e after q h =
-        becomes-by (t .scene)
-        (ap following (expression-stood (t .scene) (k + 1) (t .behind) (t .right) right-here (worked x m p) (subst (ExpressionAnswer right-at) e (f right-at)) .0)
-        ∙ ap (λ to. assigned (t .scene .table) (wordsOf (t .scene)) to x) (destination-here .is)) after q (h assign-at)
+    unfolding transferred then assign-at
+    transfer-assigned {x = x} f e after q h =
+        becomes-by (t .scene) (ap following (right-gives f e) ∙ ap (λ to. assigned (t .scene .table) (wordsOf (t .scene)) to x) assign-to) after q (h assign-at)
