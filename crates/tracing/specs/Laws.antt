@@ -1,0 +1,8 @@
+-- The laws of tracing.
+pub mod Acts
+pub mod Ways
+pub mod Steps
+pub mod Turns
+pub mod Reached
+pub mod Traces
+pub mod Answers
