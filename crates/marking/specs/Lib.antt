@@ -1,0 +1,4 @@
+pub mod Machine
+pub mod Holding
+pub mod Walking
+pub mod Laws
