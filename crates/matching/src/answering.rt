@@ -16,7 +16,7 @@ ghost use Rattle.matching.specs.Room.{posOf, matchingIn, Sound};
 // The list is that of an order; or the first entry at which it is none, or its length.
 pub enum Verdict {
     Yes,
-    No(usize),
+    No(u16),
 }
 
 // The first entry that nothing took.
@@ -42,10 +42,10 @@ pub fn answer(room: &[u8], entries: &[u8]) -> Verdict
 {
     let first = lesser(get16(room, BAD), first_left(room, entries));
     if first != NEVER {
-        return Verdict::No(first as usize);
+        return Verdict::No(first);
     }
     if get16(room, FLOOR) == NEVER {
-        return Verdict::No(count(entries));
+        return Verdict::No(count(entries) as u16);
     }
     Verdict::Yes
 }

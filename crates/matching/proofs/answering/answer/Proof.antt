@@ -15,6 +15,11 @@ returns c =
     let t = c .before .before .before .before .before .before in
     says-bad (entriesIn (t .args .entries .now)) (t .args .room .now) (c .before .before .first-left .result) (c .before .lesser .result) (c .before .before .before .get16 .ensures) (c .before .before .first-left .ensures) (c .before .lesser .ensures) (length (entriesIn (t .args .entries .now))) (omega arith)
 
+cast-count : tie.Need-cast-t8
+cast-count c =
+    let t = c .before .before .before .before .before .before .before .before .before in
+    omega (arith, c .count .ensures, t .pre .few)
+
 returns-2 : tie.Need-returns-2
 returns-2 c =
     let t = c .before .before .before .before .before .before .before .before .before in
@@ -35,9 +40,9 @@ answer-spec =
     (λ c κs. search needs)
     (λ c κs. search needs)
     (λ c κs. search needs)
-    (λ c. search needs)
     returns
     (λ c κs. search needs)
     (λ c κs. search needs)
+    cast-count
     returns-2
     returns-3)
