@@ -3,3 +3,4 @@ pub mod Orders
 pub mod Profile
 pub mod Keeping
 pub mod Bound
+pub mod Trace

@@ -3,4 +3,5 @@ pub mod Why
 pub mod Profile
 pub mod Images
 pub mod Bound
+pub mod Trace
 pub mod Laws

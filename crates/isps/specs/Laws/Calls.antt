@@ -56,7 +56,7 @@ unfolding littleEndian answered numberBytes bytesOf
 verdict-code text (accepted n w) b = refl
 verdict-code text (refused m p) b = refl
 
-ran-code : (text : List ℕ) (e : Ending) (n : ℕ) (b : List ℕ) → littleEndian 4 (answered (ranNumbers text e n) b) ≡ endingCode e
+pub ran-code : (text : List ℕ) (e : Ending) (n : ℕ) (b : List ℕ) → littleEndian 4 (answered (ranNumbers text e n) b) ≡ endingCode e
 unfolding littleEndian answered numberBytes bytesOf
 ran-code text done n b = refl
 ran-code text halted n b = refl

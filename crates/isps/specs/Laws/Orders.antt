@@ -62,13 +62,13 @@ ran-by {carriers = carriers} {budget} {e = e} {n} {left} d stands (ran d′ read
       is = run-ended (declarations d) carriers budget (subst (λ x. runOn (declarations x) carriers budget ≡ ended e n left) same q);
     }
 
-well : (e : Ending) → endingCode e < 2 → Well e
+pub well : (e : Ending) → endingCode e < 2 → Well e
 well done l = tt
 well halted l = tt
 well paused l = absurd (omega arith)
 well (faulted m p) l = absurd (omega arith)
 
-not-well : (e : Ending) → 2 ≤ endingCode e → Well e → ⊥
+pub not-well : (e : Ending) → 2 ≤ endingCode e → Well e → ⊥
 not-well done l w = absurd (omega arith)
 not-well halted l w = absurd (omega arith)
 not-well paused l w = w
@@ -90,7 +90,7 @@ answers {text} {before = before} (answer x m l r e a c) enough short =
     record { result = x; runs = r; ending = ap (λ y. endingIn (y .answer)) a ∙ result-code text x (before .answer); answer = ap (λ y. y .answer) a; left-is = c }
 
 -- the description that a call has read, if it is no refusal
-description-by : {text carriers : List ℕ} {budget : ℕ} {x : Result} → Runs text carriers budget x → resultCode x < 4 → (d : Description) × flatten d ≡ scan text .tokens
+pub description-by : {text carriers : List ℕ} {budget : ℕ} {x : Result} → Runs text carriers budget x → resultCode x < 4 → (d : Description) × flatten d ≡ scan text .tokens
 description-by (not-accepted c) l = absurd (omega arith)
 description-by (ran d stands c) l = (d, stands)
 
@@ -131,6 +131,18 @@ agrees-same {ds} {c = c} a l h =
       carriers-left = ap (λ x. bufferOf (carriersAt x)) (z .1) ∙ ap bufferOf (end-carriers (r .ending) (r .carriers)) ∙ a .carriers-left;
     }
 
+few-steps : (r : Run) {e : Ending} {k : ℕ} {b : List ℕ} → resultOf r ≡ ended e k b → (r .ending ≡ e) × (r .steps ≡ k) × (bufferOf (r .carriers) ≡ b)
+few-steps r q = (cc, cc, cc)
+
+-- where left to right does not end well, no order does within the budget
+pub none-ends-by : {text carriers : List ℕ} {budget : ℕ} {e : Ending} {n : ℕ} {left : List ℕ} (d : Description) → flatten d ≡ scan text .tokens
+    → Runs text carriers budget (ended e n left) → (Well e → ⊥) → (k : ℕ) (c : Conf) → k ≤ budget
+    → Steps (declarations d) k (begin (declarations d) (mainName (declarations d)) (wordsFrom (totalWords (declarations d)) carriers)) c → Ended c → ⊥
+none-ends-by {text} {carriers} {budget} d stands runs w k c m s z =
+    let g = ran-by d stands runs refl in
+    let f = few-steps (runOf (declarations d) carriers budget) (g .is) in
+    accepted-none-ends text _ _ (g .checks) d stands (wordsFrom (totalWords (declarations d)) carriers) budget (λ x. w (subst Well (f .0) x)) k c m s z
+
 module _ {text carriers left : List ℕ} {budget n : ℕ} {before after : Memory} (call : RunCall text carriers budget before after left n)
     (enough : Enough before) (short : length text ≤ longestText) (small : budget < 4294967296) (d : Description) (stands : flatten d ≡ scan text .tokens) where
   abbrev ds : Table
@@ -141,9 +153,6 @@ module _ {text carriers left : List ℕ} {budget n : ℕ} {before after : Memory
 
   given : Answers text carriers budget before after left
   given = answers call enough short
-
-  few-steps : (r : Run) {e : Ending} {k : ℕ} {b : List ℕ} → resultOf r ≡ ended e k b → (r .ending ≡ e) × (r .steps ≡ k) × (bufferOf (r .carriers) ≡ b)
-  few-steps r q = (cc, cc, cc)
 
   pub every-order : endingIn (after .answer) < 2 → (k : ℕ) (c : Conf) → Steps ds k start c → Agrees ds (after .answer) left k c
   every-order l k c s = by (given .result) refl
@@ -171,8 +180,5 @@ module _ {text carriers left : List ℕ} {budget n : ℕ} {before after : Memory
       by : (x : Result) → given .result ≡ x → ⊥
       by (refusal o p) q = absurd (omega (arith, given .ending, ap resultCode q))
       by (ended e count b) q =
-          let r = runOf ds carriers budget in
-          let g = ran-by d stands (given .runs) q in
-          let f = few-steps r (g .is) in
           let is = given .ending ∙ ap resultCode q in
-          accepted-none-ends text _ _ (g .checks) d stands (wordsFrom (totalWords ds) carriers) budget (λ w. not-well e (omega (arith, is)) (subst Well (f .0) w)) k c m s z
+          none-ends-by d stands (subst (Runs text carriers budget) q (given .runs)) (not-well e (omega (arith, is))) k c m s z
