@@ -29,10 +29,11 @@ static void load_carriers(Reader *r, uint64_t *words, const uint8_t *carriers, s
     }
 }
 
+static const uint32_t endings[] = {[ENDED] = DONE, [HAS_STOPPED] = STOPPED, [HAS_PAUSED] = PAUSED, [HAS_FAULTED] = FAULTED};
+
 static uint32_t run(const uint8_t *text, size_t text_len, uint8_t *carriers, size_t carriers_len, uint32_t budget,
                     Outcome (*in_order)(Machine *, const Declaration *, uint64_t), uint64_t seed, uint32_t answer[8])
 {
-    static const uint32_t endings[] = {[ENDED] = DONE, [HAS_STOPPED] = STOPPED, [HAS_PAUSED] = PAUSED, [HAS_FAULTED] = FAULTED};
     uint64_t words[MOST_WORDS];
     Machine m = {.words = words, .budget = budget};
     Reader r;

@@ -17,10 +17,11 @@ enum {
     MOST_DECLARATIONS = 256,
     MOST_WORDS = 4096,
     MOST_ALTERNATIVES = 64,
-    LONGEST_CHAIN = 16
+    LONGEST_CHAIN = 16,
+    MOST_ENTRIES = 4096
 };
 
-enum { ENDING, NUMBER, PLACE, STEPS, DECLARATIONS, WORDS, LINE, COLUMN };
+enum { ENDING, NUMBER, PLACE, STEPS, DECLARATIONS, WORDS, LINE, COLUMN, SAYS_YES = DECLARATIONS, FIRST_BAD = WORDS };
 enum { DONE, STOPPED, PAUSED, FAULTED, REFUSED, NO_BOUND };
 
 #include "memory.c"
@@ -38,5 +39,8 @@ enum { DONE, STOPPED, PAUSED, FAULTED, REFUSED, NO_BOUND };
 #include "calls.c"
 #include "images.c"
 #include "profile.c"
+#include "spots.c"
 #include "paths.c"
 #include "bound.c"
+#include "trace.c"
+#include "stores.c"

@@ -38,4 +38,18 @@ bool reference_profile_search(const uint8_t *text, size_t text_len, const uint8_
 /* The bound on the steps of a run. */
 uint32_t reference_bound(const uint8_t *text, size_t text_len, uint32_t answer[8]);
 
+/* A designer's list of stores, left to right: each store of the run is looked for in the list. */
+uint32_t reference_trace(const uint8_t *text, size_t text_len, const uint8_t *carriers, size_t carriers_len, uint32_t budget, const uint8_t *entries,
+                         size_t entries_len, uint32_t answer[8]);
+
+/* The same by a search over all orders of single steps, which is given up once it has come to about `most_effort` standings. True if it came to its end. Given
+ * up, the answer is that of the orders that were met: there may be one that makes more of the list. */
+bool reference_trace_search(const uint8_t *text, size_t text_len, const uint8_t *carriers, size_t carriers_len, uint32_t budget, const uint8_t *entries,
+                            size_t entries_len, uint32_t most_effort, uint32_t answer[8]);
+
+/* The stores of the order that the seed decides, as reference_run_order has it, as a list in `entries`; those that have no room there are left out. Gives its length
+ * in bytes. */
+size_t reference_stores(const uint8_t *text, size_t text_len, const uint8_t *carriers, size_t carriers_len, uint32_t budget, uint64_t seed, uint8_t *entries,
+                        size_t room);
+
 #endif

@@ -14,11 +14,17 @@ static Outcome run_target(Machine *m, const Action *target, const Action *conten
     return outcome == LEFT && m->target == target ? ENDED : outcome;
 }
 
+/* Each member begins with what lies behind its group; behind the group lies what lies behind any of them. */
 static Outcome run_block(Machine *m, const Action *block)
 {
     for (const Group *group = block->groups; group != NULL; group = group->next) {
+        uint32_t before = m->behind;
         for (const Action *member = group->members; member != NULL; member = member->next_member) {
+            uint32_t others = m->behind;
+            m->behind = before;
             Outcome outcome = run_action(m, member);
+            if (m->behind < others)
+                m->behind = others;
             if (outcome != ENDED)
                 return outcome;
         }

@@ -1,10 +1,19 @@
 /* Single steps. */
 
+/* A part of a destination: its word, the bits of it that were stored, and what the word held then. */
+typedef struct {
+    uint32_t word;
+    uint64_t mask, value;
+} Stored;
+
 typedef struct {
     uint64_t *words;
     uint32_t budget, steps;
     Fault fault;
     const Action *target; /* of the LEAVE or RESTART under way */
+    void (*tell)(void *listener, const Action *transfer, const Stored *parts, uint32_t count); /* of each transfer, unless NULL */
+    void *listener;
+    uint32_t behind; /* for a listener, left to right: a number that NEXT, turns, restarts and activations hand on, and members of a group do not */
 } Machine;
 
 static uint64_t evaluate(Machine *m, const Expression *e);
@@ -55,26 +64,31 @@ static uint64_t evaluate(Machine *m, const Expression *e)
     }
 }
 
-static void store(Machine *m, const Access *access, uint32_t word, uint64_t value)
+static Stored store(Machine *m, const Access *access, uint32_t word, uint64_t value)
 {
     uint64_t mask = ones(access->length) << access->shift;
     m->words[word] = (m->words[word] & ~mask) | (value << access->shift & mask);
+    return (Stored){word, mask, m->words[word]};
 }
 
 /* Evaluates everything before the first store, so that a fault changes nothing and no store changes a later subscript. */
 static bool transfer(Machine *m, const Action *action)
 {
-    uint32_t words[LONGEST_VALUE], count = 0, rest = action->length;
+    Stored parts[LONGEST_VALUE];
+    uint32_t count = 0, rest = action->length;
     uint64_t value = evaluate(m, action->expression);
     for (const Access *access = action->destination; access != NULL; access = access->next)
-        words[count++] = word_of(m, access);
+        parts[count++].word = word_of(m, access);
     if (m->fault.number != 0)
         return false;
     count = 0;
     for (const Access *access = action->destination; access != NULL; access = access->next) {
         rest -= access->length;
-        store(m, access, words[count++], value >> rest);
+        parts[count] = store(m, access, parts[count].word, value >> rest);
+        count++;
     }
+    if (m->tell != NULL)
+        m->tell(m->listener, action, parts, count);
     return true;
 }
 
