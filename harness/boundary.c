@@ -1,5 +1,5 @@
 /* The edges of the calls: lengths off by one, every byte value, each carrier bit, reasons of races and chains, names of every kind, paths past a test,
- * images of every shape, bounds around the most steps. Prints what fails, and `N passed, M failed`. */
+ * images of every shape, lists of stores of every length and with every number wrong, bounds around the most steps. Prints what fails, and `N passed, M failed`. */
 #include <stdbool.h>
 #include <stdio.h>
 #include <string.h>
@@ -7,6 +7,7 @@
 #include "../include/isps.h"
 #include "blocks.h"
 #include "lent.h"
+#include "lists.h"
 
 static unsigned passed, failed;
 static uint8_t blanks[ISPS_LONGEST_TEXT + 1];
@@ -44,7 +45,7 @@ static void judge(const char *what, unsigned detail, const uint32_t answer[8], u
            answer[ISPS_PLACE], answer[ISPS_STEPS], ending, number, place, steps, broken != NULL ? "; " : "", broken != NULL ? broken : "");
 }
 
-static const Lengths published = {{ISPS_WORK_SIZE, ISPS_WORK_SIZE, ISPS_WORK_SIZE}, ISPS_ANSWER_SIZE};
+static const Lengths published = {{ISPS_WORK_SIZE, ISPS_WORK_SIZE, ISPS_WORK_SIZE, ISPS_WORK_SIZE}, ISPS_ANSWER_SIZE};
 
 static uint32_t place_in(const char *text, const char *part)
 {
@@ -117,6 +118,8 @@ static void all_refuse(const char *what, unsigned detail, const Lengths *lengths
     judge_refusal(what, detail, answer, text, number, place, broken);
     lent_bound_with(lengths, text, len, answer, &broken);
     judge_refusal(what, detail, answer, text, number, place, broken);
+    lent_trace_with(lengths, text, len, carriers, sizeof carriers, 5, NULL, 0, answer, &broken);
+    judge_refusal(what, detail, answer, text, number, place, broken);
 }
 
 static void all_accept(const char *what, unsigned detail, const Lengths *lengths)
@@ -140,6 +143,8 @@ static void all_accept(const char *what, unsigned detail, const Lengths *lengths
     lent_load_with(lengths, text, strlen(accepted), image, sizeof image, carriers, sizeof carriers, answer, &broken);
     judge(what, detail, answer, ISPS_DONE, 0, 0, 0, memcmp(carriers, fifteen, 8) != 0 ? "wrong carriers" : broken);
     lent_bound_with(lengths, text, strlen(accepted), answer, &broken);
+    judge(what, detail, answer, ISPS_DONE, 0, 0, 1, broken);
+    lent_trace_with(lengths, text, strlen(accepted), carriers, sizeof carriers, 5, NULL, 0, answer, &broken);
     judge(what, detail, answer, ISPS_DONE, 0, 0, 1, broken);
 }
 
@@ -724,6 +729,239 @@ static void try_order_of_blocks(void)
     load_and_judge("that and an image too short", 0, text, BLOCK_SIZE, 8 * 64, 62, 0);
 }
 
+/* ---- Traces ---- */
+
+enum { ONLY_MORE = 100000 }; /* stands for the number of all entries */
+
+static const char traced[] =
+    "N := BEGIN A<3:0>, B<3:0>, C<3:0>, MAIN P := BEGIN A = 1; L := B @ C = \"23 NEXT A = A + 1; IF B => NO.OP() END END";
+static const char counts_to_4096[] =
+    "N := BEGIN A<12:0>, MAIN P := BEGIN L := REPEAT BEGIN A = A + 1 NEXT IF A EQL 4096 => LEAVE L END END END";
+static uint8_t start[8 * 3 + 1];
+static List list;
+
+static void judge_list(const char *what, unsigned detail, const char *text, size_t carriers_len, uint32_t budget, uint32_t ending, uint32_t steps, uint32_t yes,
+                       uint32_t first_bad)
+{
+    uint32_t answer[8];
+    const char *broken;
+    lent_trace((const uint8_t *)text, strlen(text), start, carriers_len, budget, list.bytes, list.len, answer, &broken);
+    if (first_bad == ONLY_MORE)
+        first_bad = (uint32_t)(list.len / ISPS_ENTRY_SIZE);
+    if (answer[ISPS_YES] != yes || answer[ISPS_FIRST_BAD] != first_bad) {
+        printf("%s, %u: said %u %u; expected %u %u\n", what, detail, answer[ISPS_YES], answer[ISPS_FIRST_BAD], yes, first_bad);
+        broken = "wrong verdict";
+    }
+    judge(what, detail, answer, ending, 0, 0, steps, broken);
+}
+
+static void judge_refused_list(const char *what, unsigned detail, const char *text, size_t carriers_len, uint32_t number, uint32_t place)
+{
+    uint32_t answer[8];
+    const char *broken;
+    lent_trace((const uint8_t *)text, strlen(text), start, carriers_len, 1000, list.bytes, list.len, answer, &broken);
+    judge_elsewhere(what, detail, answer, number, place, broken);
+}
+
+/* The stores of `traced`, left to right, and in another order where `other` says so. */
+static void list_stores(bool other)
+{
+    uint32_t first = place_in(traced, "A = 1"), joined = place_in(traced, "B @"), last = place_in(traced, "A = A");
+    list.len = 0;
+    if (!other)
+        append_entry(&list, first, 0, 1);
+    append_entry(&list, joined, 1, 2);
+    append_entry(&list, joined, 2, 3);
+    if (other)
+        append_entry(&list, first, 0, 1);
+    append_entry(&list, last, 0, 2);
+}
+
+static void judge_traced(const char *what, unsigned detail, uint32_t yes, uint32_t first_bad)
+{
+    judge_list(what, detail, traced, 24, 1000, ISPS_DONE, 5, yes, first_bad);
+}
+
+static void try_orders_of_entries(void)
+{
+    uint32_t first = place_in(traced, "A = 1"), joined = place_in(traced, "B @"), last = place_in(traced, "A = A");
+    list_stores(false);
+    judge_traced("left to right", 0, 1, 0);
+    list_stores(true);
+    judge_traced("another order", 0, 1, 0);
+    set_entry(&list, 1, first, 0, 1);
+    set_entry(&list, 2, joined, 2, 3);
+    judge_traced("a store between the parts of a transfer", 0, 0, 1);
+    list_stores(false);
+    set_entry(&list, 1, joined, 2, 3);
+    set_entry(&list, 2, joined, 1, 2);
+    judge_traced("parts from right to left", 0, 0, 1);
+    list_stores(false);
+    set_entry(&list, 0, last, 0, 2);
+    set_entry(&list, 3, first, 0, 1);
+    judge_traced("what comes behind NEXT before it", 0, 0, 0);
+    list_stores(true);
+    set_entry(&list, 2, last, 0, 2);
+    judge_traced("what comes behind NEXT with a store missing before it", 0, 0, 2);
+    list_stores(false);
+    append_entry(&list, last, 0, 2);
+    judge_traced("an entry more", 0, 0, 4);
+    for (unsigned count = 0; count < 4; count++) {
+        list_stores(false);
+        list.len = ISPS_ENTRY_SIZE * (size_t)count;
+        judge_traced("a list that is cut", count, 0, ONLY_MORE);
+    }
+}
+
+/* Of each entry each of its three numbers. Places at which something else stands, words that there are not, values that are longer than the word. */
+static void try_numbers_of_entries(void)
+{
+    static const uint32_t words[] = {3, 4095, 4096, 65536, 4294967295u};
+    static const uint64_t values[] = {0, 4, 16, 17, 18, 19, 256, 4294967296u, (uint64_t)1 << 63, UINT64_MAX};
+    const uint32_t stored[] = {place_in(traced, "A = 1"), place_in(traced, "B @"), place_in(traced, "B @"), place_in(traced, "A = A")};
+    const uint32_t places[] = {0, place_in(traced, "A<3"), place_in(traced, "MAIN"), place_in(traced, "= 1"), place_in(traced, "L :="), place_in(traced, "C = "),
+                               place_in(traced, "IF"), (uint32_t)strlen(traced), 8192, 32767, 32768, 65536, 4294967295u};
+    const uint64_t values_stored[] = {1, 2, 3, 2};
+    for (unsigned entry = 0; entry < 4; entry++) {
+        uint32_t word = entry == 3 ? 0 : entry;
+        for (unsigned i = 0; i < sizeof places / sizeof places[0]; i++) {
+            list_stores(false);
+            set_entry(&list, entry, places[i], word, values_stored[entry]);
+            judge_traced("place of an entry", 100 * entry + i, 0, entry);
+        }
+        for (unsigned i = 0; i < sizeof words / sizeof words[0]; i++) {
+            list_stores(false);
+            set_entry(&list, entry, stored[entry], words[i], values_stored[entry]);
+            judge_traced("word of an entry", 100 * entry + i, 0, entry);
+        }
+        for (unsigned i = 0; i < sizeof values / sizeof values[0]; i++) {
+            list_stores(false);
+            set_entry(&list, entry, stored[entry], word, values[i]);
+            judge_traced("value of an entry", 100 * entry + i, 0, entry);
+        }
+    }
+}
+
+/* Whole entries, up to the most; each number of bytes around them. */
+static void try_lengths_of_lists(void)
+{
+    memset(list.bytes, 0, sizeof list.bytes);
+    for (unsigned len = 0; len <= 33; len++) {
+        list.len = len;
+        if (len % ISPS_ENTRY_SIZE == 0)
+            judge_traced("bytes of a list", len, 0, 0);
+        else
+            judge_refused_list("bytes of a list", len, traced, 24, ISPS_BAD_LIST, 0);
+    }
+    list.len = ISPS_ENTRY_SIZE * ISPS_MOST_ENTRIES;
+    judge_traced("the most entries", 0, 0, 0);
+    for (unsigned more = 1; more <= ISPS_ENTRY_SIZE; more++) {
+        list.len = ISPS_ENTRY_SIZE * ISPS_MOST_ENTRIES + more;
+        judge_refused_list("more than the most entries", more, traced, 24, ISPS_BAD_LIST, 0);
+    }
+    list.len = ISPS_ENTRY_SIZE * ISPS_MOST_ENTRIES - 1;
+    judge_refused_list("a byte fewer than the most entries", 0, traced, 24, ISPS_BAD_LIST, 0);
+}
+
+/* The store is entry by entry the same one: 4,096 of them, one fewer and one more. */
+static void try_most_stores(void)
+{
+    uint32_t place = place_in(counts_to_4096, "A = A");
+    list.len = 0;
+    for (unsigned i = 1; i <= ISPS_MOST_ENTRIES; i++)
+        append_entry(&list, place, 0, i);
+    judge_list("4,096 stores", 0, counts_to_4096, 8, 12289, ISPS_DONE, 12289, 1, 0);
+    judge_list("4,096 stores and a step too few", 0, counts_to_4096, 8, 12288, ISPS_PAUSED, 12288, 0, 0);
+    set_entry(&list, 4000, place, 0, 4000);
+    judge_list("4,096 stores, one of them wrong", 0, counts_to_4096, 8, 12289, ISPS_DONE, 12289, 0, 4000);
+    set_entry(&list, 4000, place, 0, 4001);
+    list.len -= ISPS_ENTRY_SIZE;
+    judge_list("one entry fewer", 0, counts_to_4096, 8, 12289, ISPS_DONE, 12289, 0, ONLY_MORE);
+    start[0] = 1;
+    judge_list("one store fewer", 0, counts_to_4096, 8, 12289, ISPS_DONE, 12286, 0, 0);
+    start[0] = 0;
+}
+
+static void try_budgets_of_traces(void)
+{
+    list_stores(false);
+    for (uint32_t budget = 0; budget < 5; budget++)
+        judge_list("too few steps", budget, traced, 24, budget, ISPS_PAUSED, budget, 0, 0);
+    judge_list("just enough steps", 5, traced, 24, 5, ISPS_DONE, 5, 1, 0);
+    judge_list("the most steps", 0, traced, 24, 4294967295u, ISPS_DONE, 5, 1, 0);
+}
+
+static void try_endings_of_traces(void)
+{
+    static const char stops[] = "N := BEGIN A<3:0>, MAIN P := BEGIN A = 1 NEXT STOP() NEXT A = 2 END END";
+    static const char faults[] = "N := BEGIN M[0:1]<3:0>,\n MAIN P := BEGIN M[0] = 1 NEXT M[2] = 1 END END";
+    static const char stores_nothing[] = "N := BEGIN MAIN P := BEGIN NO.OP() END END";
+    uint32_t answer[8];
+    const char *broken;
+    list.len = 0;
+    judge_list("no stores and no entries", 0, stores_nothing, 0, 5, ISPS_DONE, 1, 1, 0);
+    append_entry(&list, place_in(stops, "A = 1"), 0, 1);
+    judge_list("no stores and an entry", 0, stores_nothing, 0, 5, ISPS_DONE, 1, 0, 0);
+    judge_list("STOP()", 0, stops, 8, 5, ISPS_STOPPED, 2, 1, 0);
+    append_entry(&list, place_in(stops, "A = 2"), 0, 2);
+    judge_list("a store behind STOP()", 0, stops, 8, 5, ISPS_STOPPED, 2, 0, 1);
+    lent_trace((const uint8_t *)faults, strlen(faults), start, 16, 5, list.bytes, list.len, answer, &broken);
+    judge("a fault", 0, answer, ISPS_FAULT, ISPS_NO_SUCH_WORD, place_in(faults, "M[2]"), 1,
+          answer[ISPS_YES] != 0 || answer[ISPS_FIRST_BAD] != 0 ? "a verdict after a fault" : broken);
+    judge_position("a fault", 0, answer, 2, 32);
+}
+
+/* The text's own refusal comes first, then 60, 61 and 110. */
+static void try_order_of_refusals(void)
+{
+    static const char races[] = "N := BEGIN A<3:0>, MAIN P := BEGIN A = 1; A = 2 END END";
+    uint32_t answer[8];
+    const char *broken;
+    list.len = 17;
+    lent_trace((const uint8_t *)races, strlen(races), start, 1, 5, list.bytes, list.len, answer, &broken);
+    judge_refusal("a race, carriers and a list that are wrong", 0, answer, (const uint8_t *)races, ISPS_RACE, place_in(races, "A = 2"), broken);
+    start[8] = 16;
+    judge_refused_list("carriers too long, a bit too many, and a bad list", 0, traced, 25, ISPS_CARRIERS_LENGTH, 0);
+    judge_refused_list("carriers too short, and a bad list", 0, traced, 16, ISPS_CARRIERS_LENGTH, 0);
+    judge_refused_list("no carriers, and a bad list", 0, traced, 0, ISPS_CARRIERS_LENGTH, 0);
+    judge_refused_list("a bit too many, and a bad list", 0, traced, 24, ISPS_CARRIER_BITS, 8);
+    list.len = 0;
+    judge_refused_list("a bit too many", 0, traced, 24, ISPS_CARRIER_BITS, 8);
+    start[8] = 0;
+}
+
+static void trace_with_fourth_buffer(size_t len, uint32_t ending, uint32_t number, uint32_t steps)
+{
+    Lengths lengths = published;
+    uint32_t answer[8];
+    const char *broken;
+    lengths.work[3] = len;
+    list_stores(false);
+    lent_trace_with(&lengths, (const uint8_t *)traced, strlen(traced), start, 24, 5, list.bytes, list.len, answer, &broken);
+    judge("length of the fourth work buffer", (unsigned)len, answer, ending, number, 0, steps, broken);
+}
+
+static void try_fourth_buffer(void)
+{
+    trace_with_fourth_buffer(0, ISPS_REFUSED, ISPS_WORK_TOO_SHORT, 0);
+    trace_with_fourth_buffer(ISPS_WORK_SIZE - 1, ISPS_REFUSED, ISPS_WORK_TOO_SHORT, 0);
+    trace_with_fourth_buffer(ISPS_WORK_SIZE, ISPS_DONE, 0, 5);
+    trace_with_fourth_buffer(ISPS_WORK_SIZE + 1, ISPS_DONE, 0, 5);
+    trace_with_fourth_buffer(LONGEST_LENT, ISPS_DONE, 0, 5);
+}
+
+static void try_traces(void)
+{
+    try_orders_of_entries();
+    try_numbers_of_entries();
+    try_lengths_of_lists();
+    try_most_stores();
+    try_budgets_of_traces();
+    try_endings_of_traces();
+    try_order_of_refusals();
+    try_fourth_buffer();
+}
+
 /* ---- Bounds ---- */
 
 enum { NO_BOUND = 0 }; /* no text has a bound of 0 */
@@ -823,6 +1061,7 @@ int main(void)
     try_numbers_of_words();
     try_every_byte_of_an_image();
     try_order_of_blocks();
+    try_traces();
     try_kinds_of_steps();
     try_large_bounds();
     printf("%u passed, %u failed\n", passed, failed);

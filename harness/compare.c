@@ -2,7 +2,9 @@
  * all calls, reasons, carriers and work memory. What ends Done or Stopped is also run in ORDERS orders of single steps, each of which must agree; what
  * faults or pauses must not end Done or Stopped in any of them. Profiles are asked for PROFILES pairs of names for each text and must also agree with a search
  * over all paths; where that is given up, it may not have found a transfer that is lower. The carriers are stored and, from an image that is sound or damaged,
- * loaded. Where a text has a bound, a run with that budget and ORDERS orders of it are not Paused. Shows the first difference and ends with 1 if there is one. */
+ * loaded. Where a text has a bound, a run with that budget and ORDERS orders of it are not Paused. Traces are asked for LISTS lists for each text: the stores of orders, as
+ * they are or damaged; they must also agree with a search over all orders, and where that is given up, it may not have found an order that makes more of the list.
+ * compare SEED COUNT trace, compare SEED COUNT profile: only that call, on small texts. Shows the first difference and ends with 1 if there is one. */
 #include <stdio.h>
 #include <stdlib.h>
 #include <string.h>
@@ -12,8 +14,10 @@
 #include "blocks.h"
 #include "generate.h"
 #include "lent.h"
+#include "lists.h"
 
-enum { MOST_WORDS = 4096, ROOM = 8 * MOST_WORDS + 16, PROFILES = 4, MOST_SPOTS = 20000, LONGEST_ASKED = 40, IMAGE_ROOM = 68 * BLOCK_SIZE };
+enum { MOST_WORDS = 4096, ROOM = 8 * MOST_WORDS + 16, PROFILES = 4, MOST_SPOTS = 20000, LONGEST_ASKED = 40, IMAGE_ROOM = 68 * BLOCK_SIZE,
+       LISTS = 4, MOST_EFFORT = 20000 };
 
 typedef struct {
     uint8_t bytes[LONGEST_ASKED + 1];
@@ -26,9 +30,11 @@ static uint8_t image[IMAGE_ROOM], expected_image[IMAGE_ROOM], got_image[IMAGE_RO
 static size_t carriers_len, image_len;
 static uint32_t budget;
 static Asked test, output;
+static List list;
 static unsigned differences, orders_run, paths_searched, searches_given_up, bounds_by_ending[6], runs_in_bound;
 static unsigned races_by_writers[4], chains_by_count[18]; /* 0: no race, no chain */
 static unsigned checks_by_number[100], runs_by_number[100], runs_by_ending[5], profiles_by_number[100], stores_by_number[100], loads_by_number[100];
+static unsigned traces_by_number[120], traces_so, traces_not_so, traces_too_short, traces_unended, orders_searched, order_searches_given_up;
 
 static void print_numbers(const char *who, const uint32_t *numbers, int count)
 {
@@ -57,6 +63,7 @@ static void differ(const char *what, const uint32_t wanted[8], const uint32_t an
     print_bytes("image at the start", image, image_len);
     print_bytes("name of the test", test.bytes, test.len);
     print_bytes("name of the output", output.bytes, output.len);
+    print_bytes("list of stores", list.bytes, list.len);
     printf("text of %u bytes:\n", (unsigned)text.len);
     fwrite(text.bytes, 1, text.len, stdout);
     printf("\n");
@@ -339,6 +346,57 @@ static void compare_bound(unsigned long orders)
     }
 }
 
+/* The stores of some order, mostly with few steps besides the budget of the runs, and mostly damaged. */
+static void make_list(unsigned number)
+{
+    list.len = reference_stores(text.bytes, text.len, start, carriers_len, budget, number == 0 ? 0 : random_bits() | 1, list.bytes, sizeof list.bytes);
+    for (unsigned damages = number < 2 ? 0 : 1 + (chance(20) ? below(3) : 0); damages > 0; damages--)
+        damage_list(&list);
+}
+
+static void count_trace(const uint32_t wanted[8])
+{
+    bool has_ended = wanted[ISPS_ENDING] == ISPS_DONE || wanted[ISPS_ENDING] == ISPS_STOPPED;
+    traces_by_number[wanted[ISPS_NUMBER]]++;
+    if (has_ended && wanted[ISPS_YES] == 1)
+        traces_so++;
+    else if (has_ended && wanted[ISPS_FIRST_BAD] == list.len / ISPS_ENTRY_SIZE)
+        traces_too_short++;
+    else if (has_ended)
+        traces_not_so++;
+    else if (wanted[ISPS_ENDING] != ISPS_REFUSED)
+        traces_unended++;
+}
+
+/* A search that is given up has found some orders: none of them makes more of the list than the answer says. */
+static bool agrees_with_orders(const uint32_t wanted[8], const uint32_t found[8], bool is_whole)
+{
+    if (!is_whole && found[ISPS_YES] == 0 && (wanted[ISPS_YES] == 1 || found[ISPS_FIRST_BAD] <= wanted[ISPS_FIRST_BAD]))
+        return true;
+    return memcmp(wanted, found, 8 * sizeof *wanted) == 0;
+}
+
+static void compare_trace(unsigned number)
+{
+    uint32_t wanted[8], answer[8];
+    const char *broken;
+    make_list(number);
+    reference_trace(text.bytes, text.len, start, carriers_len, budget, list.bytes, list.len, wanted);
+    lent_trace(text.bytes, text.len, start, carriers_len, budget, list.bytes, list.len, answer, &broken);
+    count_trace(wanted);
+    if (memcmp(wanted, answer, sizeof answer) != 0)
+        differ("answers of Trace", wanted, answer);
+    else if (broken != NULL)
+        differ(broken, wanted, answer);
+    if (wanted[ISPS_ENDING] == ISPS_REFUSED)
+        return;
+    bool is_whole = reference_trace_search(text.bytes, text.len, start, carriers_len, budget, list.bytes, list.len, MOST_EFFORT, answer);
+    orders_searched++;
+    order_searches_given_up += !is_whole;
+    if (!agrees_with_orders(wanted, answer, is_whole))
+        differ("the search over all orders", wanted, answer);
+}
+
 static void print_counts(const char *what, const unsigned *counts, unsigned size)
 {
     printf("%s:", what);
@@ -348,40 +406,96 @@ static void print_counts(const char *what, const unsigned *counts, unsigned size
     printf("\n");
 }
 
-int main(int count, char **arguments)
+static void compare_profiles(void)
 {
-    unsigned long seed = count > 1 ? strtoul(arguments[1], NULL, 10) : 1;
-    unsigned long texts = count > 2 ? strtoul(arguments[2], NULL, 10) : 2000;
-    unsigned long orders = count > 3 ? strtoul(arguments[3], NULL, 10) : 4;
-    for (unsigned long i = 0; i < texts; i++) {
-        uint32_t wanted[8];
-        set_seed(seed * 1000003 + i);
-        generate(&text);
-        compare_check(wanted);
-        compare_why(wanted);
-        make_carriers(wanted[ISPS_WORDS]);
-        budget = some_budget();
-        compare_run(wanted);
-        for (unsigned long order = 0; order < orders && wanted[ISPS_ENDING] != ISPS_REFUSED; order++)
-            compare_order(wanted, order == 0 ? 0 : random_bits() | 1);
-        for (unsigned pair = 0; pair < PROFILES; pair++)
-            compare_profile();
-        compare_store();
-        compare_load();
-        compare_bound(orders);
-    }
+    for (unsigned pair = 0; pair < PROFILES; pair++)
+        compare_profile();
+}
+
+static void compare_traces(void)
+{
+    for (unsigned number = 0; number < LISTS; number++)
+        compare_trace(number);
+}
+
+static void compare_all(unsigned long orders)
+{
+    uint32_t wanted[8];
+    generate(&text);
+    compare_check(wanted);
+    compare_why(wanted);
+    make_carriers(wanted[ISPS_WORDS]);
+    budget = some_budget();
+    compare_run(wanted);
+    for (unsigned long order = 0; order < orders && wanted[ISPS_ENDING] != ISPS_REFUSED; order++)
+        compare_order(wanted, order == 0 ? 0 : random_bits() | 1);
+    compare_profiles();
+    compare_store();
+    compare_load();
+    compare_bound(orders);
+    compare_traces();
+}
+
+/* Mostly with steps enough. */
+static void compare_small(void (*compare)(void))
+{
+    uint32_t checked[8];
+    generate_small(&text);
+    reference_check(text.bytes, text.len, checked);
+    make_carriers(checked[ISPS_WORDS]);
+    budget = chance(10) ? some_budget() : 60;
+    compare();
+}
+
+static void print_profiles(void)
+{
+    print_counts("Profile, by number", profiles_by_number, 100);
+    printf("Profile, searched: %u, of which given up %u\n", paths_searched, searches_given_up);
+}
+
+static void print_traces(void)
+{
+    print_counts("Trace, by number", traces_by_number, 120);
+    printf("Trace: so %u, not so %u, too short %u, not ended %u; searched %u, of which given up %u\n", traces_so, traces_not_so, traces_too_short, traces_unended,
+           orders_searched, order_searches_given_up);
+}
+
+static void print_all(void)
+{
     print_counts("Check, by number (0 is accepted)", checks_by_number, 100);
     print_counts("Why, races by who writes (1 the earlier, 2 the later, 3 both; 0 is no race)", races_by_writers, 4);
     print_counts("Why, chains by the bodies listed (0 is no chain)", chains_by_count, 18);
     print_counts("Run, by number", runs_by_number, 100);
     printf("Run, by ending: done %u, stopped %u, paused %u, fault %u, refused %u\n", runs_by_ending[ISPS_DONE], runs_by_ending[ISPS_STOPPED],
            runs_by_ending[ISPS_PAUSED], runs_by_ending[ISPS_FAULT], runs_by_ending[ISPS_REFUSED]);
-    print_counts("Profile, by number", profiles_by_number, 100);
-    printf("Profile, searched: %u, of which given up %u\n", paths_searched, searches_given_up);
+    print_profiles();
     print_counts("Store, by number", stores_by_number, 100);
     print_counts("Load, by number", loads_by_number, 100);
     printf("Bound: some %u, none %u, refused %u; runs and orders with that budget %u\n", bounds_by_ending[ISPS_DONE], bounds_by_ending[ISPS_NO_BOUND],
            bounds_by_ending[ISPS_REFUSED], runs_in_bound);
+    print_traces();
+}
+
+int main(int count, char **arguments)
+{
+    unsigned long seed = count > 1 ? strtoul(arguments[1], NULL, 10) : 1;
+    unsigned long texts = count > 2 ? strtoul(arguments[2], NULL, 10) : 2000;
+    const char *rest = count > 3 ? arguments[3] : "4";
+    for (unsigned long i = 0; i < texts; i++) {
+        set_seed(seed * 1000003 + i);
+        if (strcmp(rest, "trace") == 0)
+            compare_small(compare_traces);
+        else if (strcmp(rest, "profile") == 0)
+            compare_small(compare_profiles);
+        else
+            compare_all(strtoul(rest, NULL, 10));
+    }
+    if (strcmp(rest, "trace") == 0)
+        print_traces();
+    else if (strcmp(rest, "profile") == 0)
+        print_profiles();
+    else
+        print_all();
     printf("%lu texts, %u orders, %u differences\n", texts, orders_run, differences);
     return differences == 0 ? 0 : 1;
 }

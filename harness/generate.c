@@ -44,6 +44,7 @@ typedef enum {
 
 static bool planned[MISCHIEFS];
 static bool many_arrays; /* so that accesses in subscripts of joined destinations occur often enough */
+static bool is_small;    /* so that a search over all orders comes to its end: few steps, and members that mostly store */
 
 /* A race is to be the only one in its text, so that a reader that misses its kind accepts the text: what stands often misbehaves seldom. */
 static bool misbehave(Mischief kind)
@@ -140,6 +141,8 @@ static unsigned some_length(void)
 {
     if (misbehave(TOO_WIDE))
         return 65;
+    if (is_small)
+        return 1 + below(3);
     if (planned[LONG_RESULT] && chance(50))
         return 30 + below(35);
     return chance(75) ? 1 + below(6) : chance(70) ? 1 + below(20) : 1 + below(64);
@@ -165,9 +168,9 @@ static void make_carrier(void)
 {
     Thing *thing = new_thing(CARRIER);
     make_bits(thing);
-    thing->has_words = chance(many_arrays ? 75 : 25);
+    thing->has_words = chance(many_arrays ? 75 : is_small ? 10 : 25);
     thing->first_word = chance(60) ? 0 : below(4);
-    thing->last_word = chance(70) ? below(8) : below(40);
+    thing->last_word = is_small ? below(3) : chance(70) ? below(8) : below(40);
     if (planned[TOO_MANY] && chance(50)) {
         thing->has_words = true;
         thing->last_word = 2040 + below(20);
@@ -426,7 +429,7 @@ static Effect emit_transfer(const Context *context)
 
 static void emit_group(const Context *context, Effect *effect)
 {
-    unsigned count = chance(55) ? 1 : 2 + below(3);
+    unsigned count = chance(is_small ? 35 : 55) ? 1 : 2 + below(is_small ? 2 : 3);
     Context inner = *context;
     inner.depth++;
     if (count > 1 && !(planned[ESCAPE] && chance(20))) {
@@ -495,7 +498,7 @@ static void emit_counting(const Thing *counter, const char *relation, const char
     emit("IF");
     emit(counter->name);
     emit(relation);
-    emit_number(1 + below(length_of(counter) > 3 ? 7 : (1u << length_of(counter)) - 1));
+    emit_number(1 + below(is_small ? 1 + (length_of(counter) > 1) : length_of(counter) > 3 ? 7 : (1u << length_of(counter)) - 1));
     emit("=>");
     emit(jump);
     emit(label);
@@ -691,7 +694,7 @@ static Effect emit_stop(const Context *context)
 
 static Effect emit_action(const Context *context)
 {
-    unsigned pick = below(100);
+    unsigned pick = is_small && chance(30) ? 0 : below(100);
     if (tokens_left < (int)out->count || context->depth > 14)
         return chance(80) ? emit_transfer(context) : emit_no_op();
     if (planned[BAD_SELECTOR] && chance(20))
@@ -834,21 +837,37 @@ static void emit_description(Generated *text)
     emit("END");
 }
 
-static void make_things(void)
+static void make_storage(unsigned carriers, unsigned mappings)
 {
-    bool is_large = chance(3), in_chain = planned[LONG_CHAIN] || chance(2);
-    unsigned carriers = 1 + below(is_large ? 20 : 7), mappings = below(5), count = in_chain ? 14 + below(4) : 1 + below(5);
-    unsigned size = is_large ? 1500 : 15 + below(120);
     thing_count = 0;
     for (unsigned i = 0; i < carriers; i++)
         make_carrier();
     for (unsigned i = 0; i < mappings; i++)
         make_mapping();
+}
+
+static void make_bodies(unsigned count, unsigned size, bool in_chain)
+{
     first_body = thing_count;
     out = &bodies;
     bodies.count = 0;
     for (unsigned i = 0; i < count; i++)
-        make_body(in_chain ? 12 : size, in_chain || (i + 1 == count && chance(30)));
+        make_body(size, in_chain || (i + 1 == count && chance(30)));
+}
+
+static void make_things(void)
+{
+    bool is_large = chance(3), in_chain = planned[LONG_CHAIN] || chance(2);
+    unsigned carriers = 1 + below(is_large ? 20 : 7), mappings = below(5), count = in_chain ? 14 + below(4) : 1 + below(5);
+    unsigned size = is_large ? 1500 : 15 + below(120);
+    make_storage(carriers, mappings);
+    make_bodies(count, in_chain ? 12 : size, in_chain);
+}
+
+static void make_few_things(void)
+{
+    make_storage(2 + below(4), below(3));
+    make_bodies(1 + below(3), 8 + below(40), false);
 }
 
 /* ---- Damage and writing out ---- */
@@ -993,16 +1012,38 @@ static void damage_byte(Generated *text)
     }
 }
 
-void generate(Generated *text)
+static void empty(Generated *text)
 {
     text->len = 0;
     text->word_count = 0;
-    plan_mischief();
-    many_arrays = planned[RACING_SUBSCRIPT] || chance(10);
-    make_things();
+}
+
+static void describe(Generated *text)
+{
     out = &whole;
     whole.count = 0;
     emit_description(text);
+}
+
+void generate_small(Generated *text)
+{
+    empty(text);
+    memset(planned, 0, sizeof planned);
+    is_small = true;
+    many_arrays = chance(10);
+    make_few_things();
+    describe(text);
+    write_out(text);
+}
+
+void generate(Generated *text)
+{
+    empty(text);
+    plan_mischief();
+    is_small = false;
+    many_arrays = planned[RACING_SUBSCRIPT] || chance(10);
+    make_things();
+    describe(text);
     damage_tokens();
     write_out(text);
     if (chance(50))

@@ -22,6 +22,9 @@ bool chance(unsigned in_hundred);
 
 void generate(Generated *text);
 
+/* A description of few steps whose members mostly store, without a fault built in, so that a search over all orders comes to its end. */
+void generate_small(Generated *text);
+
 /* Names that the text made last declares, as long as nothing was damaged: of some body, of some storage carrier, of anything. */
 const char *name_of_body(void);
 const char *name_of_storage(void);

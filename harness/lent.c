@@ -13,7 +13,7 @@ typedef struct {
     const uint8_t *before; /* what was lent; of rubbish nothing is kept */
 } Buffer;
 
-static Buffer lent_text, lent_read[2], lent_written, lent_reason, lent_work[3], lent_answer;
+static Buffer lent_text, lent_read[2], lent_written, lent_reason, lent_work[4], lent_answer;
 
 static uint8_t *bytes_of(Buffer *buffer)
 {
@@ -92,7 +92,7 @@ static void read_answer(uint32_t returned, uint32_t answer[8])
 
 static const char *fault_of_work_memory(bool untouched)
 {
-    for (int i = 0; i < 3; i++) {
+    for (int i = 0; i < 4; i++) {
         if (!guards_stand(&lent_work[i]))
             return "wrote outside work memory";
         if (untouched && !is_full_of(&lent_work[i], RUBBISH))
@@ -136,7 +136,7 @@ static const char *fault_of_call(uint32_t returned, const uint32_t answer[8])
     return fault_of_work_memory(untouched);
 }
 
-/* Lends what every call takes. The other buffers are empty until a call lends them. */
+/* Lends what every call takes. The other buffers, the fourth of work memory too, are empty until a call lends them. */
 static void lend(const Lengths *lengths, const uint8_t *text, size_t text_len)
 {
     lend_copy(&lent_text, text, text_len);
@@ -145,6 +145,7 @@ static void lend(const Lengths *lengths, const uint8_t *text, size_t text_len)
     lend_copy(&lent_written, NULL, 0);
     for (int i = 0; i < 3; i++)
         lend_rubbish(&lent_work[i], lengths->work[i]);
+    lend_rubbish(&lent_work[3], 0);
     lend_rubbish(&lent_answer, lengths->answer);
 }
 
@@ -244,7 +245,19 @@ uint32_t lent_bound_with(const Lengths *lengths, const uint8_t *text, size_t tex
     return look_after(isps_bound(LENT(lent_text), LENT_WORK_AND_ANSWER), answer, broken);
 }
 
-static const Lengths published = {{ISPS_WORK_SIZE, ISPS_WORK_SIZE, ISPS_WORK_SIZE}, ISPS_ANSWER_SIZE};
+uint32_t lent_trace_with(const Lengths *lengths, const uint8_t *text, size_t text_len, const uint8_t *carriers, size_t carriers_len, uint32_t budget,
+                         const uint8_t *entries, size_t entries_len, uint32_t answer[8], const char **broken)
+{
+    lend(lengths, text, text_len);
+    lend_copy(&lent_read[0], carriers, carriers_len);
+    lend_copy(&lent_read[1], entries, entries_len);
+    lend_rubbish(&lent_work[3], lengths->work[3]);
+    return look_after(isps_trace(LENT(lent_text), LENT(lent_read[0]), budget, LENT(lent_read[1]), LENT(lent_work[0]), LENT(lent_work[1]), LENT(lent_work[2]),
+                                 LENT(lent_work[3]), LENT(lent_answer)),
+                      answer, broken);
+}
+
+static const Lengths published = {{ISPS_WORK_SIZE, ISPS_WORK_SIZE, ISPS_WORK_SIZE, ISPS_WORK_SIZE}, ISPS_ANSWER_SIZE};
 
 uint32_t lent_check(const uint8_t *text, size_t text_len, uint32_t answer[8], const char **broken)
 {
@@ -283,4 +296,10 @@ uint32_t lent_load(const uint8_t *text, size_t text_len, const uint8_t *image, s
 uint32_t lent_bound(const uint8_t *text, size_t text_len, uint32_t answer[8], const char **broken)
 {
     return lent_bound_with(&published, text, text_len, answer, broken);
+}
+
+uint32_t lent_trace(const uint8_t *text, size_t text_len, const uint8_t *carriers, size_t carriers_len, uint32_t budget, const uint8_t *entries,
+                    size_t entries_len, uint32_t answer[8], const char **broken)
+{
+    return lent_trace_with(&published, text, text_len, carriers, carriers_len, budget, entries, entries_len, answer, broken);
 }

@@ -21,10 +21,12 @@ uint32_t lent_store(const uint8_t *text, size_t text_len, const uint8_t *carrier
 uint32_t lent_load(const uint8_t *text, size_t text_len, const uint8_t *image, size_t image_len, uint8_t *carriers, size_t carriers_len,
                    uint32_t answer[8], const char **broken);
 uint32_t lent_bound(const uint8_t *text, size_t text_len, uint32_t answer[8], const char **broken);
+uint32_t lent_trace(const uint8_t *text, size_t text_len, const uint8_t *carriers, size_t carriers_len, uint32_t budget, const uint8_t *entries,
+                    size_t entries_len, uint32_t answer[8], const char **broken);
 
 /* The same with lengths of the work buffers and of `answer` of one's own. */
 typedef struct {
-    size_t work[3];
+    size_t work[4]; /* the last one for Trace only */
     size_t answer;
 } Lengths;
 
@@ -40,5 +42,7 @@ uint32_t lent_store_with(const Lengths *lengths, const uint8_t *text, size_t tex
 uint32_t lent_load_with(const Lengths *lengths, const uint8_t *text, size_t text_len, const uint8_t *image, size_t image_len, uint8_t *carriers,
                         size_t carriers_len, uint32_t answer[8], const char **broken);
 uint32_t lent_bound_with(const Lengths *lengths, const uint8_t *text, size_t text_len, uint32_t answer[8], const char **broken);
+uint32_t lent_trace_with(const Lengths *lengths, const uint8_t *text, size_t text_len, const uint8_t *carriers, size_t carriers_len, uint32_t budget,
+                         const uint8_t *entries, size_t entries_len, uint32_t answer[8], const char **broken);
 
 #endif

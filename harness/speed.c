@@ -1,7 +1,7 @@
 /* speed [MILLISECONDS]: times the library against the reference, which is built at -O2 for the same target, side by side in one run.
  * Why on refused texts: nanoseconds for a byte of text, and the ratio to Check.
- * Check, Profile and Bound: nanoseconds for a byte of text, the ratio of the two, and the library's time relative to its time for a typical text.
- * Run: million steps a second, and the ratio; for a short run, which reading dominates, thousand runs a second. */
+ * Check, Profile, Bound and Trace, which here takes no step: nanoseconds for a byte of text, the ratio of the two, and the library's time relative to its time for a typical text.
+ * Run and Trace: million steps a second, and the ratio; for a short run, which reading dominates, thousand runs a second. */
 #define _POSIX_C_SOURCE 200809L
 
 #include <stdio.h>
@@ -16,9 +16,10 @@
 
 enum { MOST_WORDS = 4096, TRIES = 8, LONG_RUN = 200000 };
 
-static uint8_t text[ISPS_LONGEST_TEXT], carriers[8 * MOST_WORDS], work[3][ISPS_WORK_SIZE], answer[ISPS_ANSWER_SIZE];
+static uint8_t text[ISPS_LONGEST_TEXT], carriers[8 * MOST_WORDS], work[4][ISPS_WORK_SIZE], answer[ISPS_ANSWER_SIZE];
 static uint8_t reason[ISPS_REASON_SIZE];
-static size_t text_len, carriers_len;
+static uint8_t entries[ISPS_ENTRY_SIZE * ISPS_MOST_ENTRIES];
+static size_t text_len, carriers_len, entries_len;
 static uint32_t budget, numbers[8];
 static double least_time; /* in nanoseconds, for each figure */
 
@@ -73,6 +74,17 @@ static void reference_bound_once(void)
     reference_bound(text, text_len, numbers);
 }
 
+static void library_trace(void)
+{
+    isps_trace(text, text_len, carriers, carriers_len, budget, entries, entries_len, work[0], ISPS_WORK_SIZE, work[1], ISPS_WORK_SIZE, work[2], ISPS_WORK_SIZE, work[3],
+               ISPS_WORK_SIZE, answer, ISPS_ANSWER_SIZE);
+}
+
+static void reference_trace_once(void)
+{
+    reference_trace(text, text_len, carriers, carriers_len, budget, entries, entries_len, numbers);
+}
+
 /* Time of the processor in nanoseconds, so that other work on the machine counts little. */
 static double now(void)
 {
@@ -118,6 +130,13 @@ static void set_text(const char *source)
     memcpy(text, source, text_len);
 }
 
+static void prepare_carriers(void)
+{
+    reference_check(text, text_len, numbers);
+    carriers_len = 8 * (size_t)numbers[ISPS_WORDS];
+    memset(carriers, 0, carriers_len);
+}
+
 /* On the typical text and on all hard ones. */
 static void time_by_byte(const char *what, void (*library_call)(void), void (*reference_call)(void))
 {
@@ -126,6 +145,7 @@ static void time_by_byte(const char *what, void (*library_call)(void), void (*re
     printf("%-36s %6s %9s %9s %7s %7s\n", what, "bytes", "library", "reference", "ratio", "typical");
     set_text(typical_text);
     for (unsigned i = 0; name != NULL; name = hard_text(i++, text, &text_len)) {
+        prepare_carriers();
         Times times = time_both(library_call, reference_call);
         double library = times.library / (double)text_len, reference = times.reference / (double)text_len;
         typical = typical == 0 ? library : typical;
@@ -147,26 +167,37 @@ static void time_why(void)
     printf("\n");
 }
 
-/* Leaves the steps of the run in `numbers`. */
-static Times time_run(const char *source, uint32_t most_steps)
+static void prepare_run(const char *source)
 {
     set_text(source);
-    reference_check(text, text_len, numbers);
-    carriers_len = 8 * (size_t)numbers[ISPS_WORDS];
-    budget = most_steps;
+    prepare_carriers();
+    budget = LONG_RUN;
+}
+
+/* Leaves the steps of the run in `numbers`. */
+static Times time_run(const char *source)
+{
+    prepare_run(source);
     return time_both(library_run, reference_run_once);
 }
 
-static void time_long_run(const char *name, const char *source)
+/* With the first stores of the run, as many as a list may have, in the order that is the least like left to right. */
+static Times time_trace(const char *source)
 {
-    Times times = time_run(source, LONG_RUN);
+    prepare_run(source);
+    entries_len = reference_stores(text, text_len, carriers, carriers_len, budget, 0, entries, sizeof entries);
+    return time_both(library_trace, reference_trace_once);
+}
+
+static void print_steps(const char *name, Times times)
+{
     printf("%-36s %6u %9.2f %9.2f %7.2f\n", name, numbers[ISPS_STEPS], numbers[ISPS_STEPS] * 1e3 / times.library,
            numbers[ISPS_STEPS] * 1e3 / times.reference, times.reference / times.library);
 }
 
 static void time_short_run(const char *name, const char *source)
 {
-    Times times = time_run(source, LONG_RUN);
+    Times times = time_run(source);
     printf("%-36s %6u %9.2f %9.2f %7.2f\n", name, numbers[ISPS_STEPS], 1e6 / times.library, 1e6 / times.reference, times.reference / times.library);
 }
 
@@ -188,6 +219,23 @@ static const char jumps[] =
 static const char arrays[] =
     "N := BEGIN M[0:15]<15:0>, I<3:0>, MAIN P := BEGIN REPEAT BEGIN M[I] = M[I] + M[(I + 1) AND '1111] NEXT I = I + 1 END END END";
 
+static const char turns_of_members[] =
+    "N := BEGIN A<11:0>, B<11:0>, C<3:0>, MAIN P := BEGIN K := REPEAT BEGIN A = A + 1 NEXT IF A EQL 1000 => LEAVE K END; "
+    "L := REPEAT BEGIN B = B + 1 NEXT IF B EQL 1000 => LEAVE L END; C = 1 END END";
+
+/* Runs that go on until the budget is used up, but for the last. */
+static void time_by_step(const char *what, Times (*time)(const char *source))
+{
+    printf("%-36s %6s %9s %9s %7s\n", what, "steps", "library", "reference", "ratio");
+    print_steps("transfers and tests", time(transfers_and_tests));
+    print_steps("DECODE", time(choices));
+    print_steps("activations", time(activations));
+    print_steps("LEAVE and RESTART", time(jumps));
+    print_steps("arrays", time(arrays));
+    print_steps("turns of members", time(turns_of_members));
+    printf("\n");
+}
+
 int main(int count, char **arguments)
 {
     least_time = (count > 1 ? (double)strtoul(arguments[1], NULL, 10) : 50) * 1e6;
@@ -195,13 +243,10 @@ int main(int count, char **arguments)
     time_why();
     time_by_byte("Profile, nanoseconds a byte", library_profile, reference_profile_once);
     time_by_byte("Bound, nanoseconds a byte", library_bound, reference_bound_once);
-    printf("%-36s %6s %9s %9s %7s\n", "Run, million steps a second", "steps", "library", "reference", "ratio");
-    time_long_run("transfers and tests", transfers_and_tests);
-    time_long_run("DECODE", choices);
-    time_long_run("activations", activations);
-    time_long_run("LEAVE and RESTART", jumps);
-    time_long_run("arrays", arrays);
-    printf("\n%-36s %6s %9s %9s %7s\n", "Run, thousand runs a second", "steps", "library", "reference", "ratio");
+    time_by_byte("Trace, nanoseconds a byte", library_trace, reference_trace_once);
+    time_by_step("Run, million steps a second", time_run);
+    time_by_step("Trace, million steps a second", time_trace);
+    printf("%-36s %6s %9s %9s %7s\n", "Run, thousand runs a second", "steps", "library", "reference", "ratio");
     time_short_run("a resume", typical_text);
     return 0;
 }

@@ -9,8 +9,9 @@
 
 enum { PAINTED = 4 << 20, PAINT = 0x5A, MOST_WORDS = 4096, BUDGET = 20000 };
 
-static uint8_t text[ISPS_LONGEST_TEXT], carriers[8 * MOST_WORDS], image[ISPS_IMAGE_SIZE(MOST_WORDS)], work[3][ISPS_WORK_SIZE], answer[ISPS_ANSWER_SIZE];
+static uint8_t text[ISPS_LONGEST_TEXT], carriers[8 * MOST_WORDS], image[ISPS_IMAGE_SIZE(MOST_WORDS)], work[4][ISPS_WORK_SIZE], answer[ISPS_ANSWER_SIZE];
 static uint8_t reason[ISPS_REASON_SIZE];
+static uint8_t entries[ISPS_ENTRY_SIZE * ISPS_MOST_ENTRIES];
 static size_t text_len, carriers_len;
 static uintptr_t far_end; /* of the painted stretch */
 
@@ -54,11 +55,18 @@ static void call_bound(void)
     isps_bound(text, text_len, work[0], ISPS_WORK_SIZE, work[1], ISPS_WORK_SIZE, work[2], ISPS_WORK_SIZE, answer, ISPS_ANSWER_SIZE);
 }
 
+static void call_trace(void)
+{
+    isps_trace(text, text_len, carriers, carriers_len, BUDGET, entries, sizeof entries, work[0], ISPS_WORK_SIZE, work[1], ISPS_WORK_SIZE, work[2], ISPS_WORK_SIZE,
+               work[3], ISPS_WORK_SIZE, answer, ISPS_ANSWER_SIZE);
+}
+
 /* Check comes first, since it says how many words the carriers of the others have. Load has the image that Store left. */
 static const struct {
     const char *name;
     void (*call)(void);
-} calls[] = {{"Check", call_check}, {"Why", call_why}, {"Run", call_run}, {"Profile", call_profile}, {"Store", call_store}, {"Load", call_load}, {"Bound", call_bound}};
+} calls[] = {{"Check", call_check}, {"Why", call_why}, {"Run", call_run}, {"Profile", call_profile}, {"Store", call_store}, {"Load", call_load}, {"Bound", call_bound},
+             {"Trace", call_trace}};
 
 enum { CALLS = sizeof calls / sizeof calls[0] };
 

@@ -9,7 +9,9 @@
  * vectors image: reads a text, 0 for Store or 1 for Load in 4 bytes, carriers and an image, each after its length, over and over, and writes for each one line:
  *     store EIGHT image HASH, or load EIGHT carriers HASH
  * where the hash is that of the buffer that the call may write.
- * vectors bound: reads texts, each after its length, and writes for each its eight numbers. Ends with 1 if a call did with its buffers what it may not do. */
+ * vectors bound: reads texts, each after its length, and writes for each its eight numbers.
+ * vectors trace: reads a text, carriers, each after its length, a budget in 4 bytes and a list of entries after its length, over and over, and writes for each its eight
+ * numbers. Ends with 1 if a call did with its buffers what it may not do. */
 #include <stdbool.h>
 #include <stdio.h>
 #include <string.h>
@@ -23,6 +25,7 @@ static uint8_t text[LONGEST_LENT];
 static uint8_t carriers[8 * MOST_WORDS + 16];
 static uint8_t image[LONGEST_LENT];
 static uint8_t test[LONGEST_LENT], output[LONGEST_LENT]; /* the names of a profile */
+static uint8_t entries[LONGEST_LENT];
 static bool all_good = true;
 
 static bool read_number(uint32_t *number)
@@ -167,6 +170,21 @@ static void answer_bounds(void)
     }
 }
 
+static void answer_traces(void)
+{
+    size_t len, carriers_len, entries_len;
+    uint32_t budget;
+    while (read_bytes(text, sizeof text, &len) && read_bytes(carriers, sizeof carriers, &carriers_len) && read_number(&budget)
+           && read_bytes(entries, sizeof entries, &entries_len)) {
+        uint32_t answer[8];
+        const char *broken;
+        lent_trace(text, len, carriers, carriers_len, budget, entries, entries_len, answer, &broken);
+        print_eight(answer);
+        printf("\n");
+        report(broken);
+    }
+}
+
 static void answer_texts(void)
 {
     size_t len;
@@ -197,6 +215,8 @@ int main(int count, char **arguments)
         answer_images();
     else if (strcmp(set, "bound") == 0)
         answer_bounds();
+    else if (strcmp(set, "trace") == 0)
+        answer_traces();
     else
         answer_texts();
     return all_good ? 0 : 1;

@@ -1,7 +1,7 @@
-/* The calls of the reader and runner for a bench subset of ISPS: Check and Run; Why; Profile; Store and Load; Bound.
+/* The calls of the reader and runner for a bench subset of ISPS: Check and Run; Why; Profile; Store and Load; Bound; Trace.
  *
  * Each byte buffer is lent as a pointer and a length. Where the length is 0, the pointer may be anything, NULL included: it is not followed. The calls keep
- * nothing from one call to the next, allocate nothing, and write only to the three work buffers, `answer`, and where a call's comment says so.
+ * nothing from one call to the next, allocate nothing, and write only to the work buffers, `answer`, and where a call's comment says so.
  * Lent buffers must not overlap. A call takes at most 32 KiB of stack. */
 #ifndef ISPS_H
 #define ISPS_H
@@ -13,7 +13,7 @@
 extern "C" {
 #endif
 
-#define ISPS_WORK_SIZE 65536    /* least length of each of the three work buffers */
+#define ISPS_WORK_SIZE 65536    /* least length of each of the work buffers: three, and four for Trace */
 #define ISPS_ANSWER_SIZE 32     /* least length of `answer` */
 #define ISPS_REASON_SIZE 96     /* least length of `reason`, of Why */
 #define ISPS_LONGEST_TEXT 32768 /* in bytes */
@@ -79,6 +79,24 @@ uint32_t isps_bound(const uint8_t *text, size_t text_len,
                     uint8_t *work_a, size_t a_len, uint8_t *work_b, size_t b_len, uint8_t *work_c, size_t c_len,
                     uint8_t *answer, size_t answer_len);
 
+/* A designer's list of stores, in the order in which they were made. An entry is 16 bytes, little-endian: 4 of the place of the transfer (the offset in bytes of its first
+ * token, behind a label), 4 of the number of the word in the order of the carriers, from 0, 8 of what the word holds after the store. There is one entry for each part of a
+ * destination, those of one transfer together from left to right; a store that changes nothing is an entry too. */
+#define ISPS_ENTRY_SIZE 16     /* in bytes */
+#define ISPS_MOST_ENTRIES 4096 /* of a list */
+
+/* Whether a list is what some order of steps stores: the text is read afresh and run from the given carriers, for at most `budget` steps, and the list is compared
+ * with its stores. Returns and fills `answer` as isps_run does, but for these numbers: where the ending is ISPS_DONE or ISPS_STOPPED, ISPS_YES is 1 if some
+ * allowed order ends so within the budget and makes just those stores; else it is 0, and ISPS_FIRST_BAD is the first entry, counted from 0, at which the list up to
+ * and including it begins the stores of no such order, or the number of entries if only more entries could help. The refusals behind those of isps_run are 110.
+ *
+ * `carriers` and `entries` are only read; the call runs on a copy in its work memory, which is four buffers. A list of no entries has length 0, and its pointer may be
+ * NULL. */
+uint32_t isps_trace(const uint8_t *text, size_t text_len,
+                    const uint8_t *carriers, size_t carriers_len, uint32_t budget, const uint8_t *entries, size_t entries_len,
+                    uint8_t *work_a, size_t a_len, uint8_t *work_b, size_t b_len, uint8_t *work_c, size_t c_len, uint8_t *work_d, size_t d_len,
+                    uint8_t *answer, size_t answer_len);
+
 /* Work memory may hold anything before a call. After it, it is zero over its whole length, also where it is longer than the published size.
  * Refusals 1 and 2 are the exception: they write nothing anywhere, not even the answer, so that the returned number is all there is. It stands for
  * place 0, line 1 and column 1. */
@@ -88,15 +106,18 @@ enum {
     ISPS_ENDING,       /* one of the endings below */
     ISPS_NUMBER,       /* of the refusal or fault, else 0; the call returns it too */
     ISPS_PLACE,        /* of the refusal or fault, else 0: an offset in bytes into the text (for 61 into the carriers, for 63 and 64 into the image) */
-    ISPS_STEPS,        /* that Run took, or Bound's bound; 0 after a refusal */
+    ISPS_STEPS,        /* that Run or Trace took, or Bound's bound; 0 after a refusal */
     ISPS_DECLARATIONS, /* number of declarations, in the answer of Check and Why to an accepted text, else 0 */
     ISPS_WORDS,        /* number of words of all carriers, likewise */
     ISPS_LINE,         /* of the place of a refusal or fault, else 0; see below */
-    ISPS_COLUMN        /* likewise */
+    ISPS_COLUMN,       /* likewise */
+
+    ISPS_YES = ISPS_DECLARATIONS, /* in Trace's answer: 1 if the list is so, else 0 */
+    ISPS_FIRST_BAD = ISPS_WORDS   /* in Trace's answer where the list is not so: the number of an entry or of all, else 0 */
 };
 
 /* Line and column are counted from 1. Byte 10 ends a line; every other byte, tab and 13 included, is one column. The end of the text has what the next
- * byte would have. Where the place is no offset into the text (1, 2, 60 to 64, 90, 91), line and column are 1. */
+ * byte would have. Where the place is no offset into the text (1, 2, 60 to 64, 90, 91, 110), line and column are 1. */
 
 /* `reason` has 24 numbers. The first is its kind, which says what those behind it are; numbers that are not listed for a kind are 0. Each place is an offset
  * in bytes into the text. */
@@ -129,7 +150,7 @@ enum {
     ISPS_STOPPED, /* the run came to a STOP() */
     ISPS_PAUSED,  /* more steps than the budget were needed */
     ISPS_FAULT,   /* a step could not be taken: 70 or 71 */
-    ISPS_REFUSED, /* 1 to 64, 90 to 92 */
+    ISPS_REFUSED, /* 1 to 64, 90 to 92, 110 */
     ISPS_NO_BOUND /* Bound has none */
 };
 
@@ -170,7 +191,7 @@ enum {
     ISPS_ESCAPES = 52,      /* in a group of two or more: LEAVE or RESTART aims outside its member (at the keyword), or STOP below a member (at it) */
     ISPS_RACE = 53,         /* two members of a group race; at the later one */
 
-    /* carriers, in Run, Store and Load */
+    /* carriers, in Run, Store, Load and Trace */
     ISPS_CARRIERS_LENGTH = 60, /* carriers not 8 bytes a word; at 0 */
     ISPS_CARRIER_BITS = 61,    /* a carrier bit above its length is set; at the word's offset in the carriers */
 
@@ -186,7 +207,10 @@ enum {
     /* the resume profile, in Profile only */
     ISPS_NO_TEST = 90,   /* the test's name is that of no body; at 0 */
     ISPS_NO_OUTPUT = 91, /* the output's name is that of no storage carrier: a mapping is none, a body with bits is one; at 0 */
-    ISPS_TOO_EARLY = 92  /* some path writes the output too early; at the lowest such transfer, its first token */
+    ISPS_TOO_EARLY = 92, /* some path writes the output too early; at the lowest such transfer, its first token */
+
+    /* a designer's list, in Trace only */
+    ISPS_BAD_LIST = 110 /* over 4,096 entries, or not whole ones; at 0 */
 };
 
 #ifdef __cplusplus

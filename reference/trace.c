@@ -1,7 +1,9 @@
 /* A designer's list of stores against the run left to right. Every order makes the same stores at each place, so each store of the run is the next entry of its
  * place, and it must lie behind the entries of all that is over before it in every order. */
 
-enum { ENTRY_SIZE = 16, NONE = UINT32_MAX };
+enum { ENTRY_SIZE = 16 };
+
+static const uint32_t no_entry = UINT32_MAX;
 
 typedef struct {
     uint32_t place, word;
@@ -35,9 +37,9 @@ typedef struct {
     List list;
     uint64_t before[MOST_ENTRIES]; /* what the word of an entry held before it, as the list has it */
     bool is_taken[MOST_ENTRIES];
-    uint32_t next_at[LONGEST_TEXT]; /* the first entry of a place that is not taken, or NONE */
+    uint32_t next_at[LONGEST_TEXT]; /* the first entry of a place that is not taken, or `no_entry` */
     uint32_t next[MOST_ENTRIES];    /* of the same place */
-    uint32_t bad;                   /* the first entry found that cannot be, or NONE */
+    uint32_t bad;                   /* the least entry found that cannot be, or `no_entry` */
     bool misses;                    /* a store has no entry */
     Machine *machine;
 } Trace;
@@ -58,7 +60,7 @@ static void note_words_before(Trace *trace, const uint64_t *words, uint32_t word
 static void note_places(Trace *trace)
 {
     for (uint32_t place = 0; place < LONGEST_TEXT; place++)
-        trace->next_at[place] = NONE;
+        trace->next_at[place] = no_entry;
     for (uint32_t i = trace->list.count; i-- > 0;) {
         uint32_t place = trace->list.entries[i].place;
         if (place < LONGEST_TEXT) {
@@ -93,9 +95,9 @@ static void take_entries(void *listener, const Action *transfer, const Stored *p
 {
     Trace *trace = listener;
     uint32_t at = trace->next_at[transfer->place];
-    if (at == NONE) {
+    if (at == no_entry) {
         trace->misses = true;
-        trace->machine->behind = NONE;
+        trace->machine->behind = no_entry;
         return;
     }
     if (at < trace->machine->behind)
@@ -104,7 +106,7 @@ static void take_entries(void *listener, const Action *transfer, const Stored *p
     for (uint32_t i = 0; i < count; i++, at++) {
         if (at == trace->list.count) {
             trace->misses = true;
-            trace->machine->behind = NONE;
+            trace->machine->behind = no_entry;
             return;
         }
         if (!is_entry_of(trace, at, transfer->place, &parts[i])) {
@@ -125,7 +127,7 @@ static void trace_left_to_right(Trace *trace, Reader *r, uint64_t *words, uint32
 {
     Machine m = {.words = words, .budget = budget, .tell = take_entries, .listener = trace};
     trace->machine = &m;
-    trace->bad = NONE;
+    trace->bad = no_entry;
     trace->misses = false;
     memset(trace->is_taken, 0, sizeof trace->is_taken);
     note_words_before(trace, words, r->word_count);
@@ -137,7 +139,7 @@ static void trace_left_to_right(Trace *trace, Reader *r, uint64_t *words, uint32
     for (uint32_t i = 0; i < trace->list.count; i++)
         if (!trace->is_taken[i])
             note_bad(trace, i);
-    give_verdict(answer, trace->bad == NONE && !trace->misses, trace->bad != NONE ? trace->bad : trace->list.count);
+    give_verdict(answer, trace->bad == no_entry && !trace->misses, trace->bad != no_entry ? trace->bad : trace->list.count);
 }
 
 /* Reads the text, the carriers and the list; what may refuse them, in this order. */
