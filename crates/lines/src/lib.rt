@@ -4,3 +4,4 @@ pub mod bytes;
 pub mod digits;
 pub mod endings;
 pub mod refusals;
+pub mod said;

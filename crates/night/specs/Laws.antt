@@ -1,3 +1,2 @@
 -- The laws of night.
-pub mod Said
 pub mod Sizes

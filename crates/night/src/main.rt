@@ -3,13 +3,11 @@
 mod budgets;
 mod carriers;
 mod files;
-mod said;
 
 use crate::budgets::Budget;
 use crate::budgets::budget_in;
 use crate::carriers::finish;
 use crate::carriers::start;
-use crate::said::put_said;
 use asking::carrier_bytes;
 use asking::check;
 use asking::run;
@@ -18,6 +16,7 @@ use libc::STDOUT_FILENO;
 use lines::answers::Answer;
 use lines::answers::REFUSED;
 use lines::bytes::put_byte;
+use lines::said::put_said;
 use rules::limits::LONGEST_TEXT;
 use showing::put_words;
 ghost use Prim.Native.Nat.{_≤_};

@@ -1,9 +1,9 @@
--- `night::said::put_fault` meets its contract: one follows the other.
+-- `lines::said::put_fault` meets its contract: one follows the other.
 -- Assumes nothing.
 use borrow.Author.Needs.{needs}
 use Rattle.lines.specs.Laws.Appended.{and-then}
-use Rattle.night.proofs.said.put_fault.Statement.{statement}
-use Rattle.night.proofs.said.put_fault.Tie as tie
+use Rattle.lines.proofs.said.put_fault.Statement.{statement}
+use Rattle.lines.proofs.said.put_fault.Tie as tie
 
 pub put-fault-spec : {M : Type 1} → statement M
 put-fault-spec =

@@ -1,9 +1,9 @@
--- `night::said::put_said` meets its contract, an ending at a time.
+-- `lines::said::put_said` meets its contract, an ending at a time.
 -- Assumes nothing.
 use borrow.Author.Needs.{needs}
-use Rattle.night.specs.Laws.Said.{is-done, is-stopped, is-paused, is-fault, is-refused}
-use Rattle.night.proofs.said.put_said.Statement.{statement}
-use Rattle.night.proofs.said.put_said.Tie as tie
+use Rattle.lines.specs.Laws.Said.{is-done, is-stopped, is-paused, is-fault, is-refused}
+use Rattle.lines.proofs.said.put_said.Statement.{statement}
+use Rattle.lines.proofs.said.put_said.Tie as tie
 
 pub put-said-spec : {M : Type 1} → statement M
 put-said-spec =

@@ -1,13 +1,13 @@
-// What the program says of a run, as people read it.
-use lines::answers::Answer;
-use lines::bytes::put_bytes;
-use lines::digits::put_decimal;
-use lines::endings::put_labelled;
-use lines::refusals::put_refused;
+// How a run ended, as people read it.
+use crate::answers::Answer;
+use crate::bytes::put_bytes;
+use crate::digits::put_decimal;
+use crate::endings::put_labelled;
+use crate::refusals::put_refused;
 ghost use Prim.Native.Nat.{_+_, _≤_};
 ghost use lib.ListN.{length};
 ghost use Rattle.lines.specs.Appended.{Appended};
-ghost use Rattle.night.specs.Said.{stepsBytes, placeBytes, faultBytes, saidBytes};
+ghost use Rattle.lines.specs.Said.{stepsBytes, placeBytes, faultBytes, saidBytes};
 
 // So many steps, behind how they ended.
 fn put_steps(out: &mut [u8], at: usize, how: &[u8], steps: u64) -> usize
@@ -18,7 +18,8 @@ fn put_steps(out: &mut [u8], at: usize, how: &[u8], steps: u64) -> usize
     put_bytes(out, next, b" steps")
 }
 
-fn put_place(out: &mut [u8], at: usize, line: u64, column: u64) -> usize
+// Where: editors jump to a line that begins so.
+pub fn put_place(out: &mut [u8], at: usize, line: u64, column: u64) -> usize
     requires { ⌜ at + 41 ≤ length (now out) ⌝ }
     ensures { λ r. ⌜ Appended (now (out .entry)) (now (out .exit)) at r (placeBytes line column) × (r ≤ at + 41) ⌝ }
 {
@@ -35,7 +36,6 @@ fn put_fault(out: &mut [u8], at: usize, a: Answer) -> usize
     put_steps(out, third, b" after ", a.steps)
 }
 
-// How a run ended.
 pub fn put_said(out: &mut [u8], at: usize, a: Answer) -> usize
     requires { ⌜ at + 128 ≤ length (now out) ⌝ }
     ensures { λ r. ⌜ Appended (now (out .entry)) (now (out .exit)) at r (saidBytes (a .ending) (a .line) (a .column) (a .number) (a .steps)) × (r ≤ at + 128) ⌝ }

@@ -1,0 +1,2 @@
+-- The laws of trace.
+pub mod Report
