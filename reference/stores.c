@@ -176,7 +176,7 @@ static bool trace_by_search(StoreSearch *s, uint64_t *words, uint32_t answer[8])
     Outcome outcome = run_left_to_right(&m, s->reader->main, 0);
     give(answer, s->reader->text, endings[outcome], m.fault, m.steps);
     if (s->ends_well)
-        give_verdict(answer, s->is_so, s->most_made);
+        say_of_list(answer, s->is_so, s->most_made);
     return s->to_do == NULL;
 }
 

@@ -117,7 +117,7 @@ static void take_entries(void *listener, const Action *transfer, const Stored *p
     }
 }
 
-static void give_verdict(uint32_t answer[8], bool is_so, uint32_t first_bad)
+static void say_of_list(uint32_t answer[8], bool is_so, uint32_t first_bad)
 {
     answer[SAYS_YES] = is_so;
     answer[FIRST_BAD] = is_so ? 0 : first_bad;
@@ -139,7 +139,7 @@ static void trace_left_to_right(Trace *trace, Reader *r, uint64_t *words, uint32
     for (uint32_t i = 0; i < trace->list.count; i++)
         if (!trace->is_taken[i])
             note_bad(trace, i);
-    give_verdict(answer, trace->bad == no_entry && !trace->misses, trace->bad != no_entry ? trace->bad : trace->list.count);
+    say_of_list(answer, trace->bad == no_entry && !trace->misses, trace->bad != no_entry ? trace->bad : trace->list.count);
 }
 
 /* Reads the text, the carriers and the list; what may refuse them, in this order. */
