@@ -6,6 +6,7 @@ ghost use Rattle.rules.specs.Calls.Run.{RunCall};
 ghost use Rattle.rules.specs.Calls.Profile.{ProfileCall};
 ghost use Rattle.rules.specs.Calls.Keep.{StoreCall, LoadCall};
 ghost use Rattle.rules.specs.Calls.Bound.{BoundCall};
+ghost use Rattle.rules.specs.Calls.Trace.{TraceCall};
 
 // Check: judges a text. Returns the number of the answer, which stands in `answer` unless it is 1 or 2.
 #[no_mangle]
@@ -119,4 +120,23 @@ pub extern "C" fn isps_bound(
         (memory (now (a .exit)) (now (b .exit)) (now (c .exit)) (now (answer .exit))) r ⌝ }
 {
     lasting::bound(text, a, b, c, answer)
+}
+
+// Trace: compares a designer's list of stores with the runs of a text.
+#[no_mangle]
+pub extern "C" fn isps_trace(
+    text: &[u8],
+    carriers: &[u8],
+    budget: u32,
+    entries: &[u8],
+    a: &mut [u8],
+    b: &mut [u8],
+    c: &mut [u8],
+    d: &mut [u8],
+    answer: &mut [u8],
+) -> u32
+    ensures { λ r. ⌜ TraceCall (now (text .entry)) (now (carriers .entry)) budget (now (entries .entry)) (memory (now (a .entry)) (now (b .entry)) (now (c .entry)) (now (answer .entry)))
+        (memory (now (a .exit)) (now (b .exit)) (now (c .exit)) (now (answer .exit))) (now (d .entry)) (now (d .exit)) r ⌝ }
+{
+    comparing::trace(text, carriers, budget, entries, a, b, c, d, answer)
 }

@@ -10,7 +10,7 @@ ghost use Rattle.runner.specs.Runs.{endingOf, stepsOf};
 ghost use Rattle.lent.specs.Numbers.{numbersOf};
 
 // Ended with a fault, at a place in the text.
-fn fault(text: &[u8], number: u32, place: u16, steps: u32) -> Answer
+pub fn fault(text: &[u8], number: u32, place: u16, steps: u32) -> Answer
     ensures { λ r. ⌜ numbersOf r ≡ ranNumbers (now (text .entry)) (faulted number place) steps ⌝ }
 {
     let here = position_of(text, number, place as usize);

@@ -1,6 +1,6 @@
 // Run: reads a text afresh and runs it.
-mod endings;
-mod runs;
+pub mod endings;
+pub mod runs;
 
 use crate::runs::ran;
 use lent::memory::unread;

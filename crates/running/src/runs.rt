@@ -19,7 +19,7 @@ ghost use Rattle.running.specs.Prepared.{Prepared};
 ghost use Rattle.running.specs.Outcome.{Outcome};
 
 // Completes the table of an accepted description of n tokens: where the bits of accesses lie, and where control goes. Returns where MAIN begins.
-fn prepare(
+pub fn prepare(
     text: &[u8],
     records: &mut [u8],
     values: &mut [u8],

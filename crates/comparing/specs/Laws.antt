@@ -1,0 +1,3 @@
+-- The laws of comparing.
+pub mod Laid
+pub mod Traced
