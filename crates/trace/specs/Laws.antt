@@ -1,2 +1,0 @@
--- The laws of trace.
-pub mod Report
