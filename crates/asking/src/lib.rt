@@ -5,6 +5,7 @@ use isps::isps_load;
 use isps::isps_profile;
 use isps::isps_run;
 use isps::isps_store;
+use isps::isps_trace;
 use isps::isps_why;
 use lines::answers::Answer;
 use lines::answers::answer_of;
@@ -79,6 +80,21 @@ pub fn load(
 pub fn bound(text: &[u8], a: &mut [u8], b: &mut [u8], c: &mut [u8]) -> Answer {
     let mut answer = [0u8; 32];
     let number = isps_bound(text, a, b, c, &mut answer);
+    answer_of(number, &answer)
+}
+
+pub fn trace(
+    text: &[u8],
+    carriers: &[u8],
+    budget: u32,
+    entries: &[u8],
+    a: &mut [u8],
+    b: &mut [u8],
+    c: &mut [u8],
+    d: &mut [u8],
+) -> Answer {
+    let mut answer = [0u8; 32];
+    let number = isps_trace(text, carriers, budget, entries, a, b, c, d, &mut answer);
     answer_of(number, &answer)
 }
 
