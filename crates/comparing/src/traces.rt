@@ -57,7 +57,18 @@ fn compare(
     lay(records, carriers, memory, n);
     let first = prepare(text, records, values, room, decls, m, n);
     begin(room, entries);
-    let ended = trace(records, values, decls, memory, room, entries, first, n, size, budget);
+    let ended = trace(
+        records,
+        values,
+        decls,
+        memory,
+        room,
+        entries,
+        first,
+        n,
+        size,
+        budget,
+    );
     told_answer(text, ended, room, entries)
 }
 
@@ -82,7 +93,19 @@ fn compare_listed(
     if !is_list(entries) {
         return refusal(text, 110, 0);
     }
-    compare(text, carriers, budget, entries, records, values, room, memory, decls, m, n)
+    compare(
+        text,
+        carriers,
+        budget,
+        entries,
+        records,
+        values,
+        room,
+        memory,
+        decls,
+        m,
+        n,
+    )
 }
 
 // The same, unless the carriers are refused.
@@ -140,7 +163,17 @@ pub fn traced(
         Verdict::Refused(number, place) => refusal(text, number, place),
         Verdict::Accepted(m, _, n) => {
             compare_accepted(
-                text, carriers, budget, entries, records, values, room, memory, &decls, m, n,
+                text,
+                carriers,
+                budget,
+                entries,
+                records,
+                values,
+                room,
+                memory,
+                &decls,
+                m,
+                n,
             )
         }
     }

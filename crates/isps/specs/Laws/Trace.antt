@@ -226,8 +226,7 @@ module _ {text carriers entries fourth left : List ℕ} {budget n : ℕ} {before
 
     pub as-run : endingIn (after′ .answer) < 4 → isList entries ≡ true → (n ≡ n′) × (take 16 (after .answer) ≡ take 16 (after′ .answer))
     as-run h f =
-        let z = run-by text carriers entries budget (given .traces) (ran .runs) (omega (arith, ran-coded)) f in
-        (
+        let z = run-by text carriers entries budget (given .traces) (ran .runs) (omega (arith, ran-coded)) f in (
           given .number ∙ z .0 ∙ sym (ran .number),
           ap (take 16) written ∙ z .1 (before .answer) ∙ sym (ap (λ y. take 16 (y .answer)) (ran .is)),
         )
