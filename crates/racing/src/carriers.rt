@@ -56,15 +56,15 @@ pub fn writers(u: Touched, t: Touched, k: usize) -> u32
     requires { ⌜ k < 256 ⌝ }
     ensures { λ r. ⌜ ((a b : Sets) → Holding (u .reads .w) (u .writes .w) a → Holding (t .reads .w) (t .writes .w) b → r ≡ writers a b k) ⌝ }
 {
-    let w = u.writes;
-    let v = t.writes;
-    if has(w, k) {
-        if has(v, k) {
+    let first = u.writes;
+    let second = t.writes;
+    if has(first, k) {
+        if has(second, k) {
             return 3;
         }
         return 1;
     }
-    if has(v, k) {
+    if has(second, k) {
         return 2;
     }
     0
