@@ -2,4 +2,5 @@
 pub mod decimals;
 pub mod entries;
 pub mod files;
+pub mod named;
 pub mod reports;
