@@ -1,2 +1,3 @@
 -- The laws of lists.
+pub mod Entries
 pub mod Reports

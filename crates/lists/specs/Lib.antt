@@ -1,3 +1,4 @@
+pub mod Entries
 pub mod Named
 pub mod Reports
 pub mod Laws
