@@ -1,3 +1,4 @@
 -- The laws of lists.
 pub mod Entries
+pub mod Read
 pub mod Reports
