@@ -1,12 +1,10 @@
 -- Entries written to the bytes of a list.
 -- Assumes nothing.
 use Prim.Native.Nat.{ℕ, _+_, _*_, _/_, _%_}
-use mathlib.Core.Path.{_≡_, refl, sym, _∙_}
+use mathlib.Core.Path.{_≡_, refl, sym}
 use mathlib.Core.List.{List}
 use native.Mathlib.Omega.{arith}
-use lib.ListN.{length}
 use Rattle.cells.specs.Cells.{putAt, putCell}
-use Rattle.cells.specs.Laws.{length-put}
 use Rattle.matching.specs.declared.entries.Entry.{Entry}
 use Rattle.lists.specs.Entries.{putEntry}
 
@@ -25,7 +23,7 @@ halves-put b b₁ b₂ i v e₁ e₂ =
     let f : 2 * (2 * i + 1) ≡ 4 * i + 1 + 1 = omega arith in
     let v₀ : v % 65536 % 256 ≡ v % 256 = omega arith in
     let v₁ : v % 65536 / 256 % 256 ≡ v / 256 % 256 =
-        sym (same-byte (v / 256) (v % 65536 / 256) (v / 65536) (byte-less v (v % 65536) (256 * (v / 65536)) (omega arith))) in
+    sym (same-byte (v / 256) (v % 65536 / 256) (v / 65536) (byte-less v (v % 65536) (256 * (v / 65536)) (omega arith))) in
     let v₂ : v / 65536 ≡ v / 256 / 256 = omega arith in
     rw (e₂, e₁, e, f, v₀, v₁, v₂) refl
 
@@ -34,10 +32,3 @@ pub cells-put-entry : (b b₁ b₂ b₃ : List ℕ) (i : ℕ) (e : Entry) → b�
     → b₃ ≡ putCell 8 b₂ (2 * i + 1) (e .value) → b₃ ≡ putEntry b i e
 unfolding putEntry
 cells-put-entry b b₁ b₂ b₃ i e e₁ e₂ e₃ = rw (e₃, e₂, e₁) refl
-
-pub length-put-entry : (b : List ℕ) (i : ℕ) (e : Entry) → length (putEntry b i e) ≡ length b
-unfolding putEntry
-length-put-entry b i e =
-    let b₁ = putCell 4 b (4 * i) (e .place) in
-    let b₂ = putCell 4 b₁ (4 * i + 1) (e .word) in
-    length-put 8 b₂ (8 * (2 * i + 1)) (e .value) ∙ length-put 4 b₁ (4 * (4 * i + 1)) (e .word) ∙ length-put 4 b (4 * (4 * i)) (e .place)

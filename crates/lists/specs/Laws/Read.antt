@@ -5,7 +5,7 @@ use mathlib.Core.Path.{_≡_, sym, _∙_}
 use mathlib.Core.List.{List}
 use native.Mathlib.Omega.{arith}
 use lib.ListN.{length, getD}
-use Rattle.cells.specs.Cells.{leAt, cell, putCell}
+use Rattle.cells.specs.Cells.{cell, putCell}
 use Rattle.cells.specs.Laws.{length-put, le-put-same, le-put-below}
 use Rattle.rules.specs.Stores.{entry}
 use Rattle.rules.specs.Entries.{entriesFrom}
@@ -28,8 +28,8 @@ entry-put n b i e h room p w v =
     let l₁ : length b₁ ≡ length b = length-put 4 b o₁ (e .place) in
     let l₂ : length b₂ ≡ length b = length-put 4 b₁ o₂ (e .word) ∙ l₁ in
     let place-is : cell 4 b₃ (4 * i) ≡ e .place =
-        le-put-below 4 8 b₂ o₃ (e .value) o₁ (omega arith) ∙ le-put-below 4 4 b₁ o₂ (e .word) o₁ (omega arith) ∙ le-put-same 4 b o₁ (e .place) (omega arith) p in
+    le-put-below 4 8 b₂ o₃ (e .value) o₁ (omega arith) ∙ le-put-below 4 4 b₁ o₂ (e .word) o₁ (omega arith) ∙ le-put-same 4 b o₁ (e .place) (omega arith) p in
     let word-is : cell 4 b₃ (4 * i + 1) ≡ e .word =
-        le-put-below 4 8 b₂ o₃ (e .value) o₂ (omega arith) ∙ le-put-same 4 b₁ o₂ (e .word) (omega (arith, l₁)) w in
+    le-put-below 4 8 b₂ o₃ (e .value) o₂ (omega arith) ∙ le-put-same 4 b₁ o₂ (e .word) (omega (arith, l₁)) w in
     let value-is : cell 8 b₃ (2 * i + 1) ≡ e .value = le-put-same 8 b₂ o₃ (e .value) (omega (arith, l₂)) v in
     entry-read n b₃ i (e .place) (e .word) (e .value) h (sym place-is) (sym word-is) (sym value-is)
