@@ -10,18 +10,12 @@ static uint8_t *entry_of(List *list, size_t number)
     return list->bytes + ISPS_ENTRY_SIZE * number;
 }
 
-static void save(uint8_t *bytes, unsigned size, uint64_t value)
-{
-    for (unsigned i = 0; i < size; i++)
-        bytes[i] = (uint8_t)(value >> 8 * i);
-}
+_Static_assert(sizeof(isps_entry) == ISPS_ENTRY_SIZE, "an entry has no gaps");
 
 void set_entry(List *list, size_t number, uint32_t place, uint32_t word, uint64_t value)
 {
-    uint8_t *entry = entry_of(list, number);
-    save(entry, 4, place);
-    save(entry + 4, 4, word);
-    save(entry + 8, 8, value);
+    isps_entry entry = {place, word, value};
+    memcpy(entry_of(list, number), &entry, sizeof entry);
 }
 
 void append_entry(List *list, uint32_t place, uint32_t word, uint64_t value)
@@ -70,8 +64,10 @@ static void change_entry(List *list, unsigned number)
         memmove(bytes, entry_of(list, below(count_of(list))) + at, size);
     else if (chance(80))
         bytes[chance(80) ? 0 : below(size)] ^= (uint8_t)(1u << (chance(60) ? below(3) : below(8)));
-    else
-        save(bytes, size, random_bits());
+    else {
+        uint64_t bits = random_bits();
+        memcpy(bytes, &bits, size);
+    }
 }
 
 /* Near by, where the entries that may stand in either order are. */

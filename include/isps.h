@@ -85,6 +85,13 @@ uint32_t isps_bound(const uint8_t *text, size_t text_len,
 #define ISPS_ENTRY_SIZE 16     /* in bytes */
 #define ISPS_MOST_ENTRIES 4096 /* of a list */
 
+/* An entry by name. x86-64, for which the library is, keeps it as these 16 bytes: the bytes of an array of entries are a list. */
+typedef struct {
+    uint32_t place;
+    uint32_t word;
+    uint64_t value;
+} isps_entry;
+
 /* Whether a list is what some order of steps stores: the text is read afresh and run from the given carriers, for at most `budget` steps, and the list is compared
  * with its stores. Returns and fills `answer` as isps_run does, but for these numbers: where the ending is ISPS_DONE or ISPS_STOPPED, ISPS_YES is 1 if some
  * allowed order ends so within the budget and makes just those stores; else it is 0, and ISPS_FIRST_BAD is the first entry, counted from 0, at which the list up to
