@@ -1,5 +1,5 @@
--- THE RESUME PROFILE, about the public call. `ProfileCall` (Calls/ of the crate `rules`) is the contract of `isps_profile` in src/lib.rt, which has no hypotheses. `StoresLate` is in
--- Late.antt beside this file. All other words are those of the crate `rules`: Paths.antt has paths, what is too early, and when an activation of the test has ended.
+-- THE RESUME PROFILE, about the public call. `ProfileCall` (Calls/ of the crate `rules`) is the contract of `isps_profile` in src/lib.rt, which has no hypotheses. All words are
+-- those of the crate `rules`: Paths.antt has paths, what is too early, and when an activation of the test has ended; Late.antt has `StoresLate`.
 use Prim.Native.Nat.{ℕ, _+_, _<_, _≤_}
 use mathlib.Core.Path.{_≡_}
 use mathlib.Core.Bool.{false}
