@@ -28,6 +28,7 @@ ghost use Rattle.table.specs.Holds.{kindByte};
 ghost use Rattle.table.specs.Words.{wordAt};
 ghost use Rattle.reading.specs.Reading.{Reading};
 ghost use Rattle.reading.specs.Names.{Owned};
+ghost use Rattle.reading.specs.Behind.{ComesTo};
 ghost use Rattle.reading.specs.Bits.{holds};
 ghost use Rattle.gathering.specs.Memory.{Recalls};
 ghost use Rattle.gathering.specs.Shown.{Touches, Hears, Gathers};
@@ -138,6 +139,42 @@ fn heard(
     t
 }
 
+// What an action touches, and a token from which a search outside of blocks comes to its end.
+pub struct Extent {
+    pub touched: Touched,
+    pub at: usize,
+}
+
+// Passes over the action at from.
+pub fn passed(records: &[u8], decls: &[u8], memo: &[u8], m: usize, n: usize, from: usize) -> Extent
+    requires { ⌜ Reading (now records) (now decls) m n × (72 * m ≤ length (now memo)) ⌝ }
+    ensures { λ r. ⌜ Gathers (now (records .entry)) (now (decls .entry)) (now (memo .entry)) m n from (r .touched .reads .w) (r .touched .writes .w) (r .touched .stops)
+        × ComesTo (now (records .entry)) n from (r .at) ⌝ }
+{
+    let mut t = nothing();
+    let mut d: usize = 0;
+    let mut at_mode: usize = 0;
+    let mut i = from;
+    while i < n {
+        let at = i;
+        let kind = kind_at(records, at);
+        if halts(SEPARATOR, d, kind) {
+            return Extent { touched: t, at };
+        }
+        t = heard(records, decls, memo, m, n, at, kind, at_mode, t);
+        if closes(d, kind) {
+            return Extent {
+                touched: t,
+                at: at + 1,
+            };
+        }
+        d = deeper(d, kind);
+        at_mode = mode(at_mode, kind);
+        i += 1;
+    }
+    Extent { touched: t, at: i }
+}
+
 // What the action at from touches.
 pub fn touched(
     records: &[u8],
@@ -150,23 +187,6 @@ pub fn touched(
     requires { ⌜ Reading (now records) (now decls) m n × (72 * m ≤ length (now memo)) ⌝ }
     ensures { λ r. ⌜ Gathers (now (records .entry)) (now (decls .entry)) (now (memo .entry)) m n from (r .reads .w) (r .writes .w) (r .stops) ⌝ }
 {
-    let mut t = nothing();
-    let mut d: usize = 0;
-    let mut at_mode: usize = 0;
-    let mut i = from;
-    while i < n {
-        let at = i;
-        let kind = kind_at(records, at);
-        if halts(SEPARATOR, d, kind) {
-            return t;
-        }
-        t = heard(records, decls, memo, m, n, at, kind, at_mode, t);
-        if closes(d, kind) {
-            return t;
-        }
-        d = deeper(d, kind);
-        at_mode = mode(at_mode, kind);
-        i += 1;
-    }
-    t
+    let own = passed(records, decls, memo, m, n, from);
+    own.touched
 }

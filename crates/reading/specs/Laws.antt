@@ -1,6 +1,7 @@
 pub mod Bits
 pub mod Bodies
 pub mod Calls
+pub mod Ends
 pub mod Events
 pub mod Groups
 pub mod Hearing

@@ -2,7 +2,7 @@
 use gathering::memory::Touched;
 use gathering::memory::nothing;
 use gathering::touches::joined;
-use gathering::touches::touched;
+use gathering::touches::passed;
 use reading::bits::meets;
 use reading::bits::union;
 use reading::kinds::end_of;
@@ -74,10 +74,11 @@ pub fn group_key(records: &[u8], decls: &[u8], memo: &[u8], m: usize, n: usize, 
     let mut before = nothing();
     let mut i = from;
     loop {
-        let own = touched(records, decls, memo, m, n, i);
+        let member = passed(records, decls, memo, m, n, i);
+        let own = member.touched;
         let place = place_of(records, decls, m, n, i);
         key = earlier(key, member_key(before, own, place));
-        let end = end_of(records, n, i);
+        let end = end_of(records, n, member.at);
         if kind_of(records, n, end) != SEMI {
             return key;
         }

@@ -1,6 +1,7 @@
 -- `whole::groups::group_key` meets its contract.
 use borrow.Author.Needs.{needs}
 use native.Mathlib.Omega.{arith}
+use mathlib.Core.Path.{_∙_}
 use Prim.Native.Nat.{_-_}
 use Rattle.reading.specs.Laws.Reading.{kinded}
 use Rattle.whole.specs.Laws.GroupKeys.{Comparing, compare-none, last-member, end-inside, next-member}
@@ -28,22 +29,23 @@ group-key-spec =
     (λ c κs. search needs)
     (λ c κs. search (needs, kinded))
     (λ c κs. search (needs, kinded))
-    (λ c. last-member (c .before .before .before .before .before .before .before .loop .inv) (c .before .before .end-of .result)
-    (record { gathered = c .before .before .before .before .before .before .touched .ensures; place = _; place-is = c .before .before .before .before .before .place-of .ensures .1; own = _; own-is = c .before .before .before .before .member-key .ensures; least = c .before .before .before .earlier .ensures; ends = c .before .before .end-of .ensures .1; kind = c .before .kind-of .ensures }) (c .if1 .taken))
+    (λ c. last-member (c .before .before .before .before .before .before .before .before .loop .inv) (c .before .before .end-of .result)
+    (record { gathered = c .before .before .before .before .before .before .before .passed .ensures .0; place = _; place-is = c .before .before .before .before .before .place-of .ensures .1; own = _; own-is = c .before .before .before .before .member-key .ensures; least = c .before .before .before .earlier .ensures; ends = λ v. c .before .before .end-of .ensures .1 v ∙ c .before .before .before .before .before .before .before .passed .ensures .1 .same v; kind = c .before .kind-of .ensures }) (c .if1 .taken))
     (λ c κs. search needs)
     (λ c. omega (
       arith,
       end-inside (c .before .before .before .end-of .result)
-          (kinded (c .before .before .before .before .before .before .before .before .loop .inv .reading)) (c .before .before .kind-of .ensures)
+          (kinded (c .before .before .before .before .before .before .before .before .before .loop .inv .reading)) (c .before .before .kind-of .ensures)
           (c .before .if1 .left),
-      kinded (c .before .before .before .before .before .before .before .before .loop .inv .reading) .few,
+      kinded (c .before .before .before .before .before .before .before .before .before .loop .inv .reading) .few,
     ))
     (λ c. omega (
       arith,
       end-inside (c .before .before .before .end-of .result)
-          (kinded (c .before .before .before .before .before .before .before .before .loop .inv .reading)) (c .before .before .kind-of .ensures)
+          (kinded (c .before .before .before .before .before .before .before .before .before .loop .inv .reading)) (c .before .before .kind-of .ensures)
           (c .before .if1 .left),
       c .before .before .before .end-of .ensures .0,
+      c .before .before .before .before .before .before .before .before .passed .ensures .1 .past,
     ))
-    (λ c. next-member (c .before .before .before .before .before .before .before .before .loop .inv) (c .before .before .before .end-of .result)
-    (record { gathered = c .before .before .before .before .before .before .before .touched .ensures; place = _; place-is = c .before .before .before .before .before .before .place-of .ensures .1; own = _; own-is = c .before .before .before .before .before .member-key .ensures; least = c .before .before .before .before .earlier .ensures; ends = c .before .before .before .end-of .ensures .1; kind = c .before .before .kind-of .ensures }) (c .before .if1 .left) (c .joined .ensures .0) (c .joined .ensures .1 .0)))
+    (λ c. next-member (c .before .before .before .before .before .before .before .before .before .loop .inv) (c .before .before .before .end-of .result)
+    (record { gathered = c .before .before .before .before .before .before .before .before .passed .ensures .0; place = _; place-is = c .before .before .before .before .before .before .place-of .ensures .1; own = _; own-is = c .before .before .before .before .before .member-key .ensures; least = c .before .before .before .before .earlier .ensures; ends = λ v. c .before .before .before .end-of .ensures .1 v ∙ c .before .before .before .before .before .before .before .before .passed .ensures .1 .same v; kind = c .before .before .kind-of .ensures }) (c .before .if1 .left) (c .joined .ensures .0) (c .joined .ensures .1 .0)))
