@@ -1,0 +1,5 @@
+-- The laws of spelling.
+pub mod Letters
+pub mod Cells
+pub mod Trees
+pub mod Growing

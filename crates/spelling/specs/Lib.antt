@@ -1,0 +1,4 @@
+pub mod Spelled
+pub mod Trees
+pub mod Spelling
+pub mod Laws

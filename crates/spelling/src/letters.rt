@@ -1,0 +1,43 @@
+// The letters of a word where it stands in the text: its hash, and its bits.
+use table::words::upper;
+ghost use mathlib.Core.Path.{_≡_};
+ghost use Prim.Native.Nat.{_+_, _*_, _<_, _≤_};
+ghost use lib.ListN.{length, getD};
+ghost use Rattle.table.specs.Holds.{foldedAt};
+ghost use Rattle.spelling.specs.Trees.{heads, hashOf, bitOf};
+
+// The number of heads, and the first cell behind them: that of the children.
+pub const HEADS: usize = 256;
+
+// The letter k of the n at p, in upper case; 0 behind them.
+fn letter(text: &[u8], p: usize, n: usize, k: usize) -> u8
+    requires { ⌜ p + n ≤ length (now text) ⌝ }
+    ensures { λ r. ⌜ r ≡ getD (foldedAt (now (text .entry)) p n) k 0 ⌝ }
+{
+    if k < n {
+        return upper(text[p + k]);
+    }
+    0
+}
+
+// The head for the n letters at p.
+pub fn hash_of(text: &[u8], p: usize, n: usize) -> usize
+    requires { ⌜ p + n ≤ length (now text) ⌝ }
+    ensures { λ r. ⌜ (r ≡ hashOf (foldedAt (now (text .entry)) p n)) × (r < heads) ⌝ }
+{
+    let mut h: usize = 0;
+    let mut k: usize = 0;
+    while k < n {
+        h = (h * 33 + letter(text, p, n, k) as usize) % HEADS;
+        k += 1;
+    }
+    h
+}
+
+// The bit d of the n letters at p.
+pub fn bit_of(text: &[u8], p: usize, n: usize, d: usize) -> usize
+    requires { ⌜ p + n ≤ length (now text) ⌝ }
+    ensures { λ r. ⌜ (r ≡ bitOf (foldedAt (now (text .entry)) p n) d) × (r < 2) ⌝ }
+{
+    ((letter(text, p, n, d / 8) as usize) >> (d % 8)) % 2
+}
