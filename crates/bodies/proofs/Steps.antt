@@ -14,13 +14,13 @@ use Rattle.rules.specs.Faults.Fault.{when}
 use Rattle.rules.specs.Faults.Bodies.{past}
 use Rattle.table.specs.Holds.{kindByte, placeCell}
 use Rattle.table.specs.Keys.{noKey, leastKey}
+use Rattle.stacks.specs.Stacks.{Kept}
+use Rattle.stacks.specs.Laws.Kept.{kept-all, kept-then, kept-less}
 use Rattle.selectors.specs.Stands.{AlternativeView}
 use Rattle.expressions.specs.Scene.{ExpressionAt, ExpressionAnswer}
 use Rattle.expressions.specs.declared.Judged.{Judged as Value}
 use Rattle.bodies.specs.declared.Walked.{Walked}
 use Rattle.bodies.specs.declared.prefixes.Prefixed.{Prefixed}
-use Rattle.bodies.specs.Stacks.{Kept}
-use Rattle.bodies.specs.Laws.Stacks.{kept-all, kept-then, kept-less}
 use Rattle.bodies.specs.Actions.{labelCells, levelBase, ActionView, ActionAnswer, Simple, IsBlock, IsDecode}
 use Rattle.bodies.specs.Choices.{withStart, StartsView, OverlapAnswer, BehindView, BehindAnswer}
 use Rattle.bodies.specs.Alternatives.{isSelector, IsCounted, IsSelected, ChoicesView, ChoicesAnswer}
@@ -37,25 +37,25 @@ use Rattle.bodies.specs.Laws.Selected.{SelectedAhead}
 
 -- THE LOOPS: what is left, for every tree
 pub record InBlock (text records values decls room₀ : List ℕ) (i count depth : ℕ) (room : List ℕ) (k at : ℕ) : Type 0 where
-  pub kept : Kept count (levelBase depth) room₀ room
+  pub kept : Kept records count (levelBase depth) room₀ room
   pub left : (v : ActionView text records values decls room₀ i count depth) → IsBlock (v .action) → BlockAhead v k at
 
 pub record InCounted (text records values decls room₀ : List ℕ) (i count depth bits : ℕ) (room : List ℕ) (k number at : ℕ) : Type 0 where
-  pub kept : Kept count (levelBase (depth + 1)) room₀ room
+  pub kept : Kept records count (levelBase (depth + 1)) room₀ room
   pub left : (v : ChoicesView text records values decls room₀ i count depth bits) (p : IsCounted (v .alternatives)) → CountedAhead v p k number at
 
 pub record InSelected (text records values decls room₀ : List ℕ) (i count depth bits : ℕ) (room : List ℕ) (k number at : ℕ) : Type 0 where
-  pub kept : Kept count (levelBase (depth + 1)) room₀ room
+  pub kept : Kept records count (levelBase (depth + 1)) room₀ room
   pub left : (v : ChoicesView text records values decls room₀ i count depth bits) (p : IsSelected (v .alternatives)) → SelectedAhead v p room k number at
 
 -- `action`: what stands in front is passed, and the names are stacked
 module _ {text records values decls room₀ room : List ℕ} {i count depth : ℕ} {front : Prefixed}
-    (p : Kept count labelCells room₀ room × ((t : List ℕ) (v : ActionView t records values decls room₀ i count depth) → PrefixAnswer v room front)) where
+    (p : Kept records count labelCells room₀ room × ((t : List ℕ) (v : ActionView t records values decls room₀ i count depth) → PrefixAnswer v room front)) where
   pub front-room : ActionView text records values decls room₀ i count depth → 8 * front .at + 8 ≤ length records
   front-room v = bare.bare-room (p .0) (p .1 text v)
 
-  pub action-keeps : {room′ : List ℕ} → Kept (front .count) (levelBase depth) room room′ → ActionView text records values decls room₀ i count depth
-      → Kept count (levelBase depth) room₀ room′
+  pub action-keeps : {room′ : List ℕ} → Kept records (front .count) (levelBase depth) room room′ → ActionView text records values decls room₀ i count depth
+      → Kept records count (levelBase depth) room₀ room′
   action-keeps k v = bare.whole-keeps (p .0) (p .1 text v) k
 
   module _ {c : ℕ} (is-kind : c ≡ kindByte records (front .at)) where
@@ -105,14 +105,14 @@ module _ {text records values decls room₀ room : List ℕ} {i count depth k at
   member-asked a = members.member-view (h .left (a .0) (a .1)) (h .kept)
 
   module _ {room′ : List ℕ} {r : Walked}
-      (q : Kept count (levelBase (depth - 1)) room room′ × ((w : ActionView text records values decls room at count (depth - 1)) → ActionAnswer w r)) where
+      (q : Kept records count (levelBase (depth - 1)) room room′ × ((w : ActionView text records values decls room at count (depth - 1)) → ActionAnswer w r)) where
     pub member-next : BlockAsked text records values decls room₀ i count depth → (r .next < 8192) × (at < r .next) × (8 * r .next + 8 ≤ length records)
     member-next a =
         let b = h .left (a .0) (a .1) in
         let w = q .1 (members.member-view b (h .kept)) in
         (members.next-inside b (h .kept) w, w .past, members.next-room b (h .kept) w)
 
-    pub block-keeps : Kept count (levelBase depth) room₀ room′
+    pub block-keeps : Kept records count (levelBase depth) room₀ room′
     block-keeps = kept-then (h .kept) (kept-less (q .0) (omega arith) (omega arith))
 
     module _ {c k′ : ℕ} (is-kind : c ≡ kindByte records (r .next)) (is-key : k′ ≡ min k (r .key)) where
@@ -172,7 +172,7 @@ module _ {text records values decls room : List ℕ} {i count depth : ℕ} where
         counted-answers e g = decoded.decode-answer v d (f (decoded.test-view v d)) (g (counted-asked e (v, d) .0) (counted-asked e (v, d) .1)) is-key
 
 pub decode-keeps : {text records values decls room room′ : List ℕ} {i count depth : ℕ} → DecodeAsked text records values decls room i count depth
-    → Kept count (levelBase (depth - 1 + 1)) room room′ → Kept count (levelBase depth) room room′
+    → Kept records count (levelBase (depth - 1 + 1)) room room′ → Kept records count (levelBase depth) room room′
 decode-keeps a k = let d = decode-deep a in kept-less k (omega arith) (omega arith)
 
 -- `counted`
@@ -194,14 +194,14 @@ module _ {text records values decls room₀ room : List ℕ} {i count depth bits
   counted-action a = counting.counted-action (h .left (a .0) (a .1)) (h .kept)
 
   module _ {room′ : List ℕ} {r : Walked} {f : ℕ} (is-fault : f ≡ leastKey (when (leb 64 number || past bits (between number number ∷ [])) 45 (placeCell records at)))
-      (q : Kept count (levelBase depth) room room′ × ((w : ActionView text records values decls room at count depth) → ActionAnswer w r)) where
+      (q : Kept records count (levelBase depth) room room′ × ((w : ActionView text records values decls room at count depth) → ActionAnswer w r)) where
     pub counted-next : CountedAsked text records values decls room₀ i count depth bits → (r .next < 8192) × (at < r .next) × (8 * r .next + 8 ≤ length records)
     counted-next a =
         let c = h .left (a .0) (a .1) in
         let w = q .1 (counting.counted-action c (h .kept)) in
         (counting.counted-next-inside c (h .kept) w is-fault, w .past, counting.counted-next-room c (h .kept) w is-fault)
 
-    pub counted-keeps : Kept count (levelBase (depth + 1)) room₀ room′
+    pub counted-keeps : Kept records count (levelBase (depth + 1)) room₀ room′
     counted-keeps = kept-then (h .kept) (kept-less (q .0) (omega arith) (omega arith))
 
     module _ {c k′ : ℕ} (is-kind : c ≡ kindByte records (r .next)) (is-key : k′ ≡ min k (min f (r .key))) where
@@ -245,7 +245,7 @@ module _ {text records values decls room₀ room : List ℕ} {i count depth bits
     selected-action a = let c = h .left (a .0) (a .1) in selecting.selected-action c (h .kept) is-room (b (selecting.behind-view c (h .kept)))
 
     module _ {room₂ : List ℕ} {r : Walked}
-        (q : Kept count (levelBase depth) room₁ room₂ × ((w : ActionView text records values decls room₁ body count depth) → ActionAnswer w r)) where
+        (q : Kept records count (levelBase depth) room₁ room₂ × ((w : ActionView text records values decls room₁ body count depth) → ActionAnswer w r)) where
       -- the answers for one tree
       module _ (v : ChoicesView text records values decls room₀ i count depth bits) (p : IsSelected (v .alternatives)) where
         abbrev behind : BehindAnswer (selecting.behind-view (h .left v p) (h .kept)) body
@@ -262,7 +262,7 @@ module _ {text records values decls room₀ room : List ℕ} {i count depth bits
           let n = selecting.selected-next-inside c (h .kept) is-room y (q .0) w in
           (n .0, n .1, selecting.selected-next-room c (h .kept) is-room y (q .0) w)
 
-      pub selected-keeps : SelectedAsked text records values decls room₀ i count depth bits → Kept count (levelBase (depth + 1)) room₀ room₂
+      pub selected-keeps : SelectedAsked text records values decls room₀ i count depth bits → Kept records count (levelBase (depth + 1)) room₀ room₂
       selected-keeps a = selecting.selected-keeps (h .left (a .0) (a .1)) (h .kept) is-room (behind (a .0) (a .1)) (q .0) (inside (a .0) (a .1))
 
       pub overlap-asked : SelectedAsked text records values decls room₀ i count depth bits → StartsView records values room₂ depth (number + 1)

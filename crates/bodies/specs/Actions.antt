@@ -11,9 +11,9 @@ use Rattle.rules.specs.Faults.Fault.{Fault}
 use Rattle.rules.specs.Faults.Bodies.{actionFaults}
 use Rattle.laws_grammar.specs.Cited.Nesting.{actionNest}
 use Rattle.table.specs.Keys.{leastKey}
+use Rattle.stacks.specs.Stacks.{stackedWords, indexEnd, Stacked}
 use Rattle.bodies.specs.declared.Walked.{Walked}
 use Rattle.bodies.specs.Stage.{Stage, outerOf, tableOf}
-use Rattle.bodies.specs.Stacks.{Stacked, stackedWords}
 
 -- the cells behind the labels have the beginnings of alternatives, 64 for each level of nesting
 abbrev pub labelCells : ℕ
@@ -39,9 +39,9 @@ pub record ActionView (text records values decls room : List ℕ) (i count depth
   pub ends : EndsAction (next .kind)
   pub shallow : actionNest action ≤ depth
   pub bounded : depth ≤ deepest
-  pub stacked : Stacked (stage .tokens) room count
+  pub stacked : Stacked records (stage .tokens) room count
   pub low : count ≤ i
-  pub large : 2 * levelBase deepest ≤ length room
+  pub large : 2 * indexEnd ≤ length room
 
 -- the faults of actions under the names of a stack
 module _ {text records values decls : List ℕ} (s : Stage text records values decls) where

@@ -12,10 +12,9 @@ use Rattle.rules.specs.Faults.Fault.{Fault}
 use Rattle.rules.specs.Faults.Bodies.{alternativesFaults, insideFaults}
 use Rattle.laws_grammar.specs.Cited.Nesting.{alternativesNest}
 use Rattle.table.specs.Keys.{leastKey}
+use Rattle.stacks.specs.Stacks.{stackedWords, indexEnd, Stacked}
 use Rattle.bodies.specs.declared.Walked.{Walked}
 use Rattle.bodies.specs.Stage.{Stage, outerOf, tableOf}
-use Rattle.bodies.specs.Stacks.{Stacked, stackedWords}
-use Rattle.bodies.specs.Actions.{levelBase}
 
 -- the kinds that begin a selector: a constant, a constant with `?`, `[`, OTHERWISE
 abbrev pub isSelector : ℕ → Bool
@@ -36,9 +35,9 @@ pub record ChoicesView (text records values decls room : List ℕ) (i count dept
   pub reads : drop i (stage .tokens) ≡ alternativesTokens alternatives (next ∷ rest)
   pub shallow : alternativesNest alternatives ≤ depth
   pub bounded : depth + 1 ≤ deepest
-  pub stacked : Stacked (stage .tokens) room count
+  pub stacked : Stacked records (stage .tokens) room count
   pub low : count ≤ i
-  pub large : 2 * levelBase deepest ≤ length room
+  pub large : 2 * indexEnd ≤ length room
   pub few : bits ≤ mostBits
 
 module _ {text records values decls room : List ℕ} {i count depth bits : ℕ} (v : ChoicesView text records values decls room i count depth bits) where

@@ -10,8 +10,8 @@ use Rattle.rules.specs.Faults.Fault.{Fault}
 use Rattle.rules.specs.Faults.Bodies.{bodyFaults, faults40}
 use Rattle.laws_grammar.specs.Cited.Nesting.{declarationNest}
 use Rattle.table.specs.Declarations.{DeclaredAt}
+use Rattle.stacks.specs.Stacks.{indexEnd}
 use Rattle.bodies.specs.Stage.{Stage, outerOf, tableOf}
-use Rattle.bodies.specs.Actions.{levelBase}
 
 -- a declaration's name is the token i
 pub record BodyView (text records values decls room : List ℕ) (i : ℕ) : Type 0 where
@@ -19,7 +19,7 @@ pub record BodyView (text records values decls room : List ℕ) (i : ℕ) : Type
   pub declaration : Declaration
   pub stands : DeclaredAt (stage .tokens) i declaration
   pub shallow : declarationNest declaration ≤ deepest
-  pub large : 2 * levelBase deepest ≤ length room
+  pub large : 2 * indexEnd ≤ length room
 
 abbrev pub faultsOfBody : {text records values decls room : List ℕ} {i : ℕ} → BodyView text records values decls room i → List Fault
 faultsOfBody v = let d = declaredOf (v .declaration) in bodyFaults (outerOf (v .stage)) (tableOf (v .stage)) (d .name .word) (d .body)
@@ -28,7 +28,7 @@ faultsOfBody v = let d = declaredOf (v .declaration) in bodyFaults (outerOf (v .
 pub record BodiesView (text records values decls room : List ℕ) (m : ℕ) : Type 0 where
   pub stage : Stage text records values decls
   pub count : m ≡ stage .declared
-  pub large : 2 * levelBase deepest ≤ length room
+  pub large : 2 * indexEnd ≤ length room
 
 abbrev pub faultsOfBodies : {text records values decls room : List ℕ} {m : ℕ} → BodiesView text records values decls room m → List Fault
 faultsOfBodies v = faults40 (outerOf (v .stage)) (tableOf (v .stage)) (tableOf (v .stage))

@@ -1,10 +1,10 @@
 -- The parts of simple actions: the target of LEAVE and RESTART, an activation, a transfer.
-use Prim.Native.Nat.{ℕ, _+_, _<_, _≤_}
+use Prim.Native.Nat.{ℕ, _+_, _*_, _<_, _≤_}
 use mathlib.Core.Path.{_≡_}
 use mathlib.Core.Bool.{Bool, not, _||_}
 use mathlib.Core.List.{List, [], _∷_}
 use lib.Dec.{eqb}
-use lib.ListN.{drop}
+use lib.ListN.{length, drop}
 use Rattle.rules.specs.Text.Tokens.{Info, Token, LEAVE, RESTART, kindNo}
 use Rattle.rules.specs.Grammar.Trees.{Tokens, Bits, Operand, Tail, Subscript, Joined, transfer, actionTokens}
 use Rattle.rules.specs.Declarations.{numberOf}
@@ -15,9 +15,9 @@ use Rattle.laws_grammar.specs.Cited.Nesting.{actionNest}
 use Rattle.table.specs.Holds.{tokenAt}
 use Rattle.table.specs.Keys.{leastKey}
 use Rattle.table.specs.Words.{NameAt, wordAt}
+use Rattle.stacks.specs.Stacks.{stackedWords, indexEnd, Stacked}
 use Rattle.bodies.specs.declared.Walked.{Walked}
 use Rattle.bodies.specs.Stage.{Stage, outerOf, tableOf}
-use Rattle.bodies.specs.Stacks.{Stacked, stackedWords}
 use Rattle.bodies.specs.Actions.{EndsAction}
 
 -- the kinds of LEAVE and RESTART
@@ -29,8 +29,9 @@ pub record JumpView (text records room : List ℕ) (i count : ℕ) : Type 0 wher
   pub values : List ℕ
   pub decls : List ℕ
   pub stage : Stage text records values decls
-  pub stacked : Stacked (stage .tokens) room count
+  pub stacked : Stacked records (stage .tokens) room count
   pub target : NameAt (stage .tokens) (i + 1)
+  pub large : 2 * indexEnd ≤ length room
 
 abbrev pub jumpFaults : {text records room : List ℕ} {i count : ℕ} → JumpView text records room i count → List Fault
 jumpFaults {room = room} {i = i} {count = count} v =

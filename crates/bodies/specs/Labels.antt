@@ -1,10 +1,10 @@
 -- The labels of a body: one of them, and all of them between two tokens.
-use Prim.Native.Nat.{ℕ, _+_}
+use Prim.Native.Nat.{ℕ, _+_, _*_, _≤_}
 use mathlib.Core.Path.{_≡_}
 use mathlib.Core.Bool.{Bool, false, _&&_}
 use mathlib.Core.List.{List, [], _∷_, _++_}
 use lib.Dec.{eqb}
-use lib.ListN.{drop}
+use lib.ListN.{length, drop}
 use Rattle.rules.specs.Text.Tokens.{Becomes, same, Token, Name, kindNo}
 use Rattle.rules.specs.Grammar.Trees.{Tokens, Action, actionTokens}
 use Rattle.rules.specs.Declarations.{Name as Word}
@@ -13,8 +13,8 @@ use Rattle.rules.specs.Faults.Declared.{isKnown}
 use Rattle.rules.specs.Faults.Bodies.{labels, labelFaults, declaredNames}
 use Rattle.table.specs.Holds.{kindByte, tokenAt}
 use Rattle.table.specs.Words.{NameAt, wordAt}
+use Rattle.stacks.specs.Stacks.{stackedWords, indexEnd, Stacked}
 use Rattle.bodies.specs.Stage.{Stage, outerOf, tableOf}
-use Rattle.bodies.specs.Stacks.{Stacked, stackedWords}
 
 -- whether the token i of a table is a label
 abbrev pub labelAt : List ℕ → ℕ → Bool
@@ -27,8 +27,9 @@ knownNames s = declaredNames (outerOf s) (tableOf s) (tableOf s)
 -- a label is the token i, and `count` labels before it are stacked
 pub record LabelView (text records values decls room : List ℕ) (count i : ℕ) : Type 0 where
   pub stage : Stage text records values decls
-  pub stacked : Stacked (stage .tokens) room count
+  pub stacked : Stacked records (stage .tokens) room count
   pub name : NameAt (stage .tokens) i
+  pub large : 2 * indexEnd ≤ length room
 
 abbrev pub labelFault : {text records values decls room : List ℕ} {count i : ℕ} → LabelView text records values decls room count i → List Fault
 labelFault {room = room} {count = count} {i = i} v =

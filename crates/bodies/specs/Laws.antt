@@ -22,4 +22,3 @@ pub mod Places
 pub mod Small
 pub mod Fixed
 pub mod Stage
-pub mod Stacks

@@ -1,5 +1,4 @@
 pub mod Stage
-pub mod Stacks
 pub mod Labels
 pub mod Actions
 pub mod Jumps

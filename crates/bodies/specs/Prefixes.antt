@@ -6,8 +6,8 @@ use lib.ListN.{drop}
 use Rattle.rules.specs.Grammar.Trees.{Action, block, labelled, if-then, decode, repeat, leave, restart, activate, stop, no-op, transfer, actionTokens}
 use Rattle.laws_grammar.specs.Cited.Nesting.{actionNest}
 use Rattle.table.specs.Keys.{leastKey}
+use Rattle.stacks.specs.Stacks.{Stacked}
 use Rattle.bodies.specs.declared.prefixes.Prefixed.{Prefixed}
-use Rattle.bodies.specs.Stacks.{Stacked}
 use Rattle.bodies.specs.Actions.{ActionView, faultsUnder}
 
 -- no label, IF or REPEAT
@@ -30,7 +30,7 @@ module _ {text records values decls room₀ : List ℕ} {i count₀ depth : ℕ}
     pub action : Action
     pub reads : drop at (v .stage .tokens) ≡ actionTokens action (v .next ∷ v .rest)
     pub shallow : actionNest action ≤ depth
-    pub stacked : Stacked (v .stage .tokens) room count
+    pub stacked : Stacked records (v .stage .tokens) room count
     pub low : count ≤ at
     pub more : count₀ ≤ count
     pub past : i ≤ at

@@ -1,4 +1,4 @@
--- What stands in the lent tables once the declarations are passed, with the text.
+-- What stands in the lent tables once the declarations are passed and names are spelled, with the text.
 use Prim.Native.Nat.{ℕ, _<_}
 use mathlib.Core.Path.{_≡_}
 use mathlib.Core.List.{List}
@@ -8,12 +8,14 @@ use Rattle.rules.specs.Grammar.Trees.{Tokens, Description}
 use Rattle.rules.specs.Declarations.{Name as Word, Table, declarations, outerName}
 use Rattle.table.specs.Holds.{tokenAt}
 use Rattle.table.specs.Ready.{Ready}
+use Rattle.spelling.specs.Spelled.{Spelled}
 
 pub record Stage (text records values decls : List ℕ) : Type 0 where
   pub tokens : Tokens
   pub description : Description
   pub declared : ℕ
   pub ready : Ready text records values decls tokens description declared
+  pub spelled : Spelled records tokens
   pub fixed : (i : ℕ) → i < length tokens → tokenAt tokens i .kind ≡ Const → tokenAt tokens i .info .free ≡ 0
 
 module _ {text records values decls : List ℕ} (s : Stage text records values decls) where

@@ -20,8 +20,8 @@ use table::kinds::OTHERWISE;
 use table::records::kind_at;
 ghost use mathlib.Core.Path.{_≡_};
 ghost use Prim.Native.Nat.{_+_};
+ghost use Rattle.stacks.specs.Stacks.{Kept};
 ghost use Rattle.bodies.specs.Actions.{levelBase, ActionView, ActionAnswer, IsBlock, IsDecode};
-ghost use Rattle.bodies.specs.Stacks.{Kept};
 ghost use Rattle.bodies.specs.Alternatives.{isSelector, ChoicesView, ChoicesAnswer, IsCounted, IsSelected};
 
 // Whether a token of this kind begins a selector: a constant, `[` or OTHERWISE.
@@ -43,7 +43,7 @@ pub fn action(
     depth: usize,
 ) -> Walked
     requires { ⌜ ActionView (now text) (now records) (now values) (now decls) (now room) i count depth ⌝ }
-    ensures kept { λ r. ⌜ Kept count (levelBase depth) (now (room .entry)) (now (room .exit)) ⌝ }
+    ensures kept { λ r. ⌜ Kept (now (records .entry)) count (levelBase depth) (now (room .entry)) (now (room .exit)) ⌝ }
     ensures answer { λ r. ⌜ ((v : ActionView (now (text .entry)) (now (records .entry)) (now (values .entry)) (now (decls .entry)) (now (room .entry)) i count depth)
         → ActionAnswer v r) ⌝ }
 {
@@ -84,7 +84,7 @@ fn block(
     depth: usize,
 ) -> Walked
     requires { ⌜ ((v : ActionView (now text) (now records) (now values) (now decls) (now room) i count depth) × IsBlock (v .action)) ⌝ }
-    ensures kept { λ r. ⌜ Kept count (levelBase depth) (now (room .entry)) (now (room .exit)) ⌝ }
+    ensures kept { λ r. ⌜ Kept (now (records .entry)) count (levelBase depth) (now (room .entry)) (now (room .exit)) ⌝ }
     ensures answer { λ r. ⌜ ((v : ActionView (now (text .entry)) (now (records .entry)) (now (values .entry)) (now (decls .entry)) (now (room .entry)) i count depth)
         → IsBlock (v .action) → ActionAnswer v r) ⌝ }
 {
@@ -116,7 +116,7 @@ fn decode(
     depth: usize,
 ) -> Walked
     requires { ⌜ ((v : ActionView (now text) (now records) (now values) (now decls) (now room) i count depth) × IsDecode (v .action)) ⌝ }
-    ensures kept { λ r. ⌜ Kept count (levelBase depth) (now (room .entry)) (now (room .exit)) ⌝ }
+    ensures kept { λ r. ⌜ Kept (now (records .entry)) count (levelBase depth) (now (room .entry)) (now (room .exit)) ⌝ }
     ensures answer { λ r. ⌜ ((v : ActionView (now (text .entry)) (now (records .entry)) (now (values .entry)) (now (decls .entry)) (now (room .entry)) i count depth)
         → IsDecode (v .action) → ActionAnswer v r) ⌝ }
 {
@@ -170,7 +170,7 @@ fn counted(
     bits: u32,
 ) -> Walked
     requires { ⌜ ((v : ChoicesView (now text) (now records) (now values) (now decls) (now room) i count depth bits) × IsCounted (v .alternatives)) ⌝ }
-    ensures kept { λ r. ⌜ Kept count (levelBase (depth + 1)) (now (room .entry)) (now (room .exit)) ⌝ }
+    ensures kept { λ r. ⌜ Kept (now (records .entry)) count (levelBase (depth + 1)) (now (room .entry)) (now (room .exit)) ⌝ }
     ensures answer { λ r. ⌜ ((v : ChoicesView (now (text .entry)) (now (records .entry)) (now (values .entry)) (now (decls .entry)) (now (room .entry)) i count depth bits)
         → IsCounted (v .alternatives) → ChoicesAnswer v r) ⌝ }
 {
@@ -206,7 +206,7 @@ fn selected(
     bits: u32,
 ) -> Walked
     requires { ⌜ ((v : ChoicesView (now text) (now records) (now values) (now decls) (now room) i count depth bits) × IsSelected (v .alternatives)) ⌝ }
-    ensures kept { λ r. ⌜ Kept count (levelBase (depth + 1)) (now (room .entry)) (now (room .exit)) ⌝ }
+    ensures kept { λ r. ⌜ Kept (now (records .entry)) count (levelBase (depth + 1)) (now (room .entry)) (now (room .exit)) ⌝ }
     ensures answer { λ r. ⌜ ((v : ChoicesView (now (text .entry)) (now (records .entry)) (now (values .entry)) (now (decls .entry)) (now (room .entry)) i count depth bits)
         → IsSelected (v .alternatives) → ChoicesAnswer v r) ⌝ }
 {

@@ -2,8 +2,8 @@
 use crate::actions::action;
 use crate::labels::labels_fault;
 use cells::get16;
-use cells::put16;
 use rules::limits::DEEPEST;
+use stacks::push;
 use table::keys::NO_KEY;
 use table::keys::earlier;
 use table::views::body_of;
@@ -30,7 +30,7 @@ fn body_fault(
     if begin == 0 {
         return NO_KEY;
     }
-    put16(room, 0, i as u16);
+    push(records, room, 0, i);
     let inside = action(text, records, values, decls, room, begin, 1, DEEPEST);
     let labels = labels_fault(text, records, room, begin, inside.next);
     earlier(inside.key, labels)

@@ -1,6 +1,6 @@
-// Labels and other names, kept as the numbers of their tokens in cells of lent bytes.
-use cells::get16;
-use cells::put16;
+// The labels of a body, against each other and against what is declared.
+use stacks::is_stacked;
+use stacks::push;
 use table::keys::NO_KEY;
 use table::keys::earlier;
 use table::keys::fault_key;
@@ -10,33 +10,13 @@ use table::lookups::UNKNOWN;
 use table::records::inside16_at;
 use table::records::kind_at;
 use table::records::place_at;
-use table::words::same_word;
 ghost use mathlib.Core.Path.{_≡_};
 ghost use mathlib.Core.List.{List};
 ghost use Prim.Native.Nat.{ℕ, _+_, _*_, _≤_};
 ghost use lib.ListN.{length};
-ghost use Rattle.rules.specs.Faults.Declared.{isKnown};
 ghost use Rattle.table.specs.Keys.{leastKey};
-ghost use Rattle.table.specs.Words.{wordAt};
-ghost use Rattle.bodies.specs.Stacks.{NameView, stackedWords};
+ghost use Rattle.stacks.specs.Stacks.{indexEnd};
 ghost use Rattle.bodies.specs.Labels.{labelAt, LabelView, labelFault, LabelsView, allLabelFaults};
-
-// Whether the name i has the word of one of the first `count` names.
-pub fn is_stacked(text: &[u8], records: &[u8], room: &[u8], count: usize, i: usize) -> bool
-    requires { ⌜ NameView (now text) (now records) (now room) count i ⌝ }
-    ensures { λ r. ⌜ ((v : NameView (now (text .entry)) (now (records .entry)) (now (room .entry)) count i)
-        → r ≡ isKnown (wordAt (v .tokens) i) (stackedWords (v .tokens) (now (room .entry)) count)) ⌝ }
-{
-    let mut k = count;
-    while 0 < k {
-        k -= 1;
-        let name = get16(room, k) as usize;
-        if same_word(text, records, name, i) {
-            return true;
-        }
-    }
-    false
-}
 
 // Whether the token i is a label: a name with `:=` behind it.
 pub fn is_label(records: &[u8], i: usize) -> bool
@@ -56,7 +36,7 @@ fn label_fault(text: &[u8], records: &[u8], room: &[u8], count: usize, i: usize)
     if inside16_at(records, i) != UNKNOWN {
         return key;
     }
-    if is_stacked(text, records, room, count, i) {
+    if is_stacked(records, room, count, i) {
         return key;
     }
     NO_KEY
@@ -64,7 +44,7 @@ fn label_fault(text: &[u8], records: &[u8], room: &[u8], count: usize, i: usize)
 
 // The labels from the token i up to j, one after the other.
 pub fn labels_fault(text: &[u8], records: &[u8], room: &mut [u8], i: usize, j: usize) -> u32
-    requires { ⌜ (16384 ≤ length (now room)) × ((values : List ℕ) × (decls : List ℕ) × LabelsView (now text) (now records) values decls i j) ⌝ }
+    requires { ⌜ (2 * indexEnd ≤ length (now room)) × ((values : List ℕ) × (decls : List ℕ) × LabelsView (now text) (now records) values decls i j) ⌝ }
     ensures { λ r. ⌜ ((values decls : List ℕ) (v : LabelsView (now (text .entry)) (now (records .entry)) values decls i j) → r ≡ leastKey (allLabelFaults v)) ⌝ }
 {
     let mut at = i;
@@ -77,7 +57,7 @@ pub fn labels_fault(text: &[u8], records: &[u8], room: &mut [u8], i: usize, j: u
             continue;
         }
         key = earlier(key, label_fault(text, records, room, count, here));
-        put16(room, count, here as u16);
+        push(records, room, count, here);
         count += 1;
     }
     key

@@ -1,7 +1,7 @@
 // Labels, IFs and REPEATs in front of an action.
 use crate::labels::is_label;
-use cells::put16;
 use expressions::judge::expression;
+use stacks::push;
 use table::keys::NO_KEY;
 use table::keys::earlier;
 use table::kinds::IF;
@@ -9,9 +9,9 @@ use table::kinds::REPEAT;
 use table::records::kind_at;
 ghost use mathlib.Core.List.{List};
 ghost use Prim.Native.Nat.{ℕ};
+ghost use Rattle.stacks.specs.Stacks.{Kept};
 ghost use Rattle.bodies.specs.Actions.{labelCells, ActionView};
 ghost use Rattle.bodies.specs.Prefixes.{PrefixAnswer};
-ghost use Rattle.bodies.specs.Stacks.{Kept};
 
 // The key of the least fault in front of an action, where the action begins, and how many names stand around it.
 pub struct Prefixed {
@@ -31,7 +31,7 @@ pub fn prefixes(
     depth: usize,
 ) -> Prefixed
     requires { ⌜ ((text : List ℕ) × ActionView text (now records) (now values) (now decls) (now room) i count depth) ⌝ }
-    ensures kept { λ r. ⌜ Kept count labelCells (now (room .entry)) (now (room .exit)) ⌝ }
+    ensures kept { λ r. ⌜ Kept (now (records .entry)) count labelCells (now (room .entry)) (now (room .exit)) ⌝ }
     ensures answer { λ r. ⌜ ((text : List ℕ) (v : ActionView text (now (records .entry)) (now (values .entry)) (now (decls .entry)) (now (room .entry)) i count depth)
         → PrefixAnswer v (now (room .exit)) r) ⌝ }
 {
@@ -57,7 +57,7 @@ pub fn prefixes(
                 count: names,
             };
         }
-        put16(room, names, at as u16);
+        push(records, room, names, at);
         names += 1;
         at += 2;
     }

@@ -1,9 +1,9 @@
 // Actions with nothing inside: LEAVE, RESTART, activations, STOP(), NO.OP() and transfers.
 use crate::Walked;
-use crate::labels::is_stacked;
 use cells::get16;
 use expressions::destinations::destination;
 use expressions::judge::expression;
+use stacks::is_stacked;
 use table::keys::NO_KEY;
 use table::keys::earlier;
 use table::keys::fault_key;
@@ -33,7 +33,7 @@ fn jump_fault(text: &[u8], records: &[u8], room: &[u8], i: usize, count: usize) 
     requires { ⌜ JumpView (now text) (now records) (now room) i count ⌝ }
     ensures { λ r. ⌜ ((v : JumpView (now (text .entry)) (now (records .entry)) (now (room .entry)) i count) → r ≡ leastKey (jumpFaults v)) ⌝ }
 {
-    if is_stacked(text, records, room, count, i + 1) {
+    if is_stacked(records, room, count, i + 1) {
         return NO_KEY;
     }
     fault_key(44, place_at(records, i))

@@ -11,10 +11,10 @@ use Rattle.laws_grammar.specs.Cited.Heads.{headKind}
 use Rattle.laws_grammar.specs.Grammar.Heads.{action-head}
 use Rattle.table.specs.Holds.{kindByte}
 use Rattle.table.specs.Laws.Positions.{here, kind-here}
+use Rattle.stacks.specs.Stacks.{Kept}
+use Rattle.stacks.specs.Laws.Kept.{kept-then, kept-less}
 use Rattle.bodies.specs.declared.Walked.{Walked}
 use Rattle.bodies.specs.declared.prefixes.Prefixed.{Prefixed}
-use Rattle.bodies.specs.Stacks.{Kept}
-use Rattle.bodies.specs.Laws.Stacks.{kept-then, kept-less}
 use Rattle.bodies.specs.Actions.{labelCells, levelBase, ActionView, ActionAnswer, Simple, IsBlock, IsDecode}
 use Rattle.bodies.specs.Prefixes.{Bare, PrefixAnswer}
 use Rattle.bodies.specs.Laws.Forms.{first-room}
@@ -59,7 +59,7 @@ bare-simple (no-op i l r) p x y = tt
 bare-simple (transfer n s b j q o t) p x y = tt
 
 module _ {text records values decls room₀ room : List ℕ} {i count depth : ℕ} {v : ActionView text records values decls room₀ i count depth} {front : Prefixed}
-    (kept : Kept count labelCells room₀ room) (p : PrefixAnswer v room front) where
+    (kept : Kept records count labelCells room₀ room) (p : PrefixAnswer v room front) where
   abbrev pub bare-view : ActionView text records values decls room (front .at) (front .count) depth
   bare-view = record {
     stage = v .stage;
@@ -79,7 +79,7 @@ module _ {text records values decls room₀ room : List ℕ} {i count depth : �
   bare-room = first-room bare-view
 
   -- what the action leaves alone, the whole does
-  pub whole-keeps : {room′ : List ℕ} → Kept (front .count) (levelBase depth) room room′ → Kept count (levelBase depth) room₀ room′
+  pub whole-keeps : {room′ : List ℕ} → Kept records (front .count) (levelBase depth) room room′ → Kept records count (levelBase depth) room₀ room′
   whole-keeps k = let m = p .ahead .more in kept-then (kept-less kept (omega arith) (omega arith)) (kept-less k (omega arith) (omega arith))
 
   module _ {c : ℕ} (is-kind : c ≡ kindByte records (front .at)) where

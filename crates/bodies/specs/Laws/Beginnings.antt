@@ -9,12 +9,12 @@ use borrow.Author.Tests.{lt-ltb, le-ltb}
 use lib.ListN.{length}
 use Rattle.cells.specs.Cells.{cell, putCell}
 use Rattle.cells.specs.Laws.{le-put-same, le-put-below}
-use Rattle.rules.specs.Limits.{longestText}
+use Rattle.rules.specs.Limits.{longestText, deepest}
 use Rattle.rules.specs.Grammar.Trees.{Tokens}
 use Rattle.table.specs.Holds.{tokenAt}
+use Rattle.stacks.specs.Stacks.{Kept}
+use Rattle.stacks.specs.Laws.Kept.{kept-put, kept-all}
 use Rattle.selectors.specs.Stands.{ItemsAt}
-use Rattle.bodies.specs.Stacks.{Kept}
-use Rattle.bodies.specs.Laws.Stacks.{kept-put, kept-all}
 use Rattle.bodies.specs.Actions.{levelBase}
 use Rattle.bodies.specs.Choices.{startCell, withStart, compared}
 use Rattle.bodies.specs.Laws.Compared.{alone}
@@ -106,9 +106,10 @@ module _ (ts : Tokens) (depth : ℕ) (all : List Choice) where
             })
 
 -- keeping a start leaves the names and the higher levels alone
-pub start-kept : {count : ℕ} (room : List ℕ) (depth number at : ℕ) → count ≤ 8192 → Kept count (levelBase (depth + 1)) room (withStart room depth number at)
-start-kept {count} room depth number at l = by (decLt number 64)
+pub start-kept : {records : List ℕ} {count : ℕ} (room : List ℕ) (depth number at : ℕ) → count ≤ 8192 → depth + 1 ≤ deepest
+    → Kept records count (levelBase (depth + 1)) room (withStart room depth number at)
+start-kept {records} {count} room depth number at l shallow = by (decLt number 64)
   where
-    by : Dec (number < 64) → Kept count (levelBase (depth + 1)) room (withStart room depth number at)
-    by (yes few) = rw (withStart, lt-ltb number 64 few) (kept-put room (startCell depth number) at (omega arith) (omega arith))
+    by : Dec (number < 64) → Kept records count (levelBase (depth + 1)) room (withStart room depth number at)
+    by (yes few) = rw (withStart, lt-ltb number 64 few) (kept-put room (startCell depth number) at (omega arith) (omega arith) (omega arith))
     by (no many) = rw (withStart, le-ltb number 64 (omega arith)) (kept-all count (levelBase (depth + 1)) room)

@@ -9,8 +9,6 @@ use native.Mathlib.Omega.{arith}
 use native.Mathlib.Decide.{decLt}
 use lib.ListN.{length, drop}
 use lib.Seq.{drop-append-seam}
-use Rattle.cells.specs.Cells.{putCell}
-use Rattle.cells.specs.Laws.{length-put}
 use Rattle.rules.specs.Text.Tokens.{Kind, Becomes, Comma, END, Info, Token, tk, same}
 use Rattle.rules.specs.Grammar.Trees.{Tokens, Action, block, actionTokens, Members, body, mapped, carrier, given, givenTokens}
 use Rattle.rules.specs.Grammar.Trees.{words, with-bits, bare-body, mainBitsTokens, Declaration, plain, main, declarationTokens, headingTokens}
@@ -29,10 +27,12 @@ use Rattle.table.specs.Words.{NameAt}
 use Rattle.table.specs.Views.{View, behind, givenPart, wordsSize, BodyAt}
 use Rattle.table.specs.Laws.Views.{bitsPart}
 use Rattle.table.specs.Laws.Views.{name-token, bits-reads}
+use Rattle.stacks.specs.Stacks.{stackedWords, indexFrom, Stacked, NameView, Pushed}
+use Rattle.stacks.specs.Laws.Kept.{none-stacked}
+use Rattle.stacks.specs.Laws.Pushed.{push-words, push-stacked}
 use Rattle.bodies.specs.declared.Walked.{Walked}
 use Rattle.bodies.specs.Stage.{outerOf, tableOf}
-use Rattle.bodies.specs.Stacks.{Stacked, stackedWords}
-use Rattle.bodies.specs.Laws.Stacks.{push-words, push-stacked}
+use Rattle.bodies.specs.Laws.Stage.{name-view}
 use Rattle.bodies.specs.Labels.{knownNames, LabelsView, allLabelFaults}
 use Rattle.bodies.specs.Actions.{EndsAction, by-semi, by-next, by-end, by-comma, ActionView, ActionAnswer}
 use Rattle.bodies.specs.Bodies.{BodyView, faultsOfBody}
@@ -122,9 +122,6 @@ module _ {text records values decls room : List ℕ} {i : ℕ} (v : BodyView tex
   name-at : NameAt (v .stage .tokens) i
   name-at = let n = name-token (v .stands) in record { within = n .0; kind = ap (λ (t : Token). t .kind) (n .1) }
 
-  pub name-small : i < 8192
-  name-small = omega (arith, name-at .within, v .stage .ready .holds .few)
-
   pub bodiless : {b : ℕ} → BodyAt (v .stage .tokens) b its-body → b ≡ 0 → noKey ≡ leastKey (faultsOfBody v)
   unfolding leastBy
   bodiless {b} at z = go its-body refl at
@@ -162,22 +159,16 @@ module _ {text records values decls room : List ℕ} {i : ℕ} (v : BodyView tex
             past = at .0;
           }
 
-  module _ {b : ℕ} (h : Begins b) {room₁ : List ℕ} (is-room : room₁ ≡ putCell 2 room 0 i) where
-    pub long : length room₁ ≡ length room
-    long = ap length is-room ∙ length-put 2 room 0 i
+  pub own-name : NameView records room 0 i × (0 < indexFrom)
+  own-name = (name-view (v .stage) (none-stacked records (v .stage .tokens) room) name-at (v .large), omega arith)
 
-    none-stacked : Stacked (v .stage .tokens) room 0
-    none-stacked = record { fits = omega arith; each = λ k l. absurd (omega arith) }
-
-    pub name-stacked : Stacked (v .stage .tokens) room₁ 1
-    name-stacked = rw is-room (push-stacked none-stacked (let l = v .large in omega arith) (let l = name-small in omega arith) name-at)
+  module _ {b : ℕ} (h : Begins b) {room₁ : List ℕ} (p : Pushed records 0 i room room₁) where
+    pub name-stacked : Stacked records (v .stage .tokens) room₁ 1
+    name-stacked = push-stacked p (v .stage .tokens) (none-stacked records (v .stage .tokens) room) (let l = v .large in omega arith) name-at
 
     name-word : stackedWords (v .stage .tokens) room₁ 1 ≡ word ∷ []
     unfolding stackedWords
-    name-word =
-        ap (λ x. stackedWords (v .stage .tokens) x 1) is-room
-        ∙ push-words none-stacked (let l = v .large in omega arith) (let l = name-small in omega arith) name-at
-        ∙ ap (λ (t : Token). t .info .word ∷ []) (name-token (v .stands) .1)
+    name-word = push-words p (v .stage .tokens) ∙ ap (λ (t : Token). t .info .word ∷ []) (name-token (v .stands) .1)
 
     abbrev pub body-view : ActionView text records values decls room₁ b 1 deepest
     body-view = record {
@@ -191,7 +182,7 @@ module _ {text records values decls room : List ℕ} {i : ℕ} (v : BodyView tex
       bounded = omega arith;
       stacked = name-stacked;
       low = let p = h .past in omega arith;
-      large = let l = v .large in omega (arith, long);
+      large = let l = v .large in omega (arith, p .kept .long);
     }
 
     module _ {r : Walked} (a : ActionAnswer body-view r) where

@@ -20,10 +20,10 @@ use Rattle.table.specs.Holds.{kindByte, placeCell}
 use Rattle.table.specs.Keys.{key, noKey, leastKey}
 use Rattle.table.specs.Laws.Keys.{least-append, least-bounded}
 use Rattle.table.specs.Laws.Positions.{here, kind-here, record-within}
+use Rattle.stacks.specs.Stacks.{stackedWords, Kept}
+use Rattle.stacks.specs.Laws.Kept.{kept-words, kept-stacked}
 use Rattle.bodies.specs.declared.Walked.{Walked}
 use Rattle.bodies.specs.Stage.{outerOf, tableOf}
-use Rattle.bodies.specs.Stacks.{stackedWords, Kept}
-use Rattle.bodies.specs.Laws.Stacks.{kept-words, kept-stacked}
 use Rattle.bodies.specs.Actions.{EndsAction, by-end, by-comma, levelBase, ActionView, ActionAnswer}
 use Rattle.bodies.specs.Alternatives.{IsCounted, ChoicesView, choicesFaults, ChoicesAnswer}
 use Rattle.bodies.specs.Laws.Known.{token-room, token-place, place-small}
@@ -133,7 +133,7 @@ module _ {text records values decls room₀ : List ℕ} {i count depth bits k nu
   listed-now : (c : Counted) → h .left ≡ c → (cs : List Choice) → countedChoices (h .first) c ≡ now ∷ cs → drop number (all v p) ≡ now ∷ cs
   listed-now c q cs e = h .listed ∙ ap (countedChoices (h .first)) q ∙ e
 
-  module _ {room : List ℕ} (kept : Kept count (levelBase (depth + 1)) room₀ room) where
+  module _ {room : List ℕ} (kept : Kept records count (levelBase (depth + 1)) room₀ room) where
     abbrev pub counted-action : ActionView text records values decls room at count depth
     counted-action = record {
       stage = v .stage;
@@ -144,7 +144,7 @@ module _ {text records values decls room₀ : List ℕ} {i count depth bits k nu
       ends = follow .ends;
       shallow = let n = h .shallow in omega arith;
       bounded = let b = v .bounded in omega arith;
-      stacked = kept-stacked (v .stage .tokens) kept (v .stacked);
+      stacked = kept-stacked kept (v .stage .tokens) (v .stacked);
       low = let l = v .low in let q = h .past in omega arith;
       large = let l = v .large in omega (arith, kept .long);
     }
@@ -169,7 +169,7 @@ module _ {text records values decls room₀ : List ℕ} {i count depth bits k nu
 
         key-now : r .key ≡ leastKey (inside v p number)
         key-now =
-            a .key ∙ ap (λ ws. leastKey (actionFaults (outerOf (v .stage)) (tableOf (v .stage)) ws (h .first))) (kept-words (v .stage .tokens) kept)
+            a .key ∙ ap (λ ws. leastKey (actionFaults (outerOf (v .stage)) (tableOf (v .stage)) ws (h .first))) (kept-words kept (v .stage .tokens))
             ∙ sym (ap (λ x. leastKey (actionFaults (outerOf (v .stage)) (tableOf (v .stage)) (stackedWords (v .stage .tokens) room₀ count) (x .action))) (choice-now (all v p) number now cs e))
 
       abbrev Reads : Counted → Type 0

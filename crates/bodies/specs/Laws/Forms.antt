@@ -20,9 +20,9 @@ use Rattle.table.specs.Holds.{kindByte, tokenAt}
 use Rattle.table.specs.Keys.{noKey, leastBy, leastKey}
 use Rattle.table.specs.Laws.Positions.{here, far, token-far, behind-far, kind-far}
 use Rattle.table.specs.Words.{NameAt, wordAt}
+use Rattle.stacks.specs.Stacks.{stackedWords}
 use Rattle.bodies.specs.declared.Walked.{Walked}
 use Rattle.bodies.specs.Stage.{Stage, outerOf, tableOf}
-use Rattle.bodies.specs.Stacks.{stackedWords}
 use Rattle.bodies.specs.Actions.{ActionView, faultsUnder, ActionAnswer, Simple}
 use Rattle.bodies.specs.Jumps.{isJump, JumpView, jumpFaults, CallView, callFaults, TransferView, TransferAnswer}
 use Rattle.bodies.specs.Laws.Known.{token-room}
@@ -149,7 +149,7 @@ module _ {text records values decls room : List ℕ} {i count depth : ℕ} (v : 
       jump-target (transfer-seen e _ _) = absurd (z (is-kind ∙ e))
 
       abbrev pub jump-view : JumpView text records room i count
-      jump-view = record { values = values; decls = decls; stage = v .stage; stacked = v .stacked; target = jump-target seen }
+      jump-view = record { values = values; decls = decls; stage = v .stage; stacked = v .stacked; target = jump-target seen; large = v .large }
 
       pub jump-answer : {r : ℕ} → r ≡ leastKey (jumpFaults jump-view) → ActionAnswer v (record { key = r; next = i + 2 })
       jump-answer {r} e = go seen

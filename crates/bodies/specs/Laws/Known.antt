@@ -22,10 +22,10 @@ use Rattle.table.specs.Laws.Keys.{by-place, least-one}
 use Rattle.table.specs.Meaning.{outerOnly, unknownName}
 use Rattle.table.specs.Laws.Positions.{record-within}
 use Rattle.table.specs.Words.{NameAt, wordAt}
+use Rattle.stacks.specs.Stacks.{stackedWords, NameView}
 use Rattle.expressions.specs.Laws.Lookups.{undeclared, declared}
 use Rattle.bodies.specs.Stage.{Stage, outerOf, tableOf}
-use Rattle.bodies.specs.Laws.Stage.{sceneOf}
-use Rattle.bodies.specs.Stacks.{stackedWords, NameView}
+use Rattle.bodies.specs.Laws.Stage.{sceneOf, name-view}
 use Rattle.bodies.specs.Labels.{knownNames, LabelView, labelFault}
 
 pub known-append : (w : Word) (xs ys : List Word) → isKnown w (xs ++ ys) ≡ isKnown w xs || isKnown w ys
@@ -103,8 +103,8 @@ module _ {text records values decls room : List ℕ} {count i : ℕ} (v : LabelV
   pub label-place : placeCell records i ≤ longestText
   label-place = omega (arith, token-place (v .stage) (v .name .within), place-small (v .stage) (v .name .within))
 
-  abbrev pub label-name : NameView text records room count i
-  label-name = record { values = values; tokens = v .stage .tokens; holds = v .stage .ready .holds; stacked = v .stacked; name = v .name }
+  abbrev pub label-name : NameView records room count i
+  label-name = name-view (v .stage) (v .stacked) (v .name) (v .large)
 
   module _ {p k : ℕ} (is-place : p ≡ placeCell records i) (is-meaning : k ≡ insideCell records i) where
     faulty : {r : ℕ} → isKnown (wordAt (v .stage .tokens) i) (stackedWords (v .stage .tokens) room count ++ knownNames (v .stage)) ≡ true → r ≡ key (fault 44 p)

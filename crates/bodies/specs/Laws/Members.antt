@@ -14,10 +14,10 @@ use Rattle.table.specs.Holds.{kindByte}
 use Rattle.table.specs.Keys.{key, noKey, leastBy, leastKey}
 use Rattle.table.specs.Laws.Keys.{least-append, least-bounded}
 use Rattle.table.specs.Laws.Positions.{here, kind-here, record-within}
+use Rattle.stacks.specs.Stacks.{stackedWords, Kept}
+use Rattle.stacks.specs.Laws.Kept.{kept-words, kept-stacked}
 use Rattle.bodies.specs.declared.Walked.{Walked}
 use Rattle.bodies.specs.Stage.{Stage, outerOf, tableOf}
-use Rattle.bodies.specs.Stacks.{stackedWords, Kept}
-use Rattle.bodies.specs.Laws.Stacks.{kept-words, kept-stacked}
 use Rattle.bodies.specs.Actions.{EndsAction, by-semi, by-next, by-end, levelBase, ActionView, faultsUnder, ActionAnswer, IsBlock}
 
 module _ {text records values decls : List ℕ} (s : Stage text records values decls) (ws : List (List ℕ)) where
@@ -64,7 +64,7 @@ module _ {text records values decls room₀ : List ℕ} {i count depth : ℕ} (v
       }
 
 module _ {text records values decls room₀ room : List ℕ} {i count depth k at : ℕ} {v : ActionView text records values decls room₀ i count depth}
-    (h : BlockAhead v k at) (kept : Kept count (levelBase depth) room₀ room) where
+    (h : BlockAhead v k at) (kept : Kept records count (levelBase depth) room₀ room) where
   abbrev follow : Behind (h .left) (v .next ∷ v .rest)
   follow = behind (h .left) (v .next ∷ v .rest)
 
@@ -78,7 +78,7 @@ module _ {text records values decls room₀ room : List ℕ} {i count depth k at
     ends = follow .ends;
     shallow = let n = h .shallow in omega arith;
     bounded = let b = v .bounded in omega arith;
-    stacked = kept-stacked (v .stage .tokens) kept (v .stacked);
+    stacked = kept-stacked kept (v .stage .tokens) (v .stacked);
     low = let l = v .low in let p = h .past in omega arith;
     large = let l = v .large in omega (arith, kept .long);
   }
@@ -98,7 +98,7 @@ module _ {text records values decls room₀ room : List ℕ} {i count depth k at
 
     -- the member's faults are those under the names of the block
     member-key : r .key ≡ leastKey (actionFaults (outerOf (v .stage)) (tableOf (v .stage)) (words v) (h .member))
-    member-key = a .key ∙ ap (λ ws. leastKey (actionFaults (outerOf (v .stage)) (tableOf (v .stage)) ws (h .member))) (kept-words (v .stage .tokens) kept)
+    member-key = a .key ∙ ap (λ ws. leastKey (actionFaults (outerOf (v .stage)) (tableOf (v .stage)) ws (h .member))) (kept-words kept (v .stage .tokens))
 
     by-member : (m : Members) → h .left ≡ m
         → min (min k (r .key)) (leastKey (membersFaults (outerOf (v .stage)) (tableOf (v .stage)) (words v) m)) ≡ leastKey (faultsUnder (v .stage) room₀ count (v .action))

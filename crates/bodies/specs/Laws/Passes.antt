@@ -11,7 +11,6 @@ use borrow.Author.Tests.{eqb-true}
 use lib.Dec.{eqb}
 use lib.ListN.{length, take, drop, length-drop, length-append}
 use lib.Seq.{slice, slice-empty, slice-cons, take-append-seam, take-add, drop-at, length-take-le}
-use Rattle.cells.specs.Cells.{putCell}
 use Rattle.rules.specs.Text.Tokens.{Name, Becomes, same, kindAt, Info, tk}
 use Rattle.rules.specs.Text.Scan.{plainInfo}
 use Rattle.rules.specs.Grammar.Trees.{Tokens, actionTokens}
@@ -23,10 +22,12 @@ use Rattle.table.specs.Keys.{key, noKey, leastBy, leastKey}
 use Rattle.table.specs.Laws.Keys.{least-bounded, least-append}
 use Rattle.table.specs.Laws.Positions.{here, record-within}
 use Rattle.table.specs.Words.{NameAt, wordAt}
+use Rattle.stacks.specs.Stacks.{stackedWords, indexFrom, indexEnd, Stacked, NameView, Pushed}
+use Rattle.stacks.specs.Laws.Kept.{none-stacked}
+use Rattle.stacks.specs.Laws.Pushed.{push-words, push-stacked}
 use Rattle.expressions.specs.Laws.Tests.{both-true}
 use Rattle.bodies.specs.Stage.{Stage}
-use Rattle.bodies.specs.Stacks.{Stacked, stackedWords}
-use Rattle.bodies.specs.Laws.Stacks.{push-words, push-stacked}
+use Rattle.bodies.specs.Laws.Stage.{name-view}
 use Rattle.bodies.specs.Labels.{labelAt, knownNames, LabelView, labelFault, LabelsView, allLabelFaults}
 use Rattle.bodies.specs.Laws.Labels.{startsBecomes, withLabel, labelsIn, action-labels}
 
@@ -106,7 +107,7 @@ module _ {text records values decls : List ℕ} {i j : ℕ} (v : LabelsView text
 pub record Passing {text records values decls : List ℕ} {i j : ℕ} (v : LabelsView text records values decls i j) (room : List ℕ) (at count k : ℕ) : Type 0 where
   pub within : at ≤ j
   pub low : count ≤ at
-  pub stacked : Stacked (v .stage .tokens) room count
+  pub stacked : Stacked records (v .stage .tokens) room count
   pub same-key : min k (leastKey (labelFaults (stackedWords (v .stage .tokens) room count ++ knownNames (v .stage)) (left v at))) ≡ leastKey (allLabelFaults v)
 
 module _ {text records values decls : List ℕ} {i j : ℕ} (v : LabelsView text records values decls i j) where
@@ -115,7 +116,7 @@ module _ {text records values decls : List ℕ} {i j : ℕ} (v : LabelsView text
   pass-starts room = record {
     within = omega (arith, ends-there v);
     low = omega arith;
-    stacked = record { fits = omega arith; each = λ k l. absurd (omega arith) };
+    stacked = none-stacked records (v .stage .tokens) room;
     same-key = ap (λ ls. min noKey (leastKey (labelFaults (knownNames (v .stage)) ls))) (left-all v) ∙ omega (arith, least-bounded key (allLabelFaults v));
   }
 
@@ -142,28 +143,28 @@ module _ {text records values decls : List ℕ} {i j : ℕ} (v : LabelsView text
       same-key = ap (λ ls. min k (leastKey (labelFaults (stackedWords (v .stage .tokens) room count ++ knownNames (v .stage)) ls))) (sym e) ∙ p .same-key;
     }
 
-    module _ {t : Bool} (is : t ≡ labelAt records at) (yes-label : t ≡ true) where
+    module _ {t : Bool} (is : t ≡ labelAt records at) (yes-label : t ≡ true) (large : 2 * indexEnd ≤ length room) where
       pub label-now : NameAt (v .stage .tokens) at
       label-now = label-name (v .stage) at (let inside = behind-within v in omega arith) (sym is ∙ yes-label)
 
       abbrev pub pass-label : LabelView text records values decls room count at
-      pass-label = record { stage = v .stage; stacked = p .stacked; name = label-now }
+      pass-label = record { stage = v .stage; stacked = p .stacked; name = label-now; large = large }
 
-      pub pass-pushed : 16384 ≤ length room → {f : ℕ} → f ≡ leastKey (labelFault pass-label)
-          → Passing v (putCell 2 room count at) (at + 1) (count + 1) (min k f)
+      pub pass-push : NameView records room count at × (count < indexFrom)
+      pass-push = (name-view (v .stage) (p .stacked) label-now large, let b = pass-room p l .1 in omega arith)
+
+      pub pass-pushed : {f : ℕ} {room′ : List ℕ} → f ≡ leastKey (labelFault pass-label) → Pushed records count at room room′
+          → Passing v room′ (at + 1) (count + 1) (min k f)
       unfolding labelFaults
-      pass-pushed big {f} g =
+      pass-pushed {f} g q =
           let e = left-next v l is ∙ ap (λ x. withLabel x (tokenAt (v .stage .tokens) at .info) (left v (at + 1))) yes-label in
-          let b = pass-room p l .1 in
-          let fits : 2 * count + 2 ≤ length room = omega arith in
-          let small : at < 65536 = omega arith in
           let known = stackedWords (v .stage .tokens) room count ++ knownNames (v .stage) in
           let after = labelFaults (wordAt (v .stage .tokens) at ∷ known) (left v (at + 1)) in
           record {
             within = omega arith;
             low = let w = p .low in omega arith;
-            stacked = push-stacked (p .stacked) fits small label-now;
+            stacked = push-stacked q (v .stage .tokens) (p .stacked) (let b = pass-room p l .1 in omega arith) label-now;
             same-key =
-                ap (λ ws. min (min k f) (leastKey (labelFaults (ws ++ knownNames (v .stage)) (left v (at + 1))))) (push-words (p .stacked) fits small label-now)
+                ap (λ ws. min (min k f) (leastKey (labelFaults (ws ++ knownNames (v .stage)) (left v (at + 1))))) (push-words q (v .stage .tokens))
                 ∙ omega (arith, g, least-append key (labelFault pass-label) after, ap (λ ls. leastKey (labelFaults known ls)) e, p .same-key);
           }

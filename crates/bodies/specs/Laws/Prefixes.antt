@@ -8,7 +8,6 @@ use native.Mathlib.Omega.{arith}
 use borrow.Author.Tests.{eqb-true}
 use lib.Dec.{eqb}
 use lib.ListN.{length, drop}
-use Rattle.cells.specs.Cells.{putCell}
 use Rattle.rules.specs.Text.Tokens.{Kind, Name, Arrow, Info, Token, tk, kindNo, REPEAT, IF, Becomes}
 use Rattle.rules.specs.Grammar.Trees.{Tokens, Operand, operandTokens, Tail, tailTokens}
 use Rattle.rules.specs.Grammar.Trees.{Action, block, labelled, if-then, decode, repeat, leave, restart, activate, stop, no-op, transfer, actionTokens}
@@ -20,18 +19,19 @@ use Rattle.table.specs.Keys.{key, noKey, leastKey}
 use Rattle.table.specs.Laws.Keys.{least-append, least-bounded}
 use Rattle.table.specs.Laws.Positions.{here, behind-far}
 use Rattle.table.specs.Words.{NameAt, wordAt}
+use Rattle.stacks.specs.Stacks.{stackedWords, indexFrom, indexEnd, NameView, Pushed}
+use Rattle.stacks.specs.Laws.Pushed.{push-words, push-stacked}
 use Rattle.expressions.specs.Scene.{ExpressionAt, ExpressionAnswer}
 use Rattle.expressions.specs.Laws.Tests.{both-true}
 use Rattle.expressions.specs.declared.Judged.{Judged as Value}
 use Rattle.bodies.specs.Stage.{Stage, outerOf, tableOf}
-use Rattle.bodies.specs.Laws.Stage.{sceneOf}
-use Rattle.bodies.specs.Stacks.{stackedWords}
-use Rattle.bodies.specs.Laws.Stacks.{push-words, push-stacked}
+use Rattle.bodies.specs.Laws.Stage.{sceneOf, name-view}
 use Rattle.bodies.specs.Labels.{labelAt}
 use Rattle.bodies.specs.Actions.{ActionView, faultsUnder}
 use Rattle.bodies.specs.Prefixes.{Bare, Ahead}
 use Rattle.bodies.specs.Laws.Forms.{second-token, first-kind, next-kind, action-within}
 use Rattle.bodies.specs.Laws.Known.{token-room}
+use Rattle.bodies.specs.Laws.Passes.{label-name}
 
 module _ {text records values decls : List ℕ} (s : Stage text records values decls) (at : ℕ) (rest : Tokens) where
   pub data SeenPrefix (a : Action) : Type 0 where
@@ -175,32 +175,35 @@ module _ {text records values decls room₀ room : List ℕ} {i count₀ depth k
 
   -- a label: it stands around the action behind it
   module _ {t : Bool} (is-label : t ≡ labelAt records at) where
-    pub ahead-label : t ≡ true → 16384 ≤ length room → Ahead v (putCell 2 room count at) k (at + 2) (count + 1)
+    label-here : t ≡ true → NameAt (v .stage .tokens) at
+    label-here e = label-name (v .stage) at within (sym is-label ∙ e)
+
+    pub ahead-push : t ≡ true → 2 * indexEnd ≤ length room → NameView records room count at × (count < indexFrom)
+    ahead-push e large = (name-view (v .stage) (h .stacked) (label-here e) large, let l = ahead-inside .1 in omega arith)
+
+    pub ahead-label : t ≡ true → 2 * indexEnd ≤ length room → {room′ : List ℕ} → Pushed records count at room room′ → Ahead v room′ k (at + 2) (count + 1)
     unfolding actionFaults
-    ahead-label e big = go seen
+    ahead-label e large {room′} p = go seen
       where
-        go : Seen → Ahead v (putCell 2 room count at) k (at + 2) (count + 1)
+        go : Seen → Ahead v room′ k (at + 2) (count + 1)
         go (loop-seen q _) = absurd (let z = eqb-true (kindByte records at) 0 (both-true (eqb (kindByte records at) 0) (eqb (kindByte records (at + 1)) 12) (sym is-label ∙ e) .0) in omega arith)
         go (test-seen q _) = absurd (let z = eqb-true (kindByte records at) 0 (both-true (eqb (kindByte records at) 0) (eqb (kindByte records (at + 1)) 12) (sym is-label ∙ e) .0) in omega arith)
         go (bare-seen _ _ n _) = absurd (n (sym is-label ∙ e))
         go (label-seen {n = n} {x = x} {b = b} _ _ q) =
             let reads = rw q at (h .reads) in
             let first = here (v .stage .tokens) at _ _ reads in
-            let name : NameAt (v .stage .tokens) at = record { within = first .within; kind = ap (λ (t : Token). t .kind) (first .token) } in
-            let fits : 2 * count + 2 ≤ length room = let l = ahead-inside .1 in omega arith in
-            let small : at < 65536 = let l = ahead-inside .0 in omega arith in
             let word : wordAt (v .stage .tokens) at ≡ n .word = ap (λ (t : Token). t .info .word) (first .token) in
             record {
               action = b;
               reads = behind-far (v .stage .tokens) at _ reads 2;
               shallow = rw q at (h .shallow);
-              stacked = push-stacked (h .stacked) fits small name;
+              stacked = push-stacked p (v .stage .tokens) (h .stacked) (let l = ahead-inside .1 in omega arith) (label-here e);
               low = let l = h .low in omega arith;
               more = let l = h .more in omega arith;
               past = let l = h .past in omega arith;
               same-key =
                   ap (λ ws. min k (leastKey (actionFaults (outerOf (v .stage)) (tableOf (v .stage)) ws b)))
-                  (push-words (h .stacked) fits small name ∙ ap (λ w. w ∷ stackedWords (v .stage .tokens) room count) word)
+                  (push-words p (v .stage .tokens) ∙ ap (λ w. w ∷ stackedWords (v .stage .tokens) room count) word)
                   ∙ ap (λ a. min k (leastKey (faultsUnder (v .stage) room count a))) (sym q) ∙ h .same-key;
             }
 

@@ -18,14 +18,14 @@ use Rattle.table.specs.Holds.{kindByte, placeCell, tokenAt}
 use Rattle.table.specs.Keys.{key, noKey, leastKey}
 use Rattle.table.specs.Laws.Keys.{least-append, least-bounded}
 use Rattle.table.specs.Laws.Positions.{here, kind-here, record-within}
+use Rattle.stacks.specs.Stacks.{stackedWords, Kept}
+use Rattle.stacks.specs.Laws.Kept.{kept-words, kept-stacked, kept-then, kept-less}
 use Rattle.selectors.specs.Stands.{ItemsAt, AlternativeView}
 use Rattle.selectors.specs.Overlaps.{earlierItems}
 use Rattle.selectors.specs.Laws.Alternatives.{items-within}
 use Rattle.bodies.specs.declared.Walked.{Walked}
 use Rattle.bodies.specs.Stage.{outerOf, tableOf}
 use Rattle.bodies.specs.Laws.Stage.{heldOf}
-use Rattle.bodies.specs.Stacks.{stackedWords, Kept}
-use Rattle.bodies.specs.Laws.Stacks.{kept-words, kept-stacked, kept-then, kept-less}
 use Rattle.bodies.specs.Actions.{levelBase, ActionView, ActionAnswer}
 use Rattle.bodies.specs.Choices.{startCell, withStart, compared, StartsView, OverlapAnswer, BehindView, BehindAnswer}
 use Rattle.bodies.specs.Alternatives.{IsSelected, ChoicesView, choicesFaults, ChoicesAnswer}
@@ -89,7 +89,7 @@ module _ {text records values decls room₀ : List ℕ} {i count depth bits : �
   }
 
 module _ {text records values decls room₀ room : List ℕ} {i count depth bits k number at : ℕ} {v : ChoicesView text records values decls room₀ i count depth bits}
-    {p : IsSelected (v .alternatives)} (h : SelectedAhead v p room k number at) (kept : Kept count (levelBase (depth + 1)) room₀ room) where
+    {p : IsSelected (v .alternatives)} (h : SelectedAhead v p room k number at) (kept : Kept records count (levelBase (depth + 1)) room₀ room) where
   abbrev ahead : Front (h .left) (v .next ∷ v .rest)
   ahead = front (h .left) (v .next ∷ v .rest)
 
@@ -139,10 +139,10 @@ module _ {text records values decls room₀ room : List ℕ} {i count depth bits
 
   -- with its beginning kept, and its action found
   module _ {room₁ : List ℕ} (is-room : room₁ ≡ withStart room depth number at) {body : ℕ} (b : BehindAnswer behind-view body) where
-    pub start-keeps : Kept count (levelBase (depth + 1)) room₀ room₁
+    pub start-keeps : Kept records count (levelBase (depth + 1)) room₀ room₁
     start-keeps =
         let l = v .low in let q = h .past in let m = selected-inside in
-        kept-then kept (rw is-room (start-kept room depth number at (omega arith)))
+        kept-then kept (rw is-room (start-kept room depth number at (omega arith) (v .bounded)))
 
     abbrev pub selected-action : ActionView text records values decls room₁ body count depth
     selected-action = record {
@@ -154,13 +154,13 @@ module _ {text records values decls room₀ room : List ℕ} {i count depth bits
       ends = tail-ends (ahead .tail);
       shallow = let n = h .shallow in let m = ahead .shallow in omega arith;
       bounded = let n = v .bounded in omega arith;
-      stacked = kept-stacked (v .stage .tokens) start-keeps (v .stacked);
+      stacked = kept-stacked start-keeps (v .stage .tokens) (v .stacked);
       low = let l = v .low in let q = h .past in let m = b .past in omega arith;
       large = let l = v .large in omega (arith, start-keeps .long);
     }
 
-    module _ {room₂ : List ℕ} {r : Walked} (kept₂ : Kept count (levelBase depth) room₁ room₂) (a : ActionAnswer selected-action r) where
-      pub selected-keeps : Kept count (levelBase (depth + 1)) room₀ room₂
+    module _ {room₂ : List ℕ} {r : Walked} (kept₂ : Kept records count (levelBase depth) room₁ room₂) (a : ActionAnswer selected-action r) where
+      pub selected-keeps : Kept records count (levelBase (depth + 1)) room₀ room₂
       selected-keeps = kept-then start-keeps (kept-less kept₂ (omega arith) (omega arith))
 
       selected-next : r .next < length (v .stage .tokens)
@@ -177,7 +177,7 @@ module _ {text records values decls room₀ room : List ℕ} {i count depth bits
           let inside-text = selected-inside in
           let less : at < r .next + 1 = let m = selected-next-inside .1 in omega arith in
           starts-kept (v .stage .tokens) depth (all v p) {room = withStart room depth number at}
-          (λ j l. kept₂ .above (startCell depth j) (omega arith) ∙ ap (λ x. cell 2 x (startCell depth j)) is-room) (omega arith)
+          (λ j l. kept₂ .above (startCell depth j) (omega arith) (let n = v .bounded in omega arith) ∙ ap (λ x. cell 2 x (startCell depth j)) is-room) (omega arith)
           (start-more (v .stage .tokens) depth (all v p) (h .starts) selected-large (omega arith) less
           (subst (λ (c : Choice). ItemsAt (v .stage .tokens) at (c .items)) (sym now) items-now) (place-now ∙ sym (ap (λ (c : Choice). c .place) now))
           (omega (arith, place-small (v .stage) at-within, place-now, ap (λ (c : Choice). c .place) now)))
@@ -217,7 +217,7 @@ module _ {text records values decls room₀ room : List ℕ} {i count depth bits
 
         key-now : r .key ≡ leastKey (inside v p number)
         key-now =
-            a .key ∙ ap (λ ws. leastKey (actionFaults (outerOf (v .stage)) (tableOf (v .stage)) ws (ahead .first .action))) (kept-words (v .stage .tokens) start-keeps)
+            a .key ∙ ap (λ ws. leastKey (actionFaults (outerOf (v .stage)) (tableOf (v .stage)) ws (ahead .first .action))) (kept-words start-keeps (v .stage .tokens))
             ∙ sym (ap (λ (c : Choice). leastKey (actionFaults (outerOf (v .stage)) (tableOf (v .stage)) (stackedWords (v .stage .tokens) room₀ count) (c .action))) now)
 
         module _ {c k′ : ℕ} (is-kind : c ≡ kindByte records (r .next)) (is-key : k′ ≡ min k (min f (r .key))) where

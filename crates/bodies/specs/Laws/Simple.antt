@@ -25,14 +25,14 @@ use Rattle.table.specs.Laws.Positions.{Here, here}
 use Rattle.table.specs.Views.{View, BodyAt}
 use Rattle.table.specs.Words.{wordAt}
 use Rattle.table.specs.Operators.{endsExpression}
+use Rattle.stacks.specs.Stacks.{stackedWords, NameView}
 use Rattle.expressions.specs.Scene.{ExpressionAt, ExpressionAnswer}
 use Rattle.expressions.specs.Destinations.{DestinationAt, DestinationAnswer}
 use Rattle.expressions.specs.Laws.Lookups.{Found, view-of, undeclared, declared}
 use Rattle.expressions.specs.declared.Judged.{Judged as Value}
 use Rattle.expressions.specs.declared.destinations.Checked.{Checked}
 use Rattle.bodies.specs.Stage.{outerOf, tableOf}
-use Rattle.bodies.specs.Laws.Stage.{sceneOf}
-use Rattle.bodies.specs.Stacks.{stackedWords, NameView}
+use Rattle.bodies.specs.Laws.Stage.{sceneOf, name-view}
 use Rattle.bodies.specs.Actions.{EndsAction, by-semi, by-next, by-end, by-comma}
 use Rattle.bodies.specs.Jumps.{JumpView, jumpFaults, CallView, callFaults, TransferView, TransferAnswer}
 use Rattle.bodies.specs.Laws.Known.{fault-key, no-fault-key, token-room, token-place, place-small, name-here}
@@ -48,8 +48,8 @@ module _ {text records room : List ℕ} {i count : ℕ} (v : JumpView text recor
   pub jump-place : placeCell records i ≤ longestText
   jump-place = omega (arith, token-place (v .stage) keyword-within, place-small (v .stage) keyword-within)
 
-  abbrev pub jump-name : NameView text records room count (i + 1)
-  jump-name = record { values = v .values; tokens = v .stage .tokens; holds = v .stage .ready .holds; stacked = v .stacked; name = v .target }
+  abbrev pub jump-name : NameView records room count (i + 1)
+  jump-name = name-view (v .stage) (v .stacked) (v .target) (v .large)
 
   abbrev aimed : Bool
   aimed = isKnown (wordAt (v .stage .tokens) (i + 1)) (stackedWords (v .stage .tokens) room count)

@@ -1,6 +1,9 @@
--- The tables of a stage as expressions and selectors see them.
-use Prim.Native.Nat.{ℕ}
+-- The tables of a stage as expressions, selectors and stacks of names see them.
+use Prim.Native.Nat.{ℕ, _*_, _≤_}
 use mathlib.Core.List.{List}
+use lib.ListN.{length}
+use Rattle.table.specs.Words.{NameAt}
+use Rattle.stacks.specs.Stacks.{indexEnd, Stacked, NameView}
 use Rattle.selectors.specs.Stands.{Held}
 use Rattle.expressions.specs.Scene.{Scene}
 use Rattle.bodies.specs.Stage.{Stage}
@@ -12,3 +15,16 @@ module _ {text records values decls : List ℕ} (s : Stage text records values d
 
   abbrev pub heldOf : Held records values (s .tokens)
   heldOf = record { text = text; holds = s .ready .holds; fixed = s .fixed }
+
+  -- a name under those that are stacked
+  abbrev pub name-view : {room : List ℕ} {count i : ℕ} → Stacked records (s .tokens) room count → NameAt (s .tokens) i → 2 * indexEnd ≤ length room
+      → NameView records room count i
+  name-view stacked name large = record {
+    tokens = s .tokens;
+    few = s .ready .holds .few;
+    record-room = s .ready .holds .record-room;
+    spelled = s .spelled;
+    stacked = stacked;
+    name = name;
+    large = large;
+  }

@@ -7,7 +7,7 @@ use mathlib.Core.Path.{ap, _∙_}
 use Prim.Native.Nat.{ℕ, _+_, _-_, _*_, _<_, min}
 use borrow.Fn.Kinds.{In}
 use borrow.Fn.PlainCycle.{Measures, is, falls, and}
-use Rattle.bodies.specs.Laws.Stacks.{kept-less}
+use Rattle.stacks.specs.Laws.Kept.{kept-less}
 use Rattle.bodies.proofs.Steps as steps
 use Rattle.bodies.proofs.actions.action.Reads as action
 use Rattle.bodies.proofs.actions.action.Kinds as action-kinds

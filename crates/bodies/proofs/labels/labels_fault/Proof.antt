@@ -3,14 +3,14 @@
 use borrow.Author.Needs.{needs}
 use native.Mathlib.Omega.{arith}
 use borrow.Author.Tests.{not-true, not-false}
-use mathlib.Core.Path.{_≡_, ap, _∙_}
+use mathlib.Core.Path.{_≡_, _∙_}
 use mathlib.Core.List.{List}
-use Prim.Native.Nat.{ℕ, _-_, _≤_}
+use Prim.Native.Nat.{ℕ, _-_, _*_, _≤_}
 use lib.ListN.{length}
-use Rattle.cells.specs.Laws.{length-put}
 use Rattle.table.specs.Keys.{noKey}
+use Rattle.stacks.specs.Stacks.{indexEnd}
 use Rattle.bodies.specs.Labels.{LabelsView}
-use Rattle.bodies.specs.Laws.Passes.{Passing, pass-starts, pass-ends, pass-room, pass-on, pass-label, pass-pushed}
+use Rattle.bodies.specs.Laws.Passes.{Passing, pass-starts, pass-ends, pass-room, pass-on, pass-label, pass-push, pass-pushed}
 use Rattle.bodies.proofs.labels.labels_fault.Statement.{statement}
 use Rattle.bodies.proofs.labels.labels_fault.Tie as tie
 
@@ -18,6 +18,10 @@ record Inv (text records room₀ : List ℕ) (i j : ℕ) (room : List ℕ) (at c
   long : length room ≡ length room₀
   least : k ≤ noKey
   left : (values decls : List ℕ) (v : LabelsView text records values decls i j) → Passing v room at count k
+
+large : {text records room₀ : List ℕ} {i j : ℕ} {room : List ℕ} {at count k : ℕ} → Inv text records room₀ i j room at count k → 2 * indexEnd ≤ length room₀
+    → 2 * indexEnd ≤ length room
+large inv l = omega (arith, inv .long)
 
 abbrev Inv-loop : tie.InvT-loop
 Inv-loop text records room₀ i j at₀ count₀ key₀ room at count key = Inv text records room₀ i j room at count key
@@ -42,22 +46,22 @@ labels-fault-spec =
     })
     (λ c κs.
     let v = c .before .before .before .before .before .before .before .before .pre .1 .2 in
-    (_, _, pass-label v (c .before .before .before .before .loop .inv .left _ _ v) (c .before .before .before .loop-test .taken) (c .before .before .is-label .ensures) (not-false _ (c .before .if1 .left))))
+    (_, _, pass-label v (c .before .before .before .before .loop .inv .left _ _ v) (c .before .before .before .loop-test .taken) (c .before .before .is-label .ensures) (not-false _ (c .before .if1 .left)) (large (c .before .before .before .before .loop .inv) (c .before .before .before .before .before .before .before .before .pre .0))))
     (λ c κs. search needs)
-    (λ c. let v = c .before .before .before .before .before .before .before .before .before .before .before .pre .1 .2 in omega (arith, pass-room v (c .before .before .before .before .before .before .before .loop .inv .left _ _ v) (c .before .before .before .before .before .before .loop-test .taken)))
-    (λ c κs. let v = c .before .before .before .before .before .before .before .before .before .before .before .pre .1 .2 in omega (arith, pass-room v (c .before .before .before .before .before .before .before .loop .inv .left _ _ v) (c .before .before .before .before .before .before .loop-test .taken), c .before .before .before .before .before .before .before .loop .inv .long, c .before .before .before .before .before .before .before .before .before .before .before .pre .0))
+    (λ c κs.
+    let v = c .before .before .before .before .before .before .before .before .before .before .before .pre .1 .2 in
+    pass-push v (c .before .before .before .before .before .before .before .loop .inv .left _ _ v) (c .before .before .before .before .before .before .loop-test .taken) (c .before .before .before .before .before .is-label .ensures) (not-false _ (c .before .before .before .before .if1 .left)) (large (c .before .before .before .before .before .before .before .loop .inv) (c .before .before .before .before .before .before .before .before .before .before .before .pre .0)))
     (λ c. let v = c .before .before .before .before .before .before .before .before .before .before .before .before .before .before .pre .1 .2 in omega (arith, pass-room v (c .before .before .before .before .before .before .before .before .before .before .loop .inv .left _ _ v) (c .before .before .before .before .before .before .before .before .before .loop-test .taken)))
     (λ c. search needs)
-    (λ c.
-    let big : 16384 ≤ length (c .before .before .before .before .before .before .before .before .before .before .loop .room) = omega (arith, c .before .before .before .before .before .before .before .before .before .before .loop .inv .long, c .before .before .before .before .before .before .before .before .before .before .before .before .before .before .pre .0) in
-    record {
-      long = ap length (c .before .before .put16 .ensures) ∙ length-put 2 _ _ _ ∙ c .before .before .before .before .before .before .before .before .before .before .loop .inv .long;
+    (λ c. record {
+      long = c .before .before .push .ensures .kept .long ∙ c .before .before .before .before .before .before .before .before .before .before .loop .inv .long;
       least = omega (arith, c .before .before .before .before .earlier .ensures, c .before .before .before .before .before .before .before .before .before .before .loop .inv .least);
       left = λ values decls v.
           let p = c .before .before .before .before .before .before .before .before .before .before .loop .inv .left _ _ v in
           let t = not-false _ (c .before .before .before .before .before .before .before .if1 .left) in
-          rw (c .before .before .put16 .ensures, c .before .before .before .before .earlier .ensures)
-          (pass-pushed v p (c .before .before .before .before .before .before .before .before .before .loop-test .taken) (c .before .before .before .before .before .before .before .before .is-label .ensures) t big (c .before .before .before .before .before .label-fault .ensures _ _ (pass-label v p (c .before .before .before .before .before .before .before .before .before .loop-test .taken) (c .before .before .before .before .before .before .before .before .is-label .ensures) t)));
+          let l = large (c .before .before .before .before .before .before .before .before .before .before .loop .inv) (c .before .before .before .before .before .before .before .before .before .before .before .before .before .before .pre .0) in
+          rw (c .before .before .before .before .earlier .ensures)
+          (pass-pushed v p (c .before .before .before .before .before .before .before .before .before .loop-test .taken) (c .before .before .before .before .before .before .before .before .is-label .ensures) t l (c .before .before .before .before .before .label-fault .ensures _ _ (pass-label v p (c .before .before .before .before .before .before .before .before .before .loop-test .taken) (c .before .before .before .before .before .before .before .before .is-label .ensures) t l)) (c .before .before .push .ensures));
     })
     (λ c. c .before .loop .inv .long)
     (λ c values decls v. pass-ends v (c .before .loop .inv .left _ _ v) (c .before .loop .inv .least) (c .loop-test .left)))

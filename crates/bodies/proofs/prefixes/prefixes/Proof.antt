@@ -5,17 +5,17 @@ use borrow.Author.Tests.{not-true, not-false}
 use native.Mathlib.Omega.{arith}
 use mathlib.Core.List.{List}
 use Prim.Native.Nat.{ℕ, _-_, _≤_}
+use Rattle.stacks.specs.Stacks.{Kept}
+use Rattle.stacks.specs.Laws.Kept.{kept-all, kept-then, kept-less}
 use Rattle.bodies.specs.Actions.{labelCells, ActionView}
 use Rattle.bodies.specs.Prefixes.{Ahead}
-use Rattle.bodies.specs.Stacks.{Kept}
-use Rattle.bodies.specs.Laws.Stacks.{kept-all, kept-then, kept-put}
-use Rattle.bodies.specs.Laws.Prefixes.{ahead-starts, ahead-inside, ahead-first, ahead-second, ahead-loop, ahead-test, ahead-label, ahead-bare}
+use Rattle.bodies.specs.Laws.Prefixes.{ahead-starts, ahead-inside, ahead-first, ahead-second, ahead-loop, ahead-test, ahead-push, ahead-label, ahead-bare}
 use Rattle.bodies.proofs.prefixes.prefixes.Statement.{statement}
 use Rattle.bodies.proofs.prefixes.prefixes.Tie as tie
 
 record Inv (records values decls room₀ : List ℕ) (i count depth : ℕ) (room : List ℕ) (at names k : ℕ) : Type 0 where
   more : count ≤ names
-  kept : Kept count labelCells room₀ room
+  kept : Kept records count labelCells room₀ room
   left : (text : List ℕ) (v : ActionView text records values decls room₀ i count depth) → Ahead v room k at names
 
 abbrev Inv-loop : tie.InvT-loop
@@ -64,18 +64,18 @@ prefixes-spec =
         bare = ahead-bare (c .before .before .before .before .before .loop .inv .left text v) (c .before .is-label .ensures) (c .before .before .before .before .kind-at .ensures) (c .before .before .before .if1 .left) (c .before .before .if2 .left) (not-true _ (c .if3 .taken));
       },
     ))
-    (λ c. omega (arith, ahead-inside (c .before .before .before .before .before .before .loop .inv .left _ (c .before .before .before .before .before .before .before .before .before .before .before .pre .1))))
-    (λ c κs. let v = c .before .before .before .before .before .before .before .before .before .before .before .pre .1 in omega (arith, ahead-inside (c .before .before .before .before .before .before .loop .inv .left _ v), c .before .before .before .before .before .before .loop .inv .kept .long, v .large))
+    (λ c κs.
+    let v = c .before .before .before .before .before .before .before .before .before .before .before .pre .1 in
+    ahead-push (c .before .before .before .before .before .before .loop .inv .left _ v) (c .before .before .is-label .ensures) (not-false _ (c .before .if3 .left)) (omega (arith, c .before .before .before .before .before .before .loop .inv .kept .long, v .large)))
     (λ c. omega (arith, ahead-inside (c .before .before .before .before .before .before .before .before .before .loop .inv .left _ (c .before .before .before .before .before .before .before .before .before .before .before .before .before .before .pre .1))))
     (λ c. omega (arith, ahead-inside (c .before .before .before .before .before .before .before .before .before .loop .inv .left _ (c .before .before .before .before .before .before .before .before .before .before .before .before .before .before .pre .1))))
     (λ c. omega (arith, ahead-inside (c .before .before .before .before .before .before .before .before .before .loop .inv .left _ (c .before .before .before .before .before .before .before .before .before .before .before .before .before .before .pre .1))))
     (λ c. record {
       more = let m = c .before .before .before .before .before .before .before .before .before .loop .inv .more in omega arith;
       kept =
-          rw (c .before .before .put16 .ensures)
-          (kept-then (c .before .before .before .before .before .before .before .before .before .loop .inv .kept)
-          (kept-put _ _ _ (c .before .before .before .before .before .before .before .before .before .loop .inv .more) (let l = ahead-inside (c .before .before .before .before .before .before .before .before .before .loop .inv .left _ (c .before .before .before .before .before .before .before .before .before .before .before .before .before .before .pre .1)) .1 in omega arith)));
+          kept-then (c .before .before .before .before .before .before .before .before .before .loop .inv .kept)
+          (kept-less (c .before .before .push .ensures .kept) (c .before .before .before .before .before .before .before .before .before .loop .inv .more)
+          (let l = ahead-inside (c .before .before .before .before .before .before .before .before .before .loop .inv .left _ (c .before .before .before .before .before .before .before .before .before .before .before .before .before .before .pre .1)) .1 in omega arith));
       left = λ text v.
-          rw (c .before .before .put16 .ensures)
-          (ahead-label (c .before .before .before .before .before .before .before .before .before .loop .inv .left text v) (c .before .before .before .before .before .is-label .ensures) (not-false _ (c .before .before .before .before .if3 .left)) (omega (arith, c .before .before .before .before .before .before .before .before .before .loop .inv .kept .long, v .large)));
+          ahead-label (c .before .before .before .before .before .before .before .before .before .loop .inv .left text v) (c .before .before .before .before .before .is-label .ensures) (not-false _ (c .before .before .before .before .if3 .left)) (omega (arith, c .before .before .before .before .before .before .before .before .before .loop .inv .kept .long, v .large)) (c .before .before .push .ensures);
     }))

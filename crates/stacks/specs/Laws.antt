@@ -1,0 +1,4 @@
+-- The laws of names on a stack.
+pub mod Kept
+pub mod Index
+pub mod Pushed
