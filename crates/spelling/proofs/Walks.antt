@@ -17,7 +17,7 @@ use Rattle.table.specs.Words.{wordAt, TwoNames, sameWords}
 use Rattle.table.specs.Laws.Words.{word-folded, word-inside}
 use Rattle.spelling.specs.Trees.{noNode, heads, roomSize, hashOf, bitOf, cellBehind, nodeBehind, Passes}
 use Rattle.spelling.specs.Spelling.{Seeking, Ends}
-use Rattle.spelling.specs.Laws.Letters.{same-equal, same-itself}
+use Rattle.laws_accepted.specs.Accepted.Named.{same-equal, same-itself}
 
 -- the search for the name i has come to the cell c behind d nodes
 pub record Comes (room : List ℕ) (ts : Tokens) (i c d : ℕ) : Type 0 where

@@ -1,6 +1,6 @@
 -- Where words are found: a head for each hash of a word, and below it a tree whose nodes are the first names of their words. The search for a word goes on
 -- to the left or the right child of a node by one bit of the word after the other, so no tree is deeper than its words have bits.
-use Prim.Native.Nat.{ℕ, zero, suc, _+_, _*_, _/_, _%_, _^_, _<_}
+use Prim.Native.Nat.{ℕ, zero, suc, _+_, _-_, _*_, _/_, _%_, _^_, _<_}
 use mathlib.Core.Path.{_≡_}
 use mathlib.Core.List.{List}
 use lib.ListN.{length, getD}
@@ -32,9 +32,9 @@ hashTo w (suc k) = (hashTo w k * 33 + getD w k 0) % heads
 abbrev pub hashOf : List ℕ → ℕ
 hashOf w = hashTo w (length w)
 
--- the bit d of a word, the low bits of its first letter first; 0 behind its end
+-- the bit d of a word: six bits of a letter, which tell all letters apart, and the last letter first, since words often begin alike
 abbrev pub bitOf : List ℕ → ℕ → ℕ
-bitOf w d = getD w (d / 8) 0 / 2 ^ (d % 8) % 2
+bitOf w d = getD w (length w - (d / 6 + 1)) 0 / 2 ^ (d % 6) % 2
 
 -- the cell to which the search for w comes behind d nodes
 unfoldable pub cellBehind : List ℕ → List ℕ → ℕ → ℕ

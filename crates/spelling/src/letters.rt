@@ -1,7 +1,7 @@
 // The letters of a word where it stands in the text: its hash, and its bits.
 use table::words::upper;
 ghost use mathlib.Core.Path.{_≡_};
-ghost use Prim.Native.Nat.{_+_, _*_, _<_, _≤_};
+ghost use Prim.Native.Nat.{_+_, _-_, _/_, _<_, _≤_};
 ghost use lib.ListN.{length, getD};
 ghost use Rattle.table.specs.Holds.{foldedAt};
 ghost use Rattle.spelling.specs.Trees.{heads, hashOf, bitOf};
@@ -34,10 +34,21 @@ pub fn hash_of(text: &[u8], p: usize, n: usize) -> usize
     h
 }
 
+// Which of n letters has the bit d.
+fn letter_with(n: usize, d: usize) -> usize
+    ensures { λ r. ⌜ r ≡ n - (d / 6 + 1) ⌝ }
+{
+    let behind = d / 6 + 1;
+    if behind < n {
+        return n - behind;
+    }
+    0
+}
+
 // The bit d of the n letters at p.
 pub fn bit_of(text: &[u8], p: usize, n: usize, d: usize) -> usize
     requires { ⌜ p + n ≤ length (now text) ⌝ }
     ensures { λ r. ⌜ (r ≡ bitOf (foldedAt (now (text .entry)) p n) d) × (r < 2) ⌝ }
 {
-    ((letter(text, p, n, d / 8) as usize) >> (d % 8)) % 2
+    ((letter(text, p, n, letter_with(n, d)) as usize) >> (d % 6)) % 2
 }

@@ -19,7 +19,7 @@ use Rattle.table.specs.Words.{NameAt, wordAt}
 use Rattle.spelling.specs.Spelled.{Spelled}
 use Rattle.spelling.specs.Trees.{noNode, heads, roomSize, Node, Grown, Keeps}
 use Rattle.spelling.specs.Spelling.{Spells, SpelledTo, Ends, Cleared, Opened}
-use Rattle.spelling.specs.Laws.Letters.{same-equal, same-itself}
+use Rattle.laws_accepted.specs.Accepted.Named.{same-equal, same-itself}
 use Rattle.spelling.specs.Laws.Cells.{cell-same, cell-other}
 use Rattle.spelling.specs.Laws.Trees.{cell-kept, passes-kept, finds-kept, found-once}
 

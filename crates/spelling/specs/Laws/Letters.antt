@@ -1,17 +1,13 @@
 -- Laws of a word's letters where they stand in the text.
 -- Assumes nothing.
 use Prim.Native.Nat.{ℕ, zero, suc, _+_, _*_, _/_, _%_, _<_, _≤_}
-use mathlib.Core.Path.{_≡_, refl, ap, ap₂, _∙_}
-use mathlib.Core.Bool.{Bool, true, false, _&&_, false≢true}
+use mathlib.Core.Path.{_≡_, refl, ap, _∙_}
 use mathlib.Core.List.{List, [], _∷_, map}
 use native.Mathlib.Omega.{arith}
 use native.Mathlib.Numerals.{add-one}
-use borrow.Author.Tests.{eqb-true, eq-eqb}
-use lib.Dec.{eqb}
 use lib.ListN.{length, getD, take, drop, length-map, length-take, length-drop}
 use lib.Seq.{getD-take, getD-drop}
 use Rattle.rules.specs.Text.Bytes.{fold}
-use Rattle.rules.specs.Text.Scan.{sameBytes}
 use Rattle.table.specs.Holds.{foldedAt}
 use Rattle.spelling.specs.Trees.{heads, hashTo, bitOf}
 
@@ -49,20 +45,3 @@ hash-next w k h x e f = rw (add-one, e, f)
 
 pub bit-small : (w : List ℕ) (d : ℕ) → bitOf w d < 2
 bit-small w d = omega arith
-
-and-both : (a b : Bool) → (a && b) ≡ true → (a ≡ true) × (b ≡ true)
-and-both true b e = (refl, e)
-and-both false b e = absurd (false≢true e)
-
--- words that are the same byte by byte are the same
-pub same-equal : (x y : List ℕ) → sameBytes x y ≡ true → x ≡ y
-unfolding sameBytes
-same-equal [] [] e = refl
-same-equal [] (c ∷ y) e = absurd (false≢true e)
-same-equal (b ∷ x) [] e = absurd (false≢true e)
-same-equal (b ∷ x) (c ∷ y) e = let h = and-both (eqb b c) (sameBytes x y) e in ap₂ _∷_ (eqb-true b c (h .0)) (same-equal x y (h .1))
-
-pub same-itself : (x : List ℕ) → sameBytes x x ≡ true
-unfolding sameBytes
-same-itself [] = refl
-same-itself (b ∷ x) = ap₂ _&&_ (eq-eqb b b refl) (same-itself x)
