@@ -25,7 +25,8 @@ abbrev pub isJump : ℕ → Bool
 isJump k = eqb k (kindNo LEAVE) || eqb k (kindNo RESTART)
 
 -- a keyword is the token i, and its target the next
-pub record JumpView (text records room : List ℕ) (i count : ℕ) : Type 0 where
+pub record JumpView (records room : List ℕ) (i count : ℕ) : Type 0 where
+  pub text : List ℕ
   pub values : List ℕ
   pub decls : List ℕ
   pub stage : Stage text records values decls
@@ -33,7 +34,7 @@ pub record JumpView (text records room : List ℕ) (i count : ℕ) : Type 0 wher
   pub target : NameAt (stage .tokens) (i + 1)
   pub large : 2 * indexEnd ≤ length room
 
-abbrev pub jumpFaults : {text records room : List ℕ} {i count : ℕ} → JumpView text records room i count → List Fault
+abbrev pub jumpFaults : {records room : List ℕ} {i count : ℕ} → JumpView records room i count → List Fault
 jumpFaults {room = room} {i = i} {count = count} v =
     when (not (isKnown (wordAt (v .stage .tokens) (i + 1)) (stackedWords (v .stage .tokens) room count))) 44 (tokenAt (v .stage .tokens) i .info .place)
 

@@ -19,7 +19,8 @@ use table::kinds::MASKED;
 use table::kinds::OTHERWISE;
 use table::records::kind_at;
 ghost use mathlib.Core.Path.{_≡_};
-ghost use Prim.Native.Nat.{_+_};
+ghost use mathlib.Core.List.{List};
+ghost use Prim.Native.Nat.{ℕ, _+_};
 ghost use Rattle.stacks.specs.Stacks.{Kept};
 ghost use Rattle.bodies.specs.Actions.{levelBase, ActionView, ActionAnswer, IsBlock, IsDecode};
 ghost use Rattle.bodies.specs.Alternatives.{isSelector, ChoicesView, ChoicesAnswer, IsCounted, IsSelected};
@@ -33,7 +34,6 @@ fn has_selector(kind: u8) -> bool
 
 // An action, with what stands in front of it.
 pub fn action(
-    text: &[u8],
     records: &[u8],
     values: &[u8],
     decls: &[u8],
@@ -42,9 +42,9 @@ pub fn action(
     count: usize,
     depth: usize,
 ) -> Walked
-    requires { ⌜ ActionView (now text) (now records) (now values) (now decls) (now room) i count depth ⌝ }
+    requires { ⌜ ((text : List ℕ) × ActionView text (now records) (now values) (now decls) (now room) i count depth) ⌝ }
     ensures kept { λ r. ⌜ Kept (now (records .entry)) count (levelBase depth) (now (room .entry)) (now (room .exit)) ⌝ }
-    ensures answer { λ r. ⌜ ((v : ActionView (now (text .entry)) (now (records .entry)) (now (values .entry)) (now (decls .entry)) (now (room .entry)) i count depth)
+    ensures answer { λ r. ⌜ ((text : List ℕ) (v : ActionView text (now (records .entry)) (now (values .entry)) (now (decls .entry)) (now (room .entry)) i count depth)
         → ActionAnswer v r) ⌝ }
 {
     let front = prefixes(records, values, decls, room, i, count, depth);
@@ -52,20 +52,20 @@ pub fn action(
     let names = front.count;
     let kind = kind_at(records, at);
     if kind == BEGIN {
-        let inside = block(text, records, values, decls, room, at, names, depth);
+        let inside = block(records, values, decls, room, at, names, depth);
         return Walked {
             key: earlier(front.key, inside.key),
             next: inside.next,
         };
     }
     if kind == DECODE {
-        let inside = decode(text, records, values, decls, room, at, names, depth);
+        let inside = decode(records, values, decls, room, at, names, depth);
         return Walked {
             key: earlier(front.key, inside.key),
             next: inside.next,
         };
     }
-    let inside = simple(text, records, values, decls, room, at, names, depth);
+    let inside = simple(records, values, decls, room, at, names, depth);
     Walked {
         key: earlier(front.key, inside.key),
         next: inside.next,
@@ -74,7 +74,6 @@ pub fn action(
 
 // A block: its members, one after the other.
 fn block(
-    text: &[u8],
     records: &[u8],
     values: &[u8],
     decls: &[u8],
@@ -83,15 +82,15 @@ fn block(
     count: usize,
     depth: usize,
 ) -> Walked
-    requires { ⌜ ((v : ActionView (now text) (now records) (now values) (now decls) (now room) i count depth) × IsBlock (v .action)) ⌝ }
+    requires { ⌜ ((text : List ℕ) × (v : ActionView text (now records) (now values) (now decls) (now room) i count depth) × IsBlock (v .action)) ⌝ }
     ensures kept { λ r. ⌜ Kept (now (records .entry)) count (levelBase depth) (now (room .entry)) (now (room .exit)) ⌝ }
-    ensures answer { λ r. ⌜ ((v : ActionView (now (text .entry)) (now (records .entry)) (now (values .entry)) (now (decls .entry)) (now (room .entry)) i count depth)
+    ensures answer { λ r. ⌜ ((text : List ℕ) (v : ActionView text (now (records .entry)) (now (values .entry)) (now (decls .entry)) (now (room .entry)) i count depth)
         → IsBlock (v .action) → ActionAnswer v r) ⌝ }
 {
     let mut at = i + 1;
     let mut key = NO_KEY;
     loop {
-        let member = action(text, records, values, decls, room, at, count, depth - 1);
+        let member = action(records, values, decls, room, at, count, depth - 1);
         key = earlier(key, member.key);
         let next = member.next;
         if kind_at(records, next) == END {
@@ -106,7 +105,6 @@ fn block(
 
 // A DECODE: its test, and its alternatives.
 fn decode(
-    text: &[u8],
     records: &[u8],
     values: &[u8],
     decls: &[u8],
@@ -115,42 +113,22 @@ fn decode(
     count: usize,
     depth: usize,
 ) -> Walked
-    requires { ⌜ ((v : ActionView (now text) (now records) (now values) (now decls) (now room) i count depth) × IsDecode (v .action)) ⌝ }
+    requires { ⌜ ((text : List ℕ) × (v : ActionView text (now records) (now values) (now decls) (now room) i count depth) × IsDecode (v .action)) ⌝ }
     ensures kept { λ r. ⌜ Kept (now (records .entry)) count (levelBase depth) (now (room .entry)) (now (room .exit)) ⌝ }
-    ensures answer { λ r. ⌜ ((v : ActionView (now (text .entry)) (now (records .entry)) (now (values .entry)) (now (decls .entry)) (now (room .entry)) i count depth)
+    ensures answer { λ r. ⌜ ((text : List ℕ) (v : ActionView text (now (records .entry)) (now (values .entry)) (now (decls .entry)) (now (room .entry)) i count depth)
         → IsDecode (v .action) → ActionAnswer v r) ⌝ }
 {
     let test = expression(records, values, decls, i + 1, depth);
     let bits = test.bits;
     let first = test.next + 2;
     if has_selector(kind_at(records, first)) {
-        let inside = selected(
-            text,
-            records,
-            values,
-            decls,
-            room,
-            first,
-            count,
-            depth - 1,
-            bits,
-        );
+        let inside = selected(records, values, decls, room, first, count, depth - 1, bits);
         return Walked {
             key: earlier(test.key, inside.key),
             next: inside.next,
         };
     }
-    let inside = counted(
-        text,
-        records,
-        values,
-        decls,
-        room,
-        first,
-        count,
-        depth - 1,
-        bits,
-    );
+    let inside = counted(records, values, decls, room, first, count, depth - 1, bits);
     Walked {
         key: earlier(test.key, inside.key),
         next: inside.next,
@@ -159,7 +137,6 @@ fn decode(
 
 // Alternatives without selectors: each is taken at its own number.
 fn counted(
-    text: &[u8],
     records: &[u8],
     values: &[u8],
     decls: &[u8],
@@ -169,9 +146,9 @@ fn counted(
     depth: usize,
     bits: u32,
 ) -> Walked
-    requires { ⌜ ((v : ChoicesView (now text) (now records) (now values) (now decls) (now room) i count depth bits) × IsCounted (v .alternatives)) ⌝ }
+    requires { ⌜ ((text : List ℕ) × (v : ChoicesView text (now records) (now values) (now decls) (now room) i count depth bits) × IsCounted (v .alternatives)) ⌝ }
     ensures kept { λ r. ⌜ Kept (now (records .entry)) count (levelBase (depth + 1)) (now (room .entry)) (now (room .exit)) ⌝ }
-    ensures answer { λ r. ⌜ ((v : ChoicesView (now (text .entry)) (now (records .entry)) (now (values .entry)) (now (decls .entry)) (now (room .entry)) i count depth bits)
+    ensures answer { λ r. ⌜ ((text : List ℕ) (v : ChoicesView text (now (records .entry)) (now (values .entry)) (now (decls .entry)) (now (room .entry)) i count depth bits)
         → IsCounted (v .alternatives) → ChoicesAnswer v r) ⌝ }
 {
     let mut at = i;
@@ -179,7 +156,7 @@ fn counted(
     let mut key = NO_KEY;
     loop {
         let fault = counted_fault(records, at, number, bits);
-        let inside = action(text, records, values, decls, room, at, count, depth);
+        let inside = action(records, values, decls, room, at, count, depth);
         key = earlier(key, earlier(fault, inside.key));
         number += 1;
         let next = inside.next;
@@ -195,7 +172,6 @@ fn counted(
 
 // Alternatives with selectors; at the end they are compared with each other.
 fn selected(
-    text: &[u8],
     records: &[u8],
     values: &[u8],
     decls: &[u8],
@@ -205,9 +181,9 @@ fn selected(
     depth: usize,
     bits: u32,
 ) -> Walked
-    requires { ⌜ ((v : ChoicesView (now text) (now records) (now values) (now decls) (now room) i count depth bits) × IsSelected (v .alternatives)) ⌝ }
+    requires { ⌜ ((text : List ℕ) × (v : ChoicesView text (now records) (now values) (now decls) (now room) i count depth bits) × IsSelected (v .alternatives)) ⌝ }
     ensures kept { λ r. ⌜ Kept (now (records .entry)) count (levelBase (depth + 1)) (now (room .entry)) (now (room .exit)) ⌝ }
-    ensures answer { λ r. ⌜ ((v : ChoicesView (now (text .entry)) (now (records .entry)) (now (values .entry)) (now (decls .entry)) (now (room .entry)) i count depth bits)
+    ensures answer { λ r. ⌜ ((text : List ℕ) (v : ChoicesView text (now (records .entry)) (now (values .entry)) (now (decls .entry)) (now (room .entry)) i count depth bits)
         → IsSelected (v .alternatives) → ChoicesAnswer v r) ⌝ }
 {
     let mut at = i;
@@ -217,7 +193,7 @@ fn selected(
         keep_start(room, depth, number, at);
         let fault = selected_fault(records, values, at, number, bits);
         let body = behind_selector(records, at);
-        let inside = action(text, records, values, decls, room, body, count, depth);
+        let inside = action(records, values, decls, room, body, count, depth);
         key = earlier(key, earlier(fault, inside.key));
         number += 1;
         let next = inside.next;

@@ -8,21 +8,16 @@ use table::keys::NO_KEY;
 use table::keys::earlier;
 use table::views::body_of;
 ghost use mathlib.Core.Path.{_≡_};
+ghost use mathlib.Core.List.{List};
+ghost use Prim.Native.Nat.{ℕ};
 ghost use lib.ListN.{length};
 ghost use Rattle.table.specs.Keys.{leastKey};
 ghost use Rattle.bodies.specs.Bodies.{BodyView, faultsOfBody, BodiesView, faultsOfBodies};
 
 // The body of the declaration whose name is the token i: its action under that name, and its labels against each other.
-fn body_fault(
-    text: &[u8],
-    records: &[u8],
-    values: &[u8],
-    decls: &[u8],
-    room: &mut [u8],
-    i: usize,
-) -> u32
-    requires { ⌜ BodyView (now text) (now records) (now values) (now decls) (now room) i ⌝ }
-    ensures answer { λ r. ⌜ ((v : BodyView (now (text .entry)) (now (records .entry)) (now (values .entry)) (now (decls .entry)) (now (room .entry)) i)
+fn body_fault(records: &[u8], values: &[u8], decls: &[u8], room: &mut [u8], i: usize) -> u32
+    requires { ⌜ ((text : List ℕ) × BodyView text (now records) (now values) (now decls) (now room) i) ⌝ }
+    ensures answer { λ r. ⌜ ((text : List ℕ) (v : BodyView text (now (records .entry)) (now (values .entry)) (now (decls .entry)) (now (room .entry)) i)
         → r ≡ leastKey (faultsOfBody v)) ⌝ }
     ensures long { λ r. ⌜ length (now (room .exit)) ≡ length (now (room .entry)) ⌝ }
 {
@@ -31,22 +26,15 @@ fn body_fault(
         return NO_KEY;
     }
     push(records, room, 0, i);
-    let inside = action(text, records, values, decls, room, begin, 1, DEEPEST);
-    let labels = labels_fault(text, records, room, begin, inside.next);
+    let inside = action(records, values, decls, room, begin, 1, DEEPEST);
+    let labels = labels_fault(records, room, begin, inside.next);
     earlier(inside.key, labels)
 }
 
 // The least fault of the m declarations' bodies.
-pub fn fault40(
-    text: &[u8],
-    records: &[u8],
-    values: &[u8],
-    decls: &[u8],
-    room: &mut [u8],
-    m: usize,
-) -> u32
-    requires { ⌜ BodiesView (now text) (now records) (now values) (now decls) (now room) m ⌝ }
-    ensures answer { λ r. ⌜ ((v : BodiesView (now (text .entry)) (now (records .entry)) (now (values .entry)) (now (decls .entry)) (now (room .entry)) m)
+pub fn fault40(records: &[u8], values: &[u8], decls: &[u8], room: &mut [u8], m: usize) -> u32
+    requires { ⌜ ((text : List ℕ) × BodiesView text (now records) (now values) (now decls) (now room) m) ⌝ }
+    ensures answer { λ r. ⌜ ((text : List ℕ) (v : BodiesView text (now (records .entry)) (now (values .entry)) (now (decls .entry)) (now (room .entry)) m)
         → r ≡ leastKey (faultsOfBodies v)) ⌝ }
     ensures long { λ r. ⌜ length (now (room .exit)) ≡ length (now (room .entry)) ⌝ }
 {
@@ -54,7 +42,7 @@ pub fn fault40(
     let mut k: usize = 0;
     while k < m {
         let name = get16(decls, k) as usize;
-        key = earlier(key, body_fault(text, records, values, decls, room, name));
+        key = earlier(key, body_fault(records, values, decls, room, name));
         k += 1;
     }
     key

@@ -27,9 +27,9 @@ pub fn is_label(records: &[u8], i: usize) -> bool
 }
 
 // 44 for the label i, where it is declared, the outer name, or one of the `count` labels before it.
-fn label_fault(text: &[u8], records: &[u8], room: &[u8], count: usize, i: usize) -> u32
-    requires { ⌜ ((values : List ℕ) × (decls : List ℕ) × LabelView (now text) (now records) values decls (now room) count i) ⌝ }
-    ensures { λ r. ⌜ ((values decls : List ℕ) (v : LabelView (now (text .entry)) (now (records .entry)) values decls (now (room .entry)) count i)
+fn label_fault(records: &[u8], room: &[u8], count: usize, i: usize) -> u32
+    requires { ⌜ ((text : List ℕ) × (values : List ℕ) × (decls : List ℕ) × LabelView text (now records) values decls (now room) count i) ⌝ }
+    ensures { λ r. ⌜ ((text values decls : List ℕ) (v : LabelView text (now (records .entry)) values decls (now (room .entry)) count i)
         → r ≡ leastKey (labelFault v)) ⌝ }
 {
     let key = fault_key(44, place_at(records, i));
@@ -43,9 +43,9 @@ fn label_fault(text: &[u8], records: &[u8], room: &[u8], count: usize, i: usize)
 }
 
 // The labels from the token i up to j, one after the other.
-pub fn labels_fault(text: &[u8], records: &[u8], room: &mut [u8], i: usize, j: usize) -> u32
-    requires { ⌜ (2 * indexEnd ≤ length (now room)) × ((values : List ℕ) × (decls : List ℕ) × LabelsView (now text) (now records) values decls i j) ⌝ }
-    ensures { λ r. ⌜ ((values decls : List ℕ) (v : LabelsView (now (text .entry)) (now (records .entry)) values decls i j) → r ≡ leastKey (allLabelFaults v)) ⌝ }
+pub fn labels_fault(records: &[u8], room: &mut [u8], i: usize, j: usize) -> u32
+    requires { ⌜ (2 * indexEnd ≤ length (now room)) × ((text : List ℕ) × (values : List ℕ) × (decls : List ℕ) × LabelsView text (now records) values decls i j) ⌝ }
+    ensures { λ r. ⌜ ((text values decls : List ℕ) (v : LabelsView text (now (records .entry)) values decls i j) → r ≡ leastKey (allLabelFaults v)) ⌝ }
 {
     let mut at = i;
     let mut count: usize = 0;
@@ -56,7 +56,7 @@ pub fn labels_fault(text: &[u8], records: &[u8], room: &mut [u8], i: usize, j: u
         if !is_label(records, here) {
             continue;
         }
-        key = earlier(key, label_fault(text, records, room, count, here));
+        key = earlier(key, label_fault(records, room, count, here));
         push(records, room, count, here);
         count += 1;
     }

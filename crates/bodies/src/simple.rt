@@ -18,6 +18,8 @@ use table::records::kind_at;
 use table::records::place_at;
 use table::views::body_of;
 ghost use mathlib.Core.Path.{_≡_};
+ghost use mathlib.Core.List.{List};
+ghost use Prim.Native.Nat.{ℕ};
 ghost use Rattle.table.specs.Keys.{leastKey};
 ghost use Rattle.bodies.specs.Actions.{ActionView, ActionAnswer, Simple};
 ghost use Rattle.bodies.specs.Jumps.{isJump, JumpView, jumpFaults, CallView, callFaults, TransferView, TransferAnswer};
@@ -29,9 +31,9 @@ fn is_jump(kind: u8) -> bool
 }
 
 // 44 at the keyword i, where its target is no name around it.
-fn jump_fault(text: &[u8], records: &[u8], room: &[u8], i: usize, count: usize) -> u32
-    requires { ⌜ JumpView (now text) (now records) (now room) i count ⌝ }
-    ensures { λ r. ⌜ ((v : JumpView (now (text .entry)) (now (records .entry)) (now (room .entry)) i count) → r ≡ leastKey (jumpFaults v)) ⌝ }
+fn jump_fault(records: &[u8], room: &[u8], i: usize, count: usize) -> u32
+    requires { ⌜ JumpView (now records) (now room) i count ⌝ }
+    ensures { λ r. ⌜ ((v : JumpView (now (records .entry)) (now (room .entry)) i count) → r ≡ leastKey (jumpFaults v)) ⌝ }
 {
     if is_stacked(records, room, count, i + 1) {
         return NO_KEY;
@@ -74,7 +76,6 @@ fn transfer(records: &[u8], values: &[u8], decls: &[u8], i: usize, depth: usize)
 
 // A simple action.
 pub fn simple(
-    text: &[u8],
     records: &[u8],
     values: &[u8],
     decls: &[u8],
@@ -83,8 +84,8 @@ pub fn simple(
     count: usize,
     depth: usize,
 ) -> Walked
-    requires { ⌜ ((v : ActionView (now text) (now records) (now values) (now decls) (now room) i count depth) × Simple (v .action)) ⌝ }
-    ensures { λ r. ⌜ ((v : ActionView (now (text .entry)) (now (records .entry)) (now (values .entry)) (now (decls .entry)) (now (room .entry)) i count depth)
+    requires { ⌜ ((text : List ℕ) × (v : ActionView text (now records) (now values) (now decls) (now room) i count depth) × Simple (v .action)) ⌝ }
+    ensures { λ r. ⌜ ((text : List ℕ) (v : ActionView text (now (records .entry)) (now (values .entry)) (now (decls .entry)) (now (room .entry)) i count depth)
         → Simple (v .action) → ActionAnswer v r) ⌝ }
 {
     let kind = kind_at(records, i);
@@ -99,7 +100,7 @@ pub fn simple(
     }
     if is_jump(kind) {
         return Walked {
-            key: jump_fault(text, records, room, i, count),
+            key: jump_fault(records, room, i, count),
             next: i + 2,
         };
     }

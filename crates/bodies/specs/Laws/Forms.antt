@@ -148,8 +148,8 @@ module _ {text records values decls room : List ℕ} {i count depth : ℕ} (v : 
       jump-target (plain-seen _ n _ _ _) = absurd (true≢false (sym j ∙ ap isJump is-kind ∙ n))
       jump-target (transfer-seen e _ _) = absurd (z (is-kind ∙ e))
 
-      abbrev pub jump-view : JumpView text records room i count
-      jump-view = record { values = values; decls = decls; stage = v .stage; stacked = v .stacked; target = jump-target seen; large = v .large }
+      abbrev pub jump-view : JumpView records room i count
+      jump-view = record { text = text; values = values; decls = decls; stage = v .stage; stacked = v .stacked; target = jump-target seen; large = v .large }
 
       pub jump-answer : {r : ℕ} → r ≡ leastKey (jumpFaults jump-view) → ActionAnswer v (record { key = r; next = i + 2 })
       jump-answer {r} e = go seen

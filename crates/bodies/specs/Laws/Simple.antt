@@ -38,7 +38,7 @@ use Rattle.bodies.specs.Jumps.{JumpView, jumpFaults, CallView, callFault
 use Rattle.bodies.specs.Laws.Known.{fault-key, no-fault-key, token-room, token-place, place-small, name-here}
 
 -- LEAVE AND RESTART
-module _ {text records room : List ℕ} {i count : ℕ} (v : JumpView text records room i count) where
+module _ {records room : List ℕ} {i count : ℕ} (v : JumpView records room i count) where
   keyword-within : i < length (v .stage .tokens)
   keyword-within = let w = v .target .within in omega arith
 

@@ -38,72 +38,72 @@ use Rattle.table.proofs.records.kind_at.Reads as kind-at-reads
 use Rattle.bodies.proofs.actions.+action+block+counted+decode+selected.{statement}
 use Rattle.bodies.proofs.actions.+action+block+counted+decode+selected.Tie.{close}
 
-abbrev μ-action : Measures 5 action-kinds.ps ℕ
-μ-action κs a = 3 * a .1 .1 .1 .1 .1 .1 .1 .0 + 1
+abbrev μ-action : Measures 4 action-kinds.ps ℕ
+μ-action κs a = 3 * a .1 .1 .1 .1 .1 .1 .0 + 1
 
-abbrev μ-block : Measures 5 block-kinds.ps ℕ
-μ-block κs a = 3 * a .1 .1 .1 .1 .1 .1 .1 .0
+abbrev μ-block : Measures 4 block-kinds.ps ℕ
+μ-block κs a = 3 * a .1 .1 .1 .1 .1 .1 .0
 
-abbrev μ-counted : Measures 5 counted-kinds.ps ℕ
-μ-counted κs a = 3 * a .1 .1 .1 .1 .1 .1 .1 .0 + 2
+abbrev μ-counted : Measures 4 counted-kinds.ps ℕ
+μ-counted κs a = 3 * a .1 .1 .1 .1 .1 .1 .0 + 2
 
-abbrev μ-decode : Measures 5 decode-kinds.ps ℕ
-μ-decode κs a = 3 * a .1 .1 .1 .1 .1 .1 .1 .0
+abbrev μ-decode : Measures 4 decode-kinds.ps ℕ
+μ-decode κs a = 3 * a .1 .1 .1 .1 .1 .1 .0
 
-abbrev μ-selected : Measures 5 selected-kinds.ps ℕ
-μ-selected κs a = 3 * a .1 .1 .1 .1 .1 .1 .1 .0 + 2
+abbrev μ-selected : Measures 4 selected-kinds.ps ℕ
+μ-selected κs a = 3 * a .1 .1 .1 .1 .1 .1 .0 + 2
 
-abbrev action-at : ℕ → In 5 action-kinds.ps
-action-at t = and 5 action-kinds.ps (is 5 action-kinds.ps μ-action t) action.Pre
+abbrev action-at : ℕ → In 4 action-kinds.ps
+action-at t = and 4 action-kinds.ps (is 4 action-kinds.ps μ-action t) action.Pre
 
-abbrev action-below : ℕ → In 5 action-kinds.ps
-action-below t = and 5 action-kinds.ps (falls 5 action-kinds.ps _<_ μ-action t) action.Pre
+abbrev action-below : ℕ → In 4 action-kinds.ps
+action-below t = and 4 action-kinds.ps (falls 4 action-kinds.ps _<_ μ-action t) action.Pre
 
-abbrev block-at : ℕ → In 5 block-kinds.ps
-block-at t = and 5 block-kinds.ps (is 5 block-kinds.ps μ-block t) block.Pre
+abbrev block-at : ℕ → In 4 block-kinds.ps
+block-at t = and 4 block-kinds.ps (is 4 block-kinds.ps μ-block t) block.Pre
 
-abbrev block-below : ℕ → In 5 block-kinds.ps
-block-below t = and 5 block-kinds.ps (falls 5 block-kinds.ps _<_ μ-block t) block.Pre
+abbrev block-below : ℕ → In 4 block-kinds.ps
+block-below t = and 4 block-kinds.ps (falls 4 block-kinds.ps _<_ μ-block t) block.Pre
 
-abbrev counted-at : ℕ → In 5 counted-kinds.ps
-counted-at t = and 5 counted-kinds.ps (is 5 counted-kinds.ps μ-counted t) counted.Pre
+abbrev counted-at : ℕ → In 4 counted-kinds.ps
+counted-at t = and 4 counted-kinds.ps (is 4 counted-kinds.ps μ-counted t) counted.Pre
 
-abbrev counted-below : ℕ → In 5 counted-kinds.ps
-counted-below t = and 5 counted-kinds.ps (falls 5 counted-kinds.ps _<_ μ-counted t) counted.Pre
+abbrev counted-below : ℕ → In 4 counted-kinds.ps
+counted-below t = and 4 counted-kinds.ps (falls 4 counted-kinds.ps _<_ μ-counted t) counted.Pre
 
-abbrev decode-at : ℕ → In 5 decode-kinds.ps
-decode-at t = and 5 decode-kinds.ps (is 5 decode-kinds.ps μ-decode t) decode.Pre
+abbrev decode-at : ℕ → In 4 decode-kinds.ps
+decode-at t = and 4 decode-kinds.ps (is 4 decode-kinds.ps μ-decode t) decode.Pre
 
-abbrev decode-below : ℕ → In 5 decode-kinds.ps
-decode-below t = and 5 decode-kinds.ps (falls 5 decode-kinds.ps _<_ μ-decode t) decode.Pre
+abbrev decode-below : ℕ → In 4 decode-kinds.ps
+decode-below t = and 4 decode-kinds.ps (falls 4 decode-kinds.ps _<_ μ-decode t) decode.Pre
 
-abbrev selected-at : ℕ → In 5 selected-kinds.ps
-selected-at t = and 5 selected-kinds.ps (is 5 selected-kinds.ps μ-selected t) selected.Pre
+abbrev selected-at : ℕ → In 4 selected-kinds.ps
+selected-at t = and 4 selected-kinds.ps (is 4 selected-kinds.ps μ-selected t) selected.Pre
 
-abbrev selected-below : ℕ → In 5 selected-kinds.ps
+abbrev selected-below : ℕ → In 4 selected-kinds.ps
 selected-below t =
-    and 5 selected-kinds.ps (falls 5 selected-kinds.ps _<_ μ-selected t) selected.Pre
+    and 4 selected-kinds.ps (falls 4 selected-kinds.ps _<_ μ-selected t) selected.Pre
 
 abbrev block-Inv-loop : block-lts.InvT-loop
-block-Inv-loop text records values decls room₀ i count depth at₀ key₀ room at key =
-    steps.InBlock text records values decls room₀ i count depth room key at
+block-Inv-loop records values decls room₀ i count depth at₀ key₀ room at key =
+    steps.InBlock records values decls room₀ i count depth room key at
 
 abbrev block-μ-loop : block-lts.MeasureT-loop
-block-μ-loop text records values decls room₀ i count depth at₀ key₀ room at key = 8192 - at
+block-μ-loop records values decls room₀ i count depth at₀ key₀ room at key = 8192 - at
 
 abbrev counted-Inv-loop : counted-lts.InvT-loop
-counted-Inv-loop text records values decls room₀ i count depth bits at₀ number₀ key₀ room at number key =
-    steps.InCounted text records values decls room₀ i count depth bits room key number at
+counted-Inv-loop records values decls room₀ i count depth bits at₀ number₀ key₀ room at number key =
+    steps.InCounted records values decls room₀ i count depth bits room key number at
 
 abbrev counted-μ-loop : counted-lts.MeasureT-loop
-counted-μ-loop text records values decls room₀ i count depth bits at₀ number₀ key₀ room at number key = 8192 - at
+counted-μ-loop records values decls room₀ i count depth bits at₀ number₀ key₀ room at number key = 8192 - at
 
 abbrev selected-Inv-loop : selected-lts.InvT-loop
-selected-Inv-loop text records values decls room₀ i count depth bits at₀ number₀ key₀ room at number key =
-    steps.InSelected text records values decls room₀ i count depth bits room key number at
+selected-Inv-loop records values decls room₀ i count depth bits at₀ number₀ key₀ room at number key =
+    steps.InSelected records values decls room₀ i count depth bits room key number at
 
 abbrev selected-μ-loop : selected-lts.MeasureT-loop
-selected-μ-loop text records values decls room₀ i count depth bits at₀ number₀ key₀ room at number key = 8192 - at
+selected-μ-loop records values decls room₀ i count depth bits at₀ number₀ key₀ room at number key = 8192 - at
 
 pub +action+block+counted+decode+selected-spec : {M : Type 1} → statement M
 +action+block+counted+decode+selected-spec =
@@ -123,20 +123,20 @@ pub +action+block+counted+decode+selected-spec : {M : Type 1} → statement M
     )
     (action-at t)
     action.Post
-    (λ c κs. (_, c .before .before .before .before .before .before .pre .1))
-    (λ c κs. steps.front-room (c .before .before .prefixes .ensures) (c .before .before .before .before .before .before .before .before .before .pre .1))
-    (λ c κs. (omega arith, steps.block-asked (c .before .before .before .before .before .prefixes .ensures) (c .before .before .kind-at .ensures) (c .before .if1 .taken) (c .before .before .before .before .before .before .before .before .before .before .before .before .pre .1)))
+    (λ c κs. c .before .before .before .before .before .pre .1)
+    (λ c κs. steps.front-room (c .before .before .prefixes .ensures) (c .before .before .before .before .before .before .before .before .pre .1 .1))
+    (λ c κs. (omega arith, steps.block-asked (c .before .before .before .before .before .prefixes .ensures) (c .before .before .kind-at .ensures) (c .before .if1 .taken) (c .before .before .before .before .before .before .before .before .before .before .before .pre .1 .1)))
     (λ c κs. search needs)
-    (λ c. steps.action-keeps (c .before .before .before .before .before .before .before .before .before .prefixes .ensures) (c .before .before .before .block .ensures .0) (c .before .before .before .before .before .before .before .before .before .before .before .before .before .before .before .before .pre .1) .long)
-    (λ c. (steps.action-keeps (c .before .before .before .before .before .before .before .before .before .prefixes .ensures) (c .before .before .before .block .ensures .0) (c .before .before .before .before .before .before .before .before .before .before .before .before .before .before .before .before .pre .1), λ v. steps.block-answers (c .before .before .before .before .before .before .before .before .before .prefixes .ensures) (c .before .before .before .before .before .before .kind-at .ensures) (c .earlier .ensures) v (c .before .before .before .before .before .if1 .taken) (c .before .before .before .block .ensures .1)))
-    (λ c κs. (omega arith, steps.decode-asked (c .before .before .before .before .before .before .prefixes .ensures) (c .before .before .before .kind-at .ensures) (c .before .if2 .taken) (c .before .before .before .before .before .before .before .before .before .before .before .before .before .pre .1)))
+    (λ c. steps.action-keeps (c .before .before .before .before .before .before .before .before .before .prefixes .ensures) (c .before .before .before .block .ensures .0) (c .before .before .before .before .before .before .before .before .before .before .before .before .before .before .before .pre .1 .1) .long)
+    (λ c. (steps.action-keeps (c .before .before .before .before .before .before .before .before .before .prefixes .ensures) (c .before .before .before .block .ensures .0) (c .before .before .before .before .before .before .before .before .before .before .before .before .before .before .before .pre .1 .1), λ text v. steps.block-answers (c .before .before .before .before .before .before .before .before .before .prefixes .ensures) (c .before .before .before .before .before .before .kind-at .ensures) (c .earlier .ensures) v (c .before .before .before .before .before .if1 .taken) (c .before .before .before .block .ensures .1)))
+    (λ c κs. (omega arith, steps.decode-asked (c .before .before .before .before .before .before .prefixes .ensures) (c .before .before .before .kind-at .ensures) (c .before .if2 .taken) (c .before .before .before .before .before .before .before .before .before .before .before .before .pre .1 .1)))
     (λ c κs. search needs)
-    (λ c. steps.action-keeps (c .before .before .before .before .before .before .before .before .before .before .prefixes .ensures) (c .before .before .before .decode .ensures .0) (c .before .before .before .before .before .before .before .before .before .before .before .before .before .before .before .before .before .pre .1) .long)
-    (λ c. (steps.action-keeps (c .before .before .before .before .before .before .before .before .before .before .prefixes .ensures) (c .before .before .before .decode .ensures .0) (c .before .before .before .before .before .before .before .before .before .before .before .before .before .before .before .before .before .pre .1), λ v. steps.decode-answers (c .before .before .before .before .before .before .before .before .before .before .prefixes .ensures) (c .before .before .before .before .before .before .before .kind-at .ensures) (c .earlier2 .ensures) v (c .before .before .before .before .before .if2 .taken) (c .before .before .before .decode .ensures .1)))
-    (λ c κs. steps.simple-asked (c .before .before .before .before .before .before .prefixes .ensures) (c .before .before .before .kind-at .ensures) (c .before .before .if1 .left) (c .before .if2 .left) (c .before .before .before .before .before .before .before .before .before .before .before .before .before .pre .1))
+    (λ c. steps.action-keeps (c .before .before .before .before .before .before .before .before .before .before .prefixes .ensures) (c .before .before .before .decode .ensures .0) (c .before .before .before .before .before .before .before .before .before .before .before .before .before .before .before .before .pre .1 .1) .long)
+    (λ c. (steps.action-keeps (c .before .before .before .before .before .before .before .before .before .before .prefixes .ensures) (c .before .before .before .decode .ensures .0) (c .before .before .before .before .before .before .before .before .before .before .before .before .before .before .before .before .pre .1 .1), λ text v. steps.decode-answers (c .before .before .before .before .before .before .before .before .before .before .prefixes .ensures) (c .before .before .before .before .before .before .before .kind-at .ensures) (c .earlier2 .ensures) v (c .before .before .before .before .before .if2 .taken) (c .before .before .before .decode .ensures .1)))
+    (λ c κs. steps.simple-asked (c .before .before .before .before .before .before .prefixes .ensures) (c .before .before .before .kind-at .ensures) (c .before .before .if1 .left) (c .before .if2 .left) (c .before .before .before .before .before .before .before .before .before .before .before .before .pre .1 .1))
     (λ c κs. search needs)
     (λ c. c .before .before .before .before .before .before .before .before .prefixes .ensures .0 .long)
-    (λ c. (kept-less (c .before .before .before .before .before .before .before .before .prefixes .ensures .0) (omega arith) (omega arith), λ v. steps.simple-answers (c .before .before .before .before .before .before .before .before .prefixes .ensures) (c .before .before .before .before .before .kind-at .ensures) (c .earlier3 .ensures) v (c .before .before .before .before .if1 .left) (c .before .before .before .if2 .left) (c .before .simple .ensures))))
+    (λ c. (kept-less (c .before .before .before .before .before .before .before .before .prefixes .ensures .0) (omega arith) (omega arith), λ text v. steps.simple-answers (c .before .before .before .before .before .before .before .before .prefixes .ensures) (c .before .before .before .before .before .kind-at .ensures) (c .earlier3 .ensures) v (c .before .before .before .before .if1 .left) (c .before .before .before .if2 .left) (c .before .simple .ensures))))
     (λ t. block-lts.spec (
       action-below t,
       action.Post,
@@ -149,17 +149,17 @@ pub +action+block+counted+decode+selected-spec : {M : Type 1} → statement M
     block.Post
     block-Inv-loop
     block-μ-loop
-    (λ c. record { fits = omega (arith, steps.block-inside (c .before .before .before .before .before .pre .1)) })
+    (λ c. record { fits = omega (arith, steps.block-inside (c .before .before .before .before .pre .1)) })
     (λ c. steps.block-begun)
-    (λ c. omega (arith, steps.block-deep (c .before .loop .inv) (c .before .before .before .before .before .before .before .pre .1)))
-    (λ c κs. (omega (arith, steps.block-deep (c .before .loop .inv) (c .before .before .before .before .before .before .before .pre .1)), steps.member-asked (c .before .loop .inv) (c .before .before .before .before .before .before .before .pre .1)))
+    (λ c. omega (arith, steps.block-deep (c .before .loop .inv) (c .before .before .before .before .before .before .pre .1)))
+    (λ c κs. (omega (arith, steps.block-deep (c .before .loop .inv) (c .before .before .before .before .before .before .pre .1)), steps.member-asked (c .before .loop .inv) (c .before .before .before .before .before .before .pre .1)))
     (λ c κs. search needs)
-    (λ c κs. steps.member-next (c .before .before .before .before .before .loop .inv) (c .before .before .before .action .ensures) (c .before .before .before .before .before .before .before .before .before .before .before .pre .1) .2)
-    (λ c. record { fits = omega (arith, steps.member-next (c .before .before .before .before .before .before .before .loop .inv) (c .before .before .before .before .before .action .ensures) (c .before .before .before .before .before .before .before .before .before .before .before .before .before .pre .1) .0) })
+    (λ c κs. steps.member-next (c .before .before .before .before .before .loop .inv) (c .before .before .before .action .ensures) (c .before .before .before .before .before .before .before .before .before .before .pre .1) .2)
+    (λ c. record { fits = omega (arith, steps.member-next (c .before .before .before .before .before .before .before .loop .inv) (c .before .before .before .before .before .action .ensures) (c .before .before .before .before .before .before .before .before .before .before .before .before .pre .1) .0) })
     (λ c. steps.block-keeps (c .before .before .before .before .before .before .before .loop .inv) (c .before .before .before .before .before .action .ensures) .long)
     (λ c. (steps.block-keeps (c .before .before .before .before .before .before .before .loop .inv) (c .before .before .before .before .before .action .ensures), steps.block-ends (c .before .before .before .before .before .before .before .loop .inv) (c .before .before .before .before .before .action .ensures) (c .before .kind-at .ensures) (c .before .before .earlier .ensures) (c .if1 .taken)))
-    (λ c. record { fits = omega (arith, steps.member-next (c .before .before .before .before .before .before .before .loop .inv) (c .before .before .before .before .before .action .ensures) (c .before .before .before .before .before .before .before .before .before .before .before .before .before .pre .1) .0) })
-    (λ c. omega (arith, steps.member-next (c .before .before .before .before .before .before .before .loop .inv) (c .before .before .before .before .before .action .ensures) (c .before .before .before .before .before .before .before .before .before .before .before .before .before .pre .1) .0, steps.member-next (c .before .before .before .before .before .before .before .loop .inv) (c .before .before .before .before .before .action .ensures) (c .before .before .before .before .before .before .before .before .before .before .before .before .before .pre .1) .1))
+    (λ c. record { fits = omega (arith, steps.member-next (c .before .before .before .before .before .before .before .loop .inv) (c .before .before .before .before .before .action .ensures) (c .before .before .before .before .before .before .before .before .before .before .before .before .pre .1) .0) })
+    (λ c. omega (arith, steps.member-next (c .before .before .before .before .before .before .before .loop .inv) (c .before .before .before .before .before .action .ensures) (c .before .before .before .before .before .before .before .before .before .before .before .before .pre .1) .0, steps.member-next (c .before .before .before .before .before .before .before .loop .inv) (c .before .before .before .before .before .action .ensures) (c .before .before .before .before .before .before .before .before .before .before .before .before .pre .1) .1))
     (λ c. steps.block-again (c .before .before .before .before .before .before .before .loop .inv) (c .before .before .before .before .before .action .ensures) (c .before .kind-at .ensures) (c .before .before .earlier .ensures) (c .if1 .left)))
     (λ t. counted-lts.spec (
       counted-fault-reads.Asked,
@@ -176,17 +176,17 @@ pub +action+block+counted+decode+selected-spec : {M : Type 1} → statement M
     counted-Inv-loop
     counted-μ-loop
     (λ c. steps.counted-begun)
-    (λ c κs. let h = steps.counted-here (c .loop .inv) (c .before .before .before .before .before .before .pre .1) in (h .0, h .1, omega (arith, h .2)))
-    (λ c κs. (omega arith, steps.counted-action (c .before .before .loop .inv) (c .before .before .before .before .before .before .before .before .pre .1)))
+    (λ c κs. let h = steps.counted-here (c .loop .inv) (c .before .before .before .before .before .pre .1) in (h .0, h .1, omega (arith, h .2)))
+    (λ c κs. (omega arith, steps.counted-action (c .before .before .loop .inv) (c .before .before .before .before .before .before .before .pre .1)))
     (λ c κs. search needs)
     (λ c κs. search needs)
-    (λ c. record { fits = omega (arith, steps.counted-number (c .before .before .before .before .before .before .before .loop .inv) (c .before .before .before .before .before .before .before .before .before .before .before .before .before .pre .1)) })
-    (λ c κs. steps.counted-next (c .before .before .before .before .before .before .before .loop .inv) (c .before .before .before .before .before .before .counted-fault .ensures) (c .before .before .before .before .action .ensures) (c .before .before .before .before .before .before .before .before .before .before .before .before .before .pre .1) .2)
-    (λ c. record { fits = omega (arith, steps.counted-next (c .before .before .before .before .before .before .before .before .before .loop .inv) (c .before .before .before .before .before .before .before .before .counted-fault .ensures) (c .before .before .before .before .before .before .action .ensures) (c .before .before .before .before .before .before .before .before .before .before .before .before .before .before .before .pre .1) .0) })
+    (λ c. record { fits = omega (arith, steps.counted-number (c .before .before .before .before .before .before .before .loop .inv) (c .before .before .before .before .before .before .before .before .before .before .before .before .pre .1)) })
+    (λ c κs. steps.counted-next (c .before .before .before .before .before .before .before .loop .inv) (c .before .before .before .before .before .before .counted-fault .ensures) (c .before .before .before .before .action .ensures) (c .before .before .before .before .before .before .before .before .before .before .before .before .pre .1) .2)
+    (λ c. record { fits = omega (arith, steps.counted-next (c .before .before .before .before .before .before .before .before .before .loop .inv) (c .before .before .before .before .before .before .before .before .counted-fault .ensures) (c .before .before .before .before .before .before .action .ensures) (c .before .before .before .before .before .before .before .before .before .before .before .before .before .before .pre .1) .0) })
     (λ c. steps.counted-keeps (c .before .before .before .before .before .before .before .before .before .loop .inv) (c .before .before .before .before .before .before .before .before .counted-fault .ensures) (c .before .before .before .before .before .before .action .ensures) .long)
     (λ c. (steps.counted-keeps (c .before .before .before .before .before .before .before .before .before .loop .inv) (c .before .before .before .before .before .before .before .before .counted-fault .ensures) (c .before .before .before .before .before .before .action .ensures), steps.counted-ends (c .before .before .before .before .before .before .before .before .before .loop .inv) (c .before .before .before .before .before .before .before .before .counted-fault .ensures) (c .before .before .before .before .before .before .action .ensures) (c .before .kind-at .ensures) (c .before .before .earlier2 .ensures ∙ ap (min _) (c .before .before .before .earlier .ensures)) (c .if1 .taken)))
-    (λ c. record { fits = omega (arith, steps.counted-next (c .before .before .before .before .before .before .before .before .before .loop .inv) (c .before .before .before .before .before .before .before .before .counted-fault .ensures) (c .before .before .before .before .before .before .action .ensures) (c .before .before .before .before .before .before .before .before .before .before .before .before .before .before .before .pre .1) .0) })
-    (λ c. omega (arith, steps.counted-next (c .before .before .before .before .before .before .before .before .before .loop .inv) (c .before .before .before .before .before .before .before .before .counted-fault .ensures) (c .before .before .before .before .before .before .action .ensures) (c .before .before .before .before .before .before .before .before .before .before .before .before .before .before .before .pre .1) .0, steps.counted-next (c .before .before .before .before .before .before .before .before .before .loop .inv) (c .before .before .before .before .before .before .before .before .counted-fault .ensures) (c .before .before .before .before .before .before .action .ensures) (c .before .before .before .before .before .before .before .before .before .before .before .before .before .before .before .pre .1) .1))
+    (λ c. record { fits = omega (arith, steps.counted-next (c .before .before .before .before .before .before .before .before .before .loop .inv) (c .before .before .before .before .before .before .before .before .counted-fault .ensures) (c .before .before .before .before .before .before .action .ensures) (c .before .before .before .before .before .before .before .before .before .before .before .before .before .before .pre .1) .0) })
+    (λ c. omega (arith, steps.counted-next (c .before .before .before .before .before .before .before .before .before .loop .inv) (c .before .before .before .before .before .before .before .before .counted-fault .ensures) (c .before .before .before .before .before .before .action .ensures) (c .before .before .before .before .before .before .before .before .before .before .before .before .before .before .pre .1) .0, steps.counted-next (c .before .before .before .before .before .before .before .before .before .loop .inv) (c .before .before .before .before .before .before .before .before .counted-fault .ensures) (c .before .before .before .before .before .before .action .ensures) (c .before .before .before .before .before .before .before .before .before .before .before .before .before .before .pre .1) .1))
     (λ c. steps.counted-again (c .before .before .before .before .before .before .before .before .before .loop .inv) (c .before .before .before .before .before .before .before .before .counted-fault .ensures) (c .before .before .before .before .before .before .action .ensures) (c .before .kind-at .ensures) (c .before .before .earlier2 .ensures ∙ ap (min _) (c .before .before .before .earlier .ensures)) (c .if1 .left)))
     (λ t. decode-lts.spec (
       expression-reads.Asked,
@@ -204,21 +204,21 @@ pub +action+block+counted+decode+selected-spec : {M : Type 1} → statement M
     )
     (decode-at t)
     decode.Post
-    (λ c. record { fits = omega (arith, steps.decode-inside (c .before .before .before .before .before .pre .1)) })
-    (λ c κs. steps.test-asked (c .before .before .before .before .before .pre .1))
-    (λ c. record { fits = omega (arith, steps.choices-inside (c .before .expression .ensures) (c .before .before .before .before .before .before .before .pre .1)) })
-    (λ c κs. steps.choices-room (c .before .expression .ensures) (c .before .before .before .before .before .before .before .pre .1))
+    (λ c. record { fits = omega (arith, steps.decode-inside (c .before .before .before .before .pre .1)) })
+    (λ c κs. steps.test-asked (c .before .before .before .before .pre .1))
+    (λ c. record { fits = omega (arith, steps.choices-inside (c .before .expression .ensures) (c .before .before .before .before .before .before .pre .1)) })
+    (λ c κs. steps.choices-room (c .before .expression .ensures) (c .before .before .before .before .before .before .pre .1))
     (λ c κs. search needs)
-    (λ c. omega (arith, steps.decode-deep (c .before .before .before .before .before .before .before .before .before .before .before .pre .1)))
-    (λ c κs. (omega (arith, steps.decode-deep (c .before .before .before .before .before .before .before .before .before .before .before .pre .1)), steps.selected-asked (c .before .before .before .before .before .expression .ensures) (c .before .before .before .kind-at .ensures) (c .before .before .has-selector .ensures) (c .before .if1 .taken) (c .before .before .before .before .before .before .before .before .before .before .before .pre .1)))
+    (λ c. omega (arith, steps.decode-deep (c .before .before .before .before .before .before .before .before .before .before .pre .1)))
+    (λ c κs. (omega (arith, steps.decode-deep (c .before .before .before .before .before .before .before .before .before .before .pre .1)), steps.selected-asked (c .before .before .before .before .before .expression .ensures) (c .before .before .before .kind-at .ensures) (c .before .before .has-selector .ensures) (c .before .if1 .taken) (c .before .before .before .before .before .before .before .before .before .before .pre .1)))
     (λ c κs. search needs)
-    (λ c. steps.decode-keeps (c .before .before .before .before .before .before .before .before .before .before .before .before .before .before .before .pre .1) (c .before .before .before .selected .ensures .0) .long)
-    (λ c. (steps.decode-keeps (c .before .before .before .before .before .before .before .before .before .before .before .before .before .before .before .pre .1) (c .before .before .before .selected .ensures .0), λ v d. steps.selected-answers (c .before .before .before .before .before .before .before .before .before .expression .ensures) (c .before .before .before .before .before .before .before .kind-at .ensures) (c .before .before .before .before .before .before .has-selector .ensures) (c .earlier .ensures) v d (c .before .before .before .before .before .if1 .taken) (c .before .before .before .selected .ensures .1)))
-    (λ c. omega (arith, steps.decode-deep (c .before .before .before .before .before .before .before .before .before .before .before .pre .1)))
-    (λ c κs. (omega (arith, steps.decode-deep (c .before .before .before .before .before .before .before .before .before .before .before .pre .1)), steps.counted-asked (c .before .before .before .before .before .expression .ensures) (c .before .before .before .kind-at .ensures) (c .before .before .has-selector .ensures) (c .before .if1 .left) (c .before .before .before .before .before .before .before .before .before .before .before .pre .1)))
+    (λ c. steps.decode-keeps (c .before .before .before .before .before .before .before .before .before .before .before .before .before .before .pre .1) (c .before .before .before .selected .ensures .0) .long)
+    (λ c. (steps.decode-keeps (c .before .before .before .before .before .before .before .before .before .before .before .before .before .before .pre .1) (c .before .before .before .selected .ensures .0), λ text v d. steps.selected-answers (c .before .before .before .before .before .before .before .before .before .expression .ensures) (c .before .before .before .before .before .before .before .kind-at .ensures) (c .before .before .before .before .before .before .has-selector .ensures) (c .earlier .ensures) v d (c .before .before .before .before .before .if1 .taken) (c .before .before .before .selected .ensures .1)))
+    (λ c. omega (arith, steps.decode-deep (c .before .before .before .before .before .before .before .before .before .before .pre .1)))
+    (λ c κs. (omega (arith, steps.decode-deep (c .before .before .before .before .before .before .before .before .before .before .pre .1)), steps.counted-asked (c .before .before .before .before .before .expression .ensures) (c .before .before .before .kind-at .ensures) (c .before .before .has-selector .ensures) (c .before .if1 .left) (c .before .before .before .before .before .before .before .before .before .before .pre .1)))
     (λ c κs. search needs)
-    (λ c. steps.decode-keeps (c .before .before .before .before .before .before .before .before .before .before .before .before .before .before .before .pre .1) (c .before .before .before .counted .ensures .0) .long)
-    (λ c. (steps.decode-keeps (c .before .before .before .before .before .before .before .before .before .before .before .before .before .before .before .pre .1) (c .before .before .before .counted .ensures .0), λ v d. steps.counted-answers (c .before .before .before .before .before .before .before .before .before .expression .ensures) (c .before .before .before .before .before .before .before .kind-at .ensures) (c .before .before .before .before .before .before .has-selector .ensures) (c .earlier2 .ensures) v d (c .before .before .before .before .before .if1 .left) (c .before .before .before .counted .ensures .1))))
+    (λ c. steps.decode-keeps (c .before .before .before .before .before .before .before .before .before .before .before .before .before .before .pre .1) (c .before .before .before .counted .ensures .0) .long)
+    (λ c. (steps.decode-keeps (c .before .before .before .before .before .before .before .before .before .before .before .before .before .before .pre .1) (c .before .before .before .counted .ensures .0), λ text v d. steps.counted-answers (c .before .before .before .before .before .before .before .before .before .expression .ensures) (c .before .before .before .before .before .before .before .kind-at .ensures) (c .before .before .before .before .before .before .has-selector .ensures) (c .earlier2 .ensures) v d (c .before .before .before .before .before .if1 .left) (c .before .before .before .counted .ensures .1))))
     λ t. selected-lts.spec (
       keep-start-reads.Asked,
       keep-start-reads.Learnt,
@@ -240,19 +240,19 @@ pub +action+block+counted+decode+selected-spec : {M : Type 1} → statement M
     selected-Inv-loop
     selected-μ-loop
     (λ c. steps.selected-begun)
-    (λ c κs. steps.selected-large (c .before .loop .inv) (c .before .before .before .before .before .before .before .pre .1))
-    (λ c κs. steps.selected-here (c .before .before .before .before .loop .inv) (c .before .before .before .before .before .before .before .before .before .before .pre .1))
-    (λ c κs. steps.selector-asked (c .before .before .before .before .before .loop .inv) (c .before .before .before .before .before .before .before .before .before .before .before .pre .1))
-    (λ c κs. (omega arith, steps.selected-action (c .before .before .before .before .before .before .before .loop .inv) (c .before .before .before .before .before .keep-start .ensures) (c .before .behind-selector .ensures) (c .before .before .before .before .before .before .before .before .before .before .before .before .before .pre .1)))
+    (λ c κs. steps.selected-large (c .before .loop .inv) (c .before .before .before .before .before .before .pre .1))
+    (λ c κs. steps.selected-here (c .before .before .before .before .loop .inv) (c .before .before .before .before .before .before .before .before .before .pre .1))
+    (λ c κs. steps.selector-asked (c .before .before .before .before .before .loop .inv) (c .before .before .before .before .before .before .before .before .before .before .pre .1))
+    (λ c κs. (omega arith, steps.selected-action (c .before .before .before .before .before .before .before .loop .inv) (c .before .before .before .before .before .keep-start .ensures) (c .before .behind-selector .ensures) (c .before .before .before .before .before .before .before .before .before .before .before .before .pre .1)))
     (λ c κs. search needs)
     (λ c κs. search needs)
-    (λ c. record { fits = omega (arith, steps.selected-number (c .before .before .before .before .before .before .before .before .before .before .before .before .loop .inv) (c .before .before .before .before .before .before .before .before .before .before .before .before .before .before .before .before .before .before .pre .1)) })
-    (λ c κs. steps.selected-next (c .before .before .before .before .before .before .before .before .before .before .before .before .loop .inv) (c .before .before .before .before .before .before .before .before .before .before .keep-start .ensures) (c .before .before .before .before .before .before .behind-selector .ensures) (c .before .before .before .before .action .ensures) (c .before .before .before .before .before .before .before .before .before .before .before .before .before .before .before .before .before .before .pre .1) .2)
-    (λ c κs. steps.overlap-asked (c .before .before .before .before .before .before .before .before .before .before .before .before .before .before .before .loop .inv) (c .before .before .before .before .before .before .before .before .before .before .before .before .before .keep-start .ensures) (c .before .before .before .before .before .before .before .before .before .behind-selector .ensures) (c .before .before .before .before .before .before .before .action .ensures) (c .before .before .before .before .before .before .before .before .before .before .before .before .before .before .before .before .before .before .before .before .before .pre .1))
+    (λ c. record { fits = omega (arith, steps.selected-number (c .before .before .before .before .before .before .before .before .before .before .before .before .loop .inv) (c .before .before .before .before .before .before .before .before .before .before .before .before .before .before .before .before .before .pre .1)) })
+    (λ c κs. steps.selected-next (c .before .before .before .before .before .before .before .before .before .before .before .before .loop .inv) (c .before .before .before .before .before .before .before .before .before .before .keep-start .ensures) (c .before .before .before .before .before .before .behind-selector .ensures) (c .before .before .before .before .action .ensures) (c .before .before .before .before .before .before .before .before .before .before .before .before .before .before .before .before .before .pre .1) .2)
+    (λ c κs. steps.overlap-asked (c .before .before .before .before .before .before .before .before .before .before .before .before .before .before .before .loop .inv) (c .before .before .before .before .before .before .before .before .before .before .before .before .before .keep-start .ensures) (c .before .before .before .before .before .before .before .before .before .behind-selector .ensures) (c .before .before .before .before .before .before .before .action .ensures) (c .before .before .before .before .before .before .before .before .before .before .before .before .before .before .before .before .before .before .before .before .pre .1))
     (λ c κs. search needs)
-    (λ c. record { fits = omega (arith, steps.selected-next (c .before .before .before .before .before .before .before .before .before .before .before .before .before .before .before .before .before .loop .inv) (c .before .before .before .before .before .before .before .before .before .before .before .before .before .before .before .keep-start .ensures) (c .before .before .before .before .before .before .before .before .before .before .before .behind-selector .ensures) (c .before .before .before .before .before .before .before .before .before .action .ensures) (c .before .before .before .before .before .before .before .before .before .before .before .before .before .before .before .before .before .before .before .before .before .before .before .pre .1) .0) })
-    (λ c. steps.selected-keeps (c .before .before .before .before .before .before .before .before .before .before .before .before .before .before .before .before .before .loop .inv) (c .before .before .before .before .before .before .before .before .before .before .before .before .before .before .before .keep-start .ensures) (c .before .before .before .before .before .before .before .before .before .before .before .behind-selector .ensures) (c .before .before .before .before .before .before .before .before .before .action .ensures) (c .before .before .before .before .before .before .before .before .before .before .before .before .before .before .before .before .before .before .before .before .before .before .before .pre .1) .long)
-    (λ c. (steps.selected-keeps (c .before .before .before .before .before .before .before .before .before .before .before .before .before .before .before .before .before .loop .inv) (c .before .before .before .before .before .before .before .before .before .before .before .before .before .before .before .keep-start .ensures) (c .before .before .before .before .before .before .before .before .before .before .before .behind-selector .ensures) (c .before .before .before .before .before .before .before .before .before .action .ensures) (c .before .before .before .before .before .before .before .before .before .before .before .before .before .before .before .before .before .before .before .before .before .before .before .pre .1), steps.selected-ends (c .before .before .before .before .before .before .before .before .before .before .before .before .before .before .before .before .before .loop .inv) (c .before .before .before .before .before .before .before .before .before .before .before .before .before .before .before .keep-start .ensures) (c .before .before .before .before .before .before .before .before .before .before .before .behind-selector .ensures) (c .before .before .before .before .before .before .before .before .before .action .ensures) (c .before .before .before .before .before .before .before .before .before .before .before .before .selected-fault .ensures) (c .before .before .before .before .kind-at .ensures) (c .before .before .before .before .before .earlier2 .ensures ∙ ap (min _) (c .before .before .before .before .before .before .earlier .ensures)) (c .before .before .before .if1 .taken) (c .before .overlap-fault .ensures) (c .earlier3 .ensures)))
-    (λ c. record { fits = omega (arith, steps.selected-next (c .before .before .before .before .before .before .before .before .before .before .before .before .before .before .loop .inv) (c .before .before .before .before .before .before .before .before .before .before .before .before .keep-start .ensures) (c .before .before .before .before .before .before .before .before .behind-selector .ensures) (c .before .before .before .before .before .before .action .ensures) (c .before .before .before .before .before .before .before .before .before .before .before .before .before .before .before .before .before .before .before .before .pre .1) .0) })
-    (λ c. omega (arith, steps.selected-next (c .before .before .before .before .before .before .before .before .before .before .before .before .before .before .loop .inv) (c .before .before .before .before .before .before .before .before .before .before .before .before .keep-start .ensures) (c .before .before .before .before .before .before .before .before .behind-selector .ensures) (c .before .before .before .before .before .before .action .ensures) (c .before .before .before .before .before .before .before .before .before .before .before .before .before .before .before .before .before .before .before .before .pre .1) .0, steps.selected-next (c .before .before .before .before .before .before .before .before .before .before .before .before .before .before .loop .inv) (c .before .before .before .before .before .before .before .before .before .before .before .before .keep-start .ensures) (c .before .before .before .before .before .before .before .before .behind-selector .ensures) (c .before .before .before .before .before .before .action .ensures) (c .before .before .before .before .before .before .before .before .before .before .before .before .before .before .before .before .before .before .before .before .pre .1) .1))
-    (λ c. steps.selected-again (c .before .before .before .before .before .before .before .before .before .before .before .before .before .before .loop .inv) (c .before .before .before .before .before .before .before .before .before .before .before .before .keep-start .ensures) (c .before .before .before .before .before .before .before .before .behind-selector .ensures) (c .before .before .before .before .before .before .action .ensures) (c .before .before .before .before .before .before .before .before .before .selected-fault .ensures) (c .before .kind-at .ensures) (c .before .before .earlier2 .ensures ∙ ap (min _) (c .before .before .before .earlier .ensures)) (c .if1 .left) (c .before .before .before .before .before .before .before .before .before .before .before .before .before .before .before .before .before .before .before .before .pre .1))
+    (λ c. record { fits = omega (arith, steps.selected-next (c .before .before .before .before .before .before .before .before .before .before .before .before .before .before .before .before .before .loop .inv) (c .before .before .before .before .before .before .before .before .before .before .before .before .before .before .before .keep-start .ensures) (c .before .before .before .before .before .before .before .before .before .before .before .behind-selector .ensures) (c .before .before .before .before .before .before .before .before .before .action .ensures) (c .before .before .before .before .before .before .before .before .before .before .before .before .before .before .before .before .before .before .before .before .before .before .pre .1) .0) })
+    (λ c. steps.selected-keeps (c .before .before .before .before .before .before .before .before .before .before .before .before .before .before .before .before .before .loop .inv) (c .before .before .before .before .before .before .before .before .before .before .before .before .before .before .before .keep-start .ensures) (c .before .before .before .before .before .before .before .before .before .before .before .behind-selector .ensures) (c .before .before .before .before .before .before .before .before .before .action .ensures) (c .before .before .before .before .before .before .before .before .before .before .before .before .before .before .before .before .before .before .before .before .before .before .pre .1) .long)
+    (λ c. (steps.selected-keeps (c .before .before .before .before .before .before .before .before .before .before .before .before .before .before .before .before .before .loop .inv) (c .before .before .before .before .before .before .before .before .before .before .before .before .before .before .before .keep-start .ensures) (c .before .before .before .before .before .before .before .before .before .before .before .behind-selector .ensures) (c .before .before .before .before .before .before .before .before .before .action .ensures) (c .before .before .before .before .before .before .before .before .before .before .before .before .before .before .before .before .before .before .before .before .before .before .pre .1), steps.selected-ends (c .before .before .before .before .before .before .before .before .before .before .before .before .before .before .before .before .before .loop .inv) (c .before .before .before .before .before .before .before .before .before .before .before .before .before .before .before .keep-start .ensures) (c .before .before .before .before .before .before .before .before .before .before .before .behind-selector .ensures) (c .before .before .before .before .before .before .before .before .before .action .ensures) (c .before .before .before .before .before .before .before .before .before .before .before .before .selected-fault .ensures) (c .before .before .before .before .kind-at .ensures) (c .before .before .before .before .before .earlier2 .ensures ∙ ap (min _) (c .before .before .before .before .before .before .earlier .ensures)) (c .before .before .before .if1 .taken) (c .before .overlap-fault .ensures) (c .earlier3 .ensures)))
+    (λ c. record { fits = omega (arith, steps.selected-next (c .before .before .before .before .before .before .before .before .before .before .before .before .before .before .loop .inv) (c .before .before .before .before .before .before .before .before .before .before .before .before .keep-start .ensures) (c .before .before .before .before .before .before .before .before .behind-selector .ensures) (c .before .before .before .before .before .before .action .ensures) (c .before .before .before .before .before .before .before .before .before .before .before .before .before .before .before .before .before .before .before .pre .1) .0) })
+    (λ c. omega (arith, steps.selected-next (c .before .before .before .before .before .before .before .before .before .before .before .before .before .before .loop .inv) (c .before .before .before .before .before .before .before .before .before .before .before .before .keep-start .ensures) (c .before .before .before .before .before .before .before .before .behind-selector .ensures) (c .before .before .before .before .before .before .action .ensures) (c .before .before .before .before .before .before .before .before .before .before .before .before .before .before .before .before .before .before .before .pre .1) .0, steps.selected-next (c .before .before .before .before .before .before .before .before .before .before .before .before .before .before .loop .inv) (c .before .before .before .before .before .before .before .before .before .before .before .before .keep-start .ensures) (c .before .before .before .before .before .before .before .before .behind-selector .ensures) (c .before .before .before .before .before .before .action .ensures) (c .before .before .before .before .before .before .before .before .before .before .before .before .before .before .before .before .before .before .before .pre .1) .1))
+    (λ c. steps.selected-again (c .before .before .before .before .before .before .before .before .before .before .before .before .before .before .loop .inv) (c .before .before .before .before .before .before .before .before .before .before .before .before .keep-start .ensures) (c .before .before .before .before .before .before .before .before .behind-selector .ensures) (c .before .before .before .before .before .before .action .ensures) (c .before .before .before .before .before .before .before .before .before .selected-fault .ensures) (c .before .kind-at .ensures) (c .before .before .earlier2 .ensures ∙ ap (min _) (c .before .before .before .earlier .ensures)) (c .if1 .left) (c .before .before .before .before .before .before .before .before .before .before .before .before .before .before .before .before .before .before .before .pre .1))
