@@ -4,7 +4,10 @@ pub mod Reaches
 pub mod Truth
 pub mod Values
 pub mod Exact
+pub mod Summaries
 pub mod Tokens
 pub mod Lists
+pub mod Gathering
+pub mod Kept
 pub mod Alternatives
 pub mod Trees

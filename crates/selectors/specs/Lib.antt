@@ -2,4 +2,6 @@ pub mod Items
 pub mod Stands
 pub mod Overlaps
 pub mod Reaches
+pub mod Summaries
+pub mod Kept
 pub mod Laws

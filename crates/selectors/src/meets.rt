@@ -13,13 +13,13 @@ pub fn patterns_meet(v: u64, f: u64, w: u64, g: u64) -> bool
     (v ^ w) & !f & !g == 0
 }
 
-fn lower(a: u64, b: u64) -> u64
+pub fn lower(a: u64, b: u64) -> u64
     ensures { λ r. ⌜ r ≡ min a b ⌝ }
 {
     if a < b { a } else { b }
 }
 
-fn higher(a: u64, b: u64) -> u64
+pub fn higher(a: u64, b: u64) -> u64
     ensures { λ r. ⌜ r ≡ max a b ⌝ }
 {
     if a < b { b } else { a }

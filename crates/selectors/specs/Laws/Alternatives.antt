@@ -160,6 +160,9 @@ module _ {records values starts : List ℕ} {count : ℕ} where
   pub start-room : AlternativesView records values starts count → (k : ℕ) → k < count → 2 * k + 2 ≤ length starts
   start-room v k l = omega (arith, v .room)
 
+  abbrev pub one-alternative : (v : AlternativesView records values starts count) {k p : ℕ} → k < count → p ≡ cell 2 starts k → AlternativeView records values p
+  one-alternative v {k} l e = record { tokens = v .tokens; held = v .held; items = v .items k; stand = rw e (v .stand k l) }
+
   abbrev pub pair : (v : AlternativesView records values starts count) {j k p q : ℕ} → j < count → k < count → p ≡ cell 2 starts j → q ≡ cell 2 starts k
       → TwoAlternatives records values p q
   pair v {j} {k} a b e f = record {

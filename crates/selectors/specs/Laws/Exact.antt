@@ -45,7 +45,7 @@ bit-common b1 b0 b1 b0 x p q = tt
 bit-common b0 b0 b1 b0 x p q = absurd (omega (arith, eqb→eq 0 x p, eqb→eq 1 x q))
 bit-common b1 b0 b0 b0 x p q = absurd (omega (arith, eqb→eq 1 x p, eqb→eq 0 x q))
 
-below-two : {x : ℕ} → Bit x → x < 2
+pub below-two : {x : ℕ} → Bit x → x < 2
 below-two b0 = omega arith
 below-two b1 = omega arith
 
@@ -69,7 +69,7 @@ patterns-common (suc n) v f w g h =
       },
     )
 
-common-patterns : (n v f w g x : ℕ) → BothAgree n v f w g x → T (patternsMeet n v f w g)
+pub common-patterns : (n v f w g x : ℕ) → BothAgree n v f w g x → T (patternsMeet n v f w g)
 unfolding patternsMeet agree
 common-patterns zero v f w g x c = tt
 common-patterns (suc n) v f w g x c =

@@ -60,17 +60,16 @@ size-positive : {at : ℕ} (r : Range) → at < at + itemSize r
 size-positive single = omega arith
 size-positive (to c l) = omega arith
 
--- A WALK: the answer is that of the items left
-pub record Left (test : Item → Bool) {records values : List ℕ} {q : ℕ} (v : ItemsView records values q) (at : ℕ) : Type 0 where
+-- A WALK: the items that are left
+pub record Rest {records values : List ℕ} {q : ℕ} (v : ItemsView records values q) (at : ℕ) : Type 0 where
   pub left : List Item
   pub stand : ItemsFrom (v .tokens) at left
-  pub same : some test left ≡ some test (v .items)
 
-pub walk-starts : (test : Item → Bool) {records values : List ℕ} {q : ℕ} (v : ItemsView records values q) → Left test v q
-walk-starts test v = record { left = v .items; stand = v .stand; same = refl }
+abbrev pub all-left : {records values : List ℕ} {q : ℕ} (v : ItemsView records values q) → Rest v q
+all-left v = record { left = v .items; stand = v .stand }
 
-module _ {test : Item → Bool} {records values : List ℕ} {q at : ℕ} {v : ItemsView records values q} (l : Left test v at) where
-  abbrev ahead : Front (v .tokens) at (l .left)
+module _ {records values : List ℕ} {q at : ℕ} {v : ItemsView records values q} (l : Rest v at) where
+  abbrev pub ahead : Front (v .tokens) at (l .left)
   ahead = front (l .stand)
 
   abbrev pub item-view : ItemView records values at
@@ -86,10 +85,8 @@ module _ {test : Item → Bool} {records values : List ℕ} {q at : ℕ} {v : It
     next-kind : kindByte records next ≡ kindNo (ahead .stands .next .kind)
     next-kind = kind-here (v .held .holds) next (ahead .stands .next) next-within (rw (seen .is-next) (item-behind (ahead .range) (ahead .stands) .token))
 
-    -- the answer by the item in front and those behind it
-    by-front : some test (v .items) ≡ test (meant item) || some test (ahead .tail)
-    unfolding some
-    by-front = sym (l .same) ∙ ap (some test) (ahead .is) ∙ ap (λ i. test i || some test (ahead .tail)) (sym (seen .is-item))
+    pub in-front : l .left ≡ meant item ∷ ahead .tail
+    in-front = ahead .is ∙ ap (λ i. i ∷ ahead .tail) (sym (seen .is-item))
 
     pub next-room : 8 * next + 8 ≤ length records
     next-room = record-within (v .held .holds) next next-within
@@ -100,29 +97,54 @@ module _ {test : Item → Bool} {records values : List ℕ} {q at : ℕ} {v : It
     pub walks-on : (at < next) × (next < length records)
     walks-on = (rw (seen .is-next) (size-positive (ahead .range)), omega (arith, next-room))
 
-    module _ {r : Bool} (answer : r ≡ test (meant item)) where
-      pub walk-finds : r ≡ true → true ≡ some test (v .items)
-      walk-finds t = sym (by-front ∙ ap (λ b. b || some test (ahead .tail)) (sym answer ∙ t))
+    module _ {k : ℕ} (is-kind : k ≡ kindByte records next) where
+      pub none-left : (k ≡ kindNo Comma → ⊥) → ahead .tail ≡ []
+      none-left n = go (ahead .others)
+        where
+          go : {is : List Item} → Others (v .tokens) (at + itemSize (ahead .range) + 1) (ahead .stands .next .kind) is → is ≡ []
+          go (none-follow _) = refl
+          go (some-follow e _) = absurd (n (is-kind ∙ next-kind ∙ ap kindNo e))
 
-      module _ {k : ℕ} (is-kind : k ≡ kindByte records next) (f : r ≡ false) where
-        passed : some test (v .items) ≡ some test (ahead .tail)
-        passed = by-front ∙ ap (λ b. b || some test (ahead .tail)) (sym answer ∙ f)
+      pub tail-left : k ≡ kindNo Comma → (r : Rest v (next + 1)) × (r .left ≡ ahead .tail)
+      tail-left e = go (ahead .others)
+        where
+          go : {is : List Item} → Others (v .tokens) (at + itemSize (ahead .range) + 1) (ahead .stands .next .kind) is → (r : Rest v (next + 1)) × (r .left ≡ is)
+          go (none-follow n) = absurd (n (sym (kindAt-kindNo _) ∙ ap kindAt (sym next-kind ∙ sym is-kind ∙ e)))
+          go {is} (some-follow _ more) = (record { left = is; stand = rw (seen .is-next) more }, refl)
 
-        pub walk-ends : (k ≡ kindNo Comma → ⊥) → false ≡ some test (v .items)
-        unfolding some
-        walk-ends n = sym (passed ∙ go (ahead .others))
-          where
-            go : {is : List Item} → Others (v .tokens) (at + itemSize (ahead .range) + 1) (ahead .stands .next .kind) is → some test is ≡ false
-            go (none-follow _) = refl
-            go (some-follow e _) = absurd (n (is-kind ∙ next-kind ∙ ap kindNo e))
+-- A SEARCH: the answer is that of the items left
+pub record Left (test : Item → Bool) {records values : List ℕ} {q : ℕ} (v : ItemsView records values q) (at : ℕ) : Type 0 where
+  pub rest : Rest v at
+  pub same : some test (rest .left) ≡ some test (v .items)
 
-        pub walk-goes-on : k ≡ kindNo Comma → Left test v (next + 1)
-        walk-goes-on e = go (ahead .others) passed
-          where
-            go : {is : List Item} → Others (v .tokens) (at + itemSize (ahead .range) + 1) (ahead .stands .next .kind) is
-                → some test (v .items) ≡ some test is → Left test v (next + 1)
-            go (none-follow n) _ = absurd (n (sym (kindAt-kindNo _) ∙ ap kindAt (sym next-kind ∙ sym is-kind ∙ e)))
-            go {is} (some-follow _ more) same = record { left = is; stand = rw (seen .is-next) more; same = sym same }
+pub walk-starts : (test : Item → Bool) {records values : List ℕ} {q : ℕ} (v : ItemsView records values q) → Left test v q
+walk-starts test v = record { rest = all-left v; same = refl }
+
+module _ {test : Item → Bool} {records values : List ℕ} {q at : ℕ} {v : ItemsView records values q} (l : Left test v at) {next : ℕ} {item : code.Item}
+    (read : (u : ItemView records values at) → ItemRead (u .literal) (u .range) at item next) {r : Bool} (answer : r ≡ test (meant item)) where
+  abbrev behind : List Item
+  behind = ahead (l .rest) .tail
+
+  -- the answer by the item in front and those behind it
+  by-front : some test (v .items) ≡ r || some test behind
+  unfolding some
+  by-front = sym (l .same) ∙ ap (some test) (in-front (l .rest) read) ∙ ap (λ b. b || some test behind) (sym answer)
+
+  pub walk-finds : r ≡ true → true ≡ some test (v .items)
+  walk-finds t = sym (by-front ∙ ap (λ b. b || some test behind) t)
+
+  module _ {k : ℕ} (is-kind : k ≡ kindByte records next) (f : r ≡ false) where
+    passed : some test (v .items) ≡ some test behind
+    passed = by-front ∙ ap (λ b. b || some test behind) f
+
+    pub walk-ends : (k ≡ kindNo Comma → ⊥) → false ≡ some test (v .items)
+    unfolding some
+    walk-ends n = sym (passed ∙ ap (some test) (none-left (l .rest) read is-kind n))
+
+    pub walk-goes-on : k ≡ kindNo Comma → Left test v (next + 1)
+    walk-goes-on e =
+        let on = tail-left (l .rest) read is-kind e in
+        record { rest = on .0; same = ap (some test) (on .1) ∙ sym passed }
 
 -- one of two lists
 module _ {records values : List ℕ} {p q : ℕ} (v : TwoLists records values p q) where

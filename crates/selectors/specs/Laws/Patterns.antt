@@ -52,13 +52,13 @@ mask-bit : (n f : ℕ) → f < 2 ^ suc n → (2 ^ suc n - 1 - f) % 2 ≡ 1 - f %
 mask-bit n f h = omega (arith, pow-succ' 2 n)
 
 -- the operations on halves and on lowest bits
-half : (x q b : ℕ) → x ≡ q * 2 + b → b < 2 → x / 2 ≡ q
+pub half : (x q b : ℕ) → x ≡ q * 2 + b → b < 2 → x / 2 ≡ q
 half x q b e h = omega arith
 
-odd : (x q b : ℕ) → x ≡ q * 2 + b → b < 2 → x % 2 ≡ b
+pub odd : (x q b : ℕ) → x ≡ q * 2 + b → b < 2 → x % 2 ≡ b
 odd x q b e h = omega arith
 
-differ-bit : {x y : ℕ} → Bit x → Bit y → differ x y < 2
+pub differ-bit : {x y : ℕ} → Bit x → Bit y → differ x y < 2
 differ-bit b0 b0 = omega arith
 differ-bit b0 b1 = omega arith
 differ-bit b1 b0 = omega arith
@@ -70,10 +70,10 @@ and-half a b = half _ _ _ (and-step a b) (omega arith)
 and-bit : (a b : ℕ) → bitAnd a b % 2 ≡ min (a % 2) (b % 2)
 and-bit a b = odd _ _ _ (and-step a b) (omega arith)
 
-xor-half : (a b : ℕ) → bitXor a b / 2 ≡ bitXor (a / 2) (b / 2)
+pub xor-half : (a b : ℕ) → bitXor a b / 2 ≡ bitXor (a / 2) (b / 2)
 xor-half a b = half _ _ _ (xor-step a b) (differ-bit (lowest-bit a) (lowest-bit b))
 
-xor-bit : (a b : ℕ) → bitXor a b % 2 ≡ differ (a % 2) (b % 2)
+pub xor-bit : (a b : ℕ) → bitXor a b % 2 ≡ differ (a % 2) (b % 2)
 xor-bit a b = odd _ _ _ (xor-step a b) (differ-bit (lowest-bit a) (lowest-bit b))
 
 apart-step : (n v f w g : ℕ) → f < 2 ^ suc n → g < 2 ^ suc n

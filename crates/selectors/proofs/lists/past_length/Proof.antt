@@ -24,16 +24,16 @@ past-length-spec =
     Inv-loop
     μ-loop
     (λ c v. walk-starts _ v)
-    (λ c κs. item-view (c .loop .inv (c .before .before .before .pre .1)))
-    (λ c κs. let v = c .before .before .before .before .pre in (v .0, item-fits (c .before .loop .inv (v .1)) (c .item-at .ensures)))
+    (λ c κs. item-view (c .loop .inv (c .before .before .before .pre .1) .rest))
+    (λ c κs. let v = c .before .before .before .before .pre in (v .0, item-fits (c .before .loop .inv (v .1) .rest) (c .item-at .ensures)))
     (λ c v. walk-finds (c .before .before .before .loop .inv v) (c .before .before .item-at .ensures) (c .before .past .ensures) (c .if1 .taken) ∙ some-past _ _)
-    (λ c κs. next-room (c .before .before .before .loop .inv (c .before .before .before .before .before .before .pre .1)) (c .before .before .item-at .ensures))
+    (λ c κs. next-room (c .before .before .before .loop .inv (c .before .before .before .before .before .before .pre .1) .rest) (c .before .before .item-at .ensures))
     (λ c v.
     walk-ends (c .before .before .before .before .before .loop .inv v) (c .before .before .before .before .item-at .ensures) (c .before .before .before .past .ensures)
     (c .before .kind-at .ensures) (c .before .before .if1 .left) (c .if2 .taken)
     ∙ some-past _ _)
-    (λ c. omega (arith, walks-on (c .before .before .before .before .before .loop .inv (c .before .before .before .before .before .before .before .before .pre .1)) (c .before .before .before .before .item-at .ensures)))
-    (λ c. omega (arith, walks-on (c .before .before .before .before .before .loop .inv (c .before .before .before .before .before .before .before .before .pre .1)) (c .before .before .before .before .item-at .ensures)))
+    (λ c. omega (arith, walks-on (c .before .before .before .before .before .loop .inv (c .before .before .before .before .before .before .before .before .pre .1) .rest) (c .before .before .before .before .item-at .ensures)))
+    (λ c. omega (arith, walks-on (c .before .before .before .before .before .loop .inv (c .before .before .before .before .before .before .before .before .pre .1) .rest) (c .before .before .before .before .item-at .ensures)))
     (λ c v.
     walk-goes-on (c .before .before .before .before .before .loop .inv v) (c .before .before .before .before .item-at .ensures) (c .before .before .before .past .ensures)
     (c .before .kind-at .ensures) (c .before .before .if1 .left) (c .if2 .left)))
