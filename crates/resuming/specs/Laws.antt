@@ -1,6 +1,5 @@
 -- The laws of resuming.
-pub mod Bytes
-pub mod Names
+pub mod Outputs
 pub mod Mains
 pub mod Near
 pub mod Asked

@@ -1,4 +1,3 @@
-pub mod Names
 pub mod Asked
 pub mod Told
 pub mod Laws

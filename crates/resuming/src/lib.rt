@@ -1,6 +1,6 @@
 // The resume profile: whether a description writes its output before its test has ended.
 mod mains;
-mod names;
+mod outputs;
 mod profiles;
 
 use crate::profiles::profiled;

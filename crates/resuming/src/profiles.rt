@@ -1,11 +1,11 @@
 // The profile of a text, with its working memory.
 use crate::mains::main_number;
-use crate::names::output_number;
-use crate::names::test_number;
+use crate::outputs::output_number;
 use cells::get16;
 use lent::answers::Answer;
 use lent::answers::refusal;
 use lent::answers::unrefused;
+use naming::names::test_number;
 use profiling::rounds::UNSEEN;
 use profiling::rounds::rounds;
 use profiling::tasks::Task;

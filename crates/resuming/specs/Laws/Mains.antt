@@ -26,7 +26,7 @@ use Rattle.reading.specs.Meanings.{declares}
 use Rattle.reading.specs.Laws.Reading.{kinded}
 use Rattle.reading.specs.Laws.Meanings.{view, table-size, means-number, means-nothing}
 use Rattle.chains.specs.Laws.Least.{name-there}
-use Rattle.resuming.specs.Laws.Names.{split-at}
+use Rattle.naming.specs.Laws.Names.{split-at}
 
 -- a declared name has a number
 has-number : (i : ℕ) (ds : Table) (k : ℕ) (d : Declared) → getElem? ds k ≡ some d → numberFrom i (d .name .word) ds ≡ none → ⊥

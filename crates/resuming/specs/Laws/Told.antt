@@ -32,10 +32,10 @@ use Rattle.reader.specs.Judged.{Accepts, described-by, table-by}
 use Rattle.reading.specs.Laws.Names.{number-bound}
 use Rattle.reading.specs.Laws.Meanings.{table-size}
 use Rattle.whole.specs.Laws.Written.{reading}
-use Rattle.resuming.specs.Names.{Test, Output}
+use Rattle.naming.specs.Names.{Test, Output}
 use Rattle.resuming.specs.Asked.{Asked, Lowest}
 use Rattle.resuming.specs.Told.{Told}
-use Rattle.resuming.specs.Laws.Names.{written-by}
+use Rattle.resuming.specs.Laws.Outputs.{written-by}
 use Rattle.resuming.specs.Laws.Near.{places-under, written-near}
 
 -- the profile, by what the names mean

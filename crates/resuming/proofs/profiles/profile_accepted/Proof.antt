@@ -1,7 +1,7 @@
 -- `resuming::profiles::profile_accepted` meets its contract: 90, then 91, then by the lowest place.
 -- Assumes nothing.
 use borrow.Author.Needs.{needs}
-use Rattle.resuming.specs.Laws.Names.{written-by}
+use Rattle.resuming.specs.Laws.Outputs.{written-by}
 use Rattle.resuming.specs.Laws.Told.{no-test, no-output, to-ask, too-early, in-time}
 use Rattle.resuming.proofs.profiles.profile_accepted.Statement.{statement}
 use Rattle.resuming.proofs.profiles.profile_accepted.Tie as tie

@@ -1,9 +1,9 @@
--- `resuming::names::is_storage` meets its contract: a mapping first, then by the bits.
+-- `naming::names::is_storage` meets its contract: a mapping first, then by the bits.
 -- Assumes nothing.
 use borrow.Author.Needs.{needs}
-use Rattle.resuming.specs.Laws.Names.{mapping-stores-not, bitless-stores-not, unnamed-stores, named-stores}
-use Rattle.resuming.proofs.names.is_storage.Statement.{statement}
-use Rattle.resuming.proofs.names.is_storage.Tie as tie
+use Rattle.naming.specs.Laws.Names.{mapping-stores-not, bitless-stores-not, unnamed-stores, named-stores}
+use Rattle.naming.proofs.names.is_storage.Statement.{statement}
+use Rattle.naming.proofs.names.is_storage.Tie as tie
 
 pub is-storage-spec : {M : Type 1} → statement M
 is-storage-spec =

@@ -1,10 +1,10 @@
--- `resuming::names::test_number` meets its contract: a name that is not declared, or has no body, is no test.
+-- `naming::names::test_number` meets its contract: a name that is not declared, or has no body, is no test.
 -- Assumes nothing.
 use borrow.Author.Needs.{needs}
 use Rattle.whole.specs.Laws.Written.{reading}
-use Rattle.resuming.specs.Laws.Names.{number-within, no-such-test, bodiless-test, test-there}
-use Rattle.resuming.proofs.names.test_number.Statement.{statement}
-use Rattle.resuming.proofs.names.test_number.Tie as tie
+use Rattle.naming.specs.Laws.Names.{number-within, no-such-test, bodiless-test, test-there}
+use Rattle.naming.proofs.names.test_number.Statement.{statement}
+use Rattle.naming.proofs.names.test_number.Tie as tie
 
 pub test-number-spec : {M : Type 1} → statement M
 test-number-spec =

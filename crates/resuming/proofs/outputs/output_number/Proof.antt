@@ -1,9 +1,10 @@
--- `resuming::names::output_number` meets its contract: a name that is not declared, or means no storage, is no output.
+-- `resuming::outputs::output_number` meets its contract: a name that is not declared, or means no storage, is no output.
 -- Assumes nothing.
 use borrow.Author.Needs.{needs}
-use Rattle.resuming.specs.Laws.Names.{written-by, cell-within, number-within, no-such-output, view-of, storage-of, output-there, output-other}
-use Rattle.resuming.proofs.names.output_number.Statement.{statement}
-use Rattle.resuming.proofs.names.output_number.Tie as tie
+use Rattle.naming.specs.Laws.Names.{cell-within, number-within, no-such-output, output-there, output-other}
+use Rattle.resuming.specs.Laws.Outputs.{written-by, view-of, storage-of}
+use Rattle.resuming.proofs.outputs.output_number.Statement.{statement}
+use Rattle.resuming.proofs.outputs.output_number.Tie as tie
 
 get16-requires : tie.Need-get16-requires
 get16-requires c κs =

@@ -1,10 +1,10 @@
--- `resuming::names::is_name` meets its contract: what is left of the word and of the name is the same iff the two are.
+-- `naming::names::is_name` meets its contract: what is left of the word and of the name is the same iff the two are.
 -- Assumes nothing.
 use borrow.Author.Needs.{needs}
 use Prim.Native.Nat.{_-_}
-use Rattle.resuming.specs.Laws.Bytes.{other-length, Comparing, none-compared, one-differs, one-same, all-same}
-use Rattle.resuming.proofs.names.is_name.Statement.{statement}
-use Rattle.resuming.proofs.names.is_name.Tie as tie
+use Rattle.naming.specs.Laws.Bytes.{other-length, Comparing, none-compared, one-differs, one-same, all-same}
+use Rattle.naming.proofs.names.is_name.Statement.{statement}
+use Rattle.naming.proofs.names.is_name.Tie as tie
 
 abbrev Inv-loop : tie.InvT-loop
 Inv-loop text p n name k₀ k = Comparing text name p n k

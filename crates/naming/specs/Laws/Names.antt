@@ -1,7 +1,7 @@
 -- Laws of what the lent names mean.
 -- Assumes nothing.
 use Prim.Native.Nat.{ℕ, zero, suc, _+_, _*_, _<_, _≤_}
-use mathlib.Core.Path.{_≡_, refl, sym, ap, _∙_, subst}
+use mathlib.Core.Path.{_≡_, refl, sym, ap, _∙_}
 use mathlib.Core.Bool.{Bool, true, false}
 use mathlib.Core.List.{List, [], _∷_}
 use mathlib.Core.Option.{Option, none, some, Option·none-ne-some}
@@ -10,7 +10,7 @@ use native.Mathlib.Numerals.{add-one}
 use lib.ListN.{length, drop, getElem?, drop-of-length-le}
 use Rattle.cells.specs.Cells.{cell}
 use Rattle.rules.specs.Text.Tokens.{Token}
-use Rattle.rules.specs.Text.Scan.{scan, sameBytes}
+use Rattle.rules.specs.Text.Scan.{sameBytes}
 use Rattle.rules.specs.Grammar.Trees.{Action}
 use Rattle.rules.specs.Declarations.{Name as Word, BitNames, one-unnamed, these, Target, Declared, declaredOf, Table, numberFrom, numberOf, bodyNumber, bodyOf}
 use Rattle.rules.specs.Paths.{folded, storageOf, storageAt, ifDeclared, ifStorage}
@@ -23,24 +23,13 @@ use Rattle.table.specs.Shown.{shownBits}
 use Rattle.table.specs.declared.views.Names.{Names}
 use Rattle.table.specs.declared.views.Names.the-variants.{Missing, Unnamed, Span}
 use Rattle.reading.specs.Meanings.{declares}
-use Rattle.reading.specs.Laws.Meanings.{view, table-size}
+use Rattle.reading.specs.Laws.Meanings.{table-size}
 use Rattle.reading.specs.Laws.Names.{number-bound}
 use Rattle.reading.specs.Bodies.{Body}
 use Rattle.chains.specs.Laws.Least.{name-there}
 use Rattle.whole.specs.Written.{Written, whole}
 use Rattle.whole.specs.Laws.Written.{reading}
-use Rattle.reader.specs.Judged.{Accepts, described-by, table-by}
-use Rattle.resuming.specs.Names.{hasStorage, isStorage, Test, Output}
-
--- an accepted description, as it is written in the table
-abbrev pub written-by : {text records values decls : List ℕ} {m words n : ℕ} → Accepts text records values decls m words n → Written text records decls m n
-written-by {text} {values = values} v = record {
-  values = values;
-  tokens = scan text .tokens;
-  description = described-by v;
-  ready = v .lawful .declares .ready;
-  count = v .lawful .declares .count;
-}
+use Rattle.naming.specs.Names.{hasStorage, isStorage, Test, Output}
 
 -- a list from its k-th on
 pub split-at : (ds : Table) (k : ℕ) (d : Declared) → getElem? ds k ≡ some d → drop k ds ≡ d ∷ drop (suc k) ds
@@ -176,16 +165,6 @@ module _ {text records decls : List ℕ} {m n : ℕ} (v : Written text records d
       missing = λ q. its-storage ∙ ap {B = Option ℕ} (λ (y : Bool). elim y [ true ↦ some r | false ↦ none ]) t;
       there = λ q. absurd (q refl);
     }
-
--- the declaration k of an accepted description, whose name is the token p
-module _ {text records values decls : List ℕ} {m words n : ℕ} (v : Accepts text records values decls m words n) {k p : ℕ} (l : k < m) (e : p ≡ cell 2 decls k) where
-  pub view-of : View records values p
-  view-of = subst (λ (x : ℕ). View records values x) (sym e) (view (reading (written-by v)) k l)
-
-  pub storage-of : {b : Bool} → ((w : View records values p) → b ≡ isStorage (declaredOf (w .declaration)))
-      → b ≡ isStorage (declaredOf (declares (reading (written-by v)) k l .declaration))
-  storage-of {b} is =
-      subst (λ (x : ℕ). (w : View records values x) → b ≡ isStorage (declaredOf (w .declaration))) e is (view (reading (written-by v)) k l)
 
 -- a declaration that is storage or not, as the table shows it
 module _ {records values : List ℕ} {p t : ℕ} (is : (values : List ℕ) (v : View records values p) → TargetAt (v .tokens) t (declaredOf (v .declaration) .target)) where

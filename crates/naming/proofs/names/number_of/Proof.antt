@@ -1,10 +1,10 @@
--- `resuming::names::number_of` meets its contract: none of the declarations passed has the name.
+-- `naming::names::number_of` meets its contract: none of the declarations passed has the name.
 -- Assumes nothing.
 use borrow.Author.Needs.{needs}
 use Prim.Native.Nat.{_-_}
-use Rattle.resuming.specs.Laws.Names.{cell-within, record-room, word-room, Seeking, none-sought, sought-here, sought-on, sought-all}
-use Rattle.resuming.proofs.names.number_of.Statement.{statement}
-use Rattle.resuming.proofs.names.number_of.Tie as tie
+use Rattle.naming.specs.Laws.Names.{cell-within, record-room, word-room, Seeking, none-sought, sought-here, sought-on, sought-all}
+use Rattle.naming.proofs.names.number_of.Statement.{statement}
+use Rattle.naming.proofs.names.number_of.Tie as tie
 
 abbrev Inv-loop : tie.InvT-loop
 Inv-loop text records decls m n name k₀ k = Seeking text records decls name m n k

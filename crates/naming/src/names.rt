@@ -8,7 +8,7 @@ use table::views::bits_of;
 use table::views::target_of;
 use table::words::upper;
 ghost use mathlib.Core.Path.{_≡_};
-ghost use Prim.Native.Nat.{ℕ, _+_, _≤_};
+ghost use Prim.Native.Nat.{_+_, _≤_};
 ghost use lib.Dec.{eqb};
 ghost use lib.ListN.{length};
 ghost use Rattle.rules.specs.Text.Bytes.{fold};
@@ -19,8 +19,7 @@ ghost use Rattle.table.specs.Holds.{foldedAt};
 ghost use Rattle.table.specs.Lookups.{orElse};
 ghost use Rattle.table.specs.Views.{View};
 ghost use Rattle.whole.specs.Written.{Written, whole};
-ghost use Rattle.reader.specs.Judged.{Accepts, table-by};
-ghost use Rattle.resuming.specs.Names.{isStorage, Test, Output};
+ghost use Rattle.naming.specs.Names.{isStorage, Test};
 
 // Whether two bytes are the same but for the case of letters.
 fn same_letter(x: u8, y: u8) -> bool
@@ -50,7 +49,14 @@ fn is_name(text: &[u8], p: usize, n: usize, name: &[u8]) -> bool
 }
 
 // The number of the first of the m declarations that has a lent name, or m.
-fn number_of(text: &[u8], records: &[u8], decls: &[u8], m: usize, n: usize, name: &[u8]) -> usize
+pub fn number_of(
+    text: &[u8],
+    records: &[u8],
+    decls: &[u8],
+    m: usize,
+    n: usize,
+    name: &[u8],
+) -> usize
     requires { ⌜ Written (now text) (now records) (now decls) m n ⌝ }
     ensures { λ r. ⌜ ((v : Written (now (text .entry)) (now (records .entry)) (now (decls .entry)) m n) → r ≡ orElse m (numberOf (whole v) (folded (now (name .entry))))) ⌝ }
 {
@@ -67,7 +73,7 @@ fn number_of(text: &[u8], records: &[u8], decls: &[u8], m: usize, n: usize, name
 }
 
 // Whether the declaration whose name is the token p is a storage carrier: it has bits, and is no mapping.
-fn is_storage(records: &[u8], values: &[u8], p: usize) -> bool
+pub fn is_storage(records: &[u8], values: &[u8], p: usize) -> bool
     requires { ⌜ View (now records) (now values) p ⌝ }
     ensures { λ r. ⌜ ((v : View (now (records .entry)) (now (values .entry)) p) → r ≡ isStorage (declaredOf (v .declaration))) ⌝ }
 {
@@ -101,29 +107,4 @@ pub fn test_number(
         return m;
     }
     k
-}
-
-// The number of the storage carrier that a lent name means, or m.
-pub fn output_number(
-    text: &[u8],
-    records: &[u8],
-    values: &[u8],
-    decls: &[u8],
-    m: usize,
-    n: usize,
-    output: &[u8],
-) -> usize
-    requires { ⌜ ((words : ℕ) × Accepts (now text) (now records) (now values) (now decls) m words n) ⌝ }
-    ensures { λ r. ⌜ ((words : ℕ) (v : Accepts (now (text .entry)) (now (records .entry)) (now (values .entry)) (now (decls .entry)) m words n)
-        → Output (table-by v) (folded (now (output .entry))) m r) ⌝ }
-{
-    let k = number_of(text, records, decls, m, n, output);
-    if k == m {
-        return m;
-    }
-    let p = get16(decls, k) as usize;
-    if is_storage(records, values, p) {
-        return k;
-    }
-    m
 }

@@ -1,0 +1,3 @@
+-- The laws of lent names.
+pub mod Bytes
+pub mod Names
