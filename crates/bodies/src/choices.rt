@@ -1,6 +1,7 @@
 // The alternatives of one DECODE, each by itself and against the others: 45.
 use cells::get16;
 use cells::put16;
+use rules::limits::MOST_ALTERNATIVES;
 use selectors::alternatives;
 use selectors::alternatives::first_overlap;
 use selectors::items;
@@ -21,6 +22,7 @@ ghost use lib.ListN.{length};
 ghost use Rattle.rules.specs.Selectors.{between};
 ghost use Rattle.rules.specs.Faults.Fault.{when};
 ghost use Rattle.rules.specs.Faults.Bodies as rules;
+ghost use Rattle.rules.specs.Limits.{mostAlternatives};
 ghost use Rattle.selectors.specs.Stands.{AlternativeView};
 ghost use Rattle.table.specs.Holds.{placeCell};
 ghost use Rattle.table.specs.Keys.{leastKey};
@@ -30,9 +32,9 @@ ghost use Rattle.bodies.specs.Choices.{withStart, StartsView, OverlapAns
 // 45 for an alternative behind `number` others, where it is the 65th or a later one, or past the tested length.
 fn choice_fault(records: &[u8], at: usize, number: usize, past: bool) -> u32
     requires { ⌜ (8 * at + 8 ≤ length (now records)) × (placeCell (now records) at ≤ 32768) ⌝ }
-    ensures { λ r. ⌜ r ≡ leastKey (when (leb 64 number || past) 45 (placeCell (now (records .entry)) at)) ⌝ }
+    ensures { λ r. ⌜ r ≡ leastKey (when (leb mostAlternatives number || past) 45 (placeCell (now (records .entry)) at)) ⌝ }
 {
-    if (64 <= number) | past {
+    if (MOST_ALTERNATIVES <= number) | past {
         return fault_key(45, place_at(records, at));
     }
     NO_KEY
@@ -41,7 +43,7 @@ fn choice_fault(records: &[u8], at: usize, number: usize, past: bool) -> u32
 // An alternative without a selector: its number is its only value.
 pub fn counted_fault(records: &[u8], at: usize, number: usize, bits: u32) -> u32
     requires { ⌜ (8 * at + 8 ≤ length (now records)) × (placeCell (now records) at ≤ 32768) × (bits ≤ 64) ⌝ }
-    ensures { λ r. ⌜ r ≡ leastKey (when (leb 64 number || rules.past bits (between number number ∷ [])) 45 (placeCell (now (records .entry)) at)) ⌝ }
+    ensures { λ r. ⌜ r ≡ leastKey (when (leb mostAlternatives number || rules.past bits (between number number ∷ [])) 45 (placeCell (now (records .entry)) at)) ⌝ }
 {
     let value = number as u64;
     choice_fault(
@@ -56,7 +58,7 @@ pub fn counted_fault(records: &[u8], at: usize, number: usize, bits: u32) -> u32
 pub fn selected_fault(records: &[u8], values: &[u8], at: usize, number: usize, bits: u32) -> u32
     requires { ⌜ (8 * at + 8 ≤ length (now records)) × (placeCell (now records) at ≤ 32768) × (bits ≤ 64) × AlternativeView (now records) (now values) at ⌝ }
     ensures { λ r. ⌜ ((v : AlternativeView (now (records .entry)) (now (values .entry)) at)
-        → r ≡ leastKey (when (leb 64 number || rules.past bits (v .items)) 45 (placeCell (now (records .entry)) at))) ⌝ }
+        → r ≡ leastKey (when (leb mostAlternatives number || rules.past bits (v .items)) 45 (placeCell (now (records .entry)) at))) ⌝ }
 {
     choice_fault(
         records,

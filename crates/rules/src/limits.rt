@@ -16,6 +16,8 @@ pub const MOST_DECLARATIONS: usize = 256;
 
 pub const MOST_WORDS: usize = 4096;
 
+pub const MOST_ALTERNATIVES: usize = 64;
+
 pub const LONGEST_CHAIN: usize = 16;
 
 pub fn longest_text() -> usize
@@ -58,6 +60,12 @@ pub fn most_words() -> usize
     ensures { λ r. ⌜ r ≡ limits.mostWords ⌝ }
 {
     MOST_WORDS
+}
+
+pub fn most_alternatives() -> usize
+    ensures { λ r. ⌜ r ≡ limits.mostAlternatives ⌝ }
+{
+    MOST_ALTERNATIVES
 }
 
 pub fn longest_chain() -> usize
