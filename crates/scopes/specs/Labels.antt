@@ -13,6 +13,7 @@ use Rattle.rules.specs.Faults.Whole.{Scope}
 use Rattle.table.specs.Holds.{kindByte, tokenAt, Holds}
 use Rattle.table.specs.Words.{wordAt}
 use Rattle.table.specs.Keys.{leastNumberKey}
+use Rattle.scopes.specs.Hints.{scopesEnd}
 use Rattle.scopes.specs.Walks.{labelling, jumpAt}
 
 -- n tokens with their words
@@ -46,7 +47,7 @@ pub record JumpKey (text records labels : List ℕ) (n i base top r : ℕ) : Typ
 pub record Pushed (text records old new : List ℕ) (n i base top r : ℕ) : Type 0 where
   pub low : top ≤ r
   pub high : r ≤ top + 1
-  pub kept : (j : ℕ) → (j ≡ top → ⊥) → cell 2 new j ≡ cell 2 old j
+  pub kept : (j : ℕ) → j < scopesEnd → (j ≡ top → ⊥) → cell 2 new j ≡ cell 2 old j
   pub labelled : Labelled records old n top → Labelled records new n r
   pub scope : (v : Worded text records n) (s : Scope) → Scoped (v .tokens) old base top s → Scoped (v .tokens) new base r
       (labelling (tokenAt (v .tokens) (i - 1)) s)

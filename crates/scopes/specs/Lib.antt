@@ -1,4 +1,5 @@
 pub mod Frames
+pub mod Hints
 pub mod Labels
 pub mod Laws
 pub mod Walks

@@ -1,4 +1,6 @@
 // The labels around a token, kept as a stack of their tokens' numbers in lent bytes.
+use crate::hints::hint;
+use crate::hints::put_hint;
 use cells::get16;
 use cells::put16;
 use reading::kinds::kind_of;
@@ -11,16 +13,43 @@ use table::records::kind_at;
 use table::records::place_at;
 use table::words::same_word;
 ghost use mathlib.Core.Path.{_≡_};
+ghost use mathlib.Core.Bool.{true};
 ghost use Prim.Native.Nat.{_+_, _-_, _*_, _<_, _≤_};
 ghost use lib.ListN.{length};
 ghost use Rattle.rules.specs.Faults.Declared.{isKnown};
 ghost use Rattle.table.specs.Holds.{kindByte};
 ghost use Rattle.table.specs.Words.{wordAt};
 ghost use Rattle.scopes.specs.Walks.{jumps};
+ghost use Rattle.scopes.specs.Hints.{scopesEnd};
 ghost use Rattle.scopes.specs.Labels.{Worded, Labelled, JumpKey, Pushed, namesFrom};
 
-// Whether the name has the word of a label from base up to top.
-fn among(
+// Whether the hint for the name leads to a label from base up to top that has its word.
+fn hinted(
+    text: &[u8],
+    records: &[u8],
+    labels: &[u8],
+    n: usize,
+    base: usize,
+    top: usize,
+    name: usize,
+) -> bool
+    requires { ⌜ Worded (now text) (now records) n × (Labelled (now records) (now labels) n top × ((base ≤ top) × ((name < n) × (kindByte (now records) name ≡ 0)))) ⌝ }
+    ensures { λ r. ⌜ ((v : Worded (now (text .entry)) (now (records .entry)) n) → r ≡ true
+        → isKnown (wordAt (v .tokens) name) (namesFrom (v .tokens) (now (labels .entry)) base (top - base)) ≡ true) ⌝ }
+{
+    let k = hint(records, labels, name);
+    if k < base {
+        return false;
+    }
+    if top <= k {
+        return false;
+    }
+    let label = get16(labels, k) as usize;
+    same_word(text, records, label, name)
+}
+
+// Whether the name has the word of a label from base up to top: each is looked at, from the last down.
+fn listed(
     text: &[u8],
     records: &[u8],
     labels: &[u8],
@@ -42,6 +71,26 @@ fn among(
         }
     }
     false
+}
+
+// Whether the name has the word of a label from base up to top. A label that is found where the hint leads spares the search.
+fn among(
+    text: &[u8],
+    records: &[u8],
+    labels: &[u8],
+    n: usize,
+    base: usize,
+    top: usize,
+    name: usize,
+) -> bool
+    requires { ⌜ Worded (now text) (now records) n × (Labelled (now records) (now labels) n top × ((base ≤ top) × ((name < n) × (kindByte (now records) name ≡ 0)))) ⌝ }
+    ensures { λ r. ⌜ ((v : Worded (now (text .entry)) (now (records .entry)) n)
+        → r ≡ isKnown (wordAt (v .tokens) name) (namesFrom (v .tokens) (now (labels .entry)) base (top - base))) ⌝ }
+{
+    if hinted(text, records, labels, n, base, top, name) {
+        return true;
+    }
+    listed(text, records, labels, n, base, top, name)
 }
 
 // Whether it is LEAVE or RESTART.
@@ -94,7 +143,7 @@ pub fn push_label(
     base: usize,
     top: usize,
 ) -> usize
-    requires { ⌜ Worded (now text) (now records) n × ((i < n) × ((1 ≤ i) × (2 * top + 2 ≤ length (now labels)))) ⌝ }
+    requires { ⌜ Worded (now text) (now records) n × ((i < n) × ((1 ≤ i) × ((top < scopesEnd) × (2 * top + 2 ≤ length (now labels))))) ⌝ }
     ensures { λ r. ⌜ Pushed (now (text .entry)) (now (records .entry)) (now (labels .entry)) (now (labels .exit)) n i base top r ⌝ }
 {
     if top < base {
@@ -104,5 +153,6 @@ pub fn push_label(
         return top;
     }
     put16(labels, top, (i - 1) as u16);
+    put_hint(records, labels, i - 1, top);
     top + 1
 }

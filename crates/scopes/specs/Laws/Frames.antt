@@ -19,16 +19,17 @@ use Rattle.reading.specs.Laws.Reading.{next-token}
 use Rattle.reading.specs.Groups.{more}
 use Rattle.scopes.specs.Walks.{around, outside, lastOpen, labelling, walk, faultsAt}
 use Rattle.scopes.specs.Laws.Walks.{walk-begin, walk-end, walk-semi, walk-next, walk-comma, walk-becomes, walk-other}
+use Rattle.scopes.specs.Hints.{scopesEnd}
 use Rattle.scopes.specs.Labels.{Worded, Labelled, Scoped, namesFrom, Pushed}
 use Rattle.scopes.specs.Laws.Labels.{by-kinds, scope-kept, put-elsewhere}
 use Rattle.scopes.specs.Frames.{frameAt, Frames, no-frames, frame, FramePushed, Surrounding, Turning, Opened, GroupBase, Followed, NextGroup, Stack, Turned, Standing, Onward}
 
 frames-kept : {ts : Tokens} {old new : List ℕ} {depth limit : ℕ} {σ : List Scope} → depth ≤ 8192 → ((j : ℕ) → j < limit → cell 2 new j ≡ cell 2 old j)
-    → ((j : ℕ) → frameAt depth ≤ j → cell 2 new j ≡ cell 2 old j) → Frames ts old depth limit σ → Frames ts new depth limit σ
+    → ((j : ℕ) → frameAt depth ≤ j → j < scopesEnd → cell 2 new j ≡ cell 2 old j) → Frames ts old depth limit σ → Frames ts new depth limit σ
 frames-kept l low high no-frames = no-frames
 frames-kept l low high (frame {depth} {limit} {base} {top} b t h e s f) =
-    frame (high (frameAt (suc depth)) (omega arith) ∙ b) (high (frameAt (suc depth) + 1) (omega arith) ∙ t) h e (scope-kept limit h low s)
-    (frames-kept (omega arith) (λ j x. low j (omega arith)) (λ j x. high j (omega arith)) f)
+    frame (high (frameAt (suc depth)) (omega arith) (omega arith) ∙ b) (high (frameAt (suc depth) + 1) (omega arith) (omega arith) ∙ t) h e (scope-kept limit h low s)
+    (frames-kept (omega arith) (λ j x. low j (omega arith)) (λ j x y. high j (omega arith) y) f)
 
 frames-under : {ts : Tokens} {labels : List ℕ} {depth limit new : ℕ} {σ : List Scope} → limit ≤ new → Frames ts labels depth limit σ
     → Frames ts labels depth new σ
@@ -102,8 +103,8 @@ module _ {text records labels : List ℕ} {n i kind depth base top : ℕ} (x : T
   pub to-open : Kinded records n × ((i < n) × ((32768 ≤ length labels) × ((depth < 8192) × ((base < 65536) × (top < 65536)))))
   to-open = (by-kinds (x .worded), (x .within, (x .stack .space, (omega (arith, x .few), (omega (arith, x .few, x .stack .edge), omega (arith, x .few))))))
 
-  pub to-push : Worded text records n × ((i < n) × ((1 ≤ i) × (2 * top + 2 ≤ length labels)))
-  to-push = (x .worded, (x .within, (x .later, omega (arith, x .stack .space, x .few))))
+  pub to-push : Worded text records n × ((i < n) × ((1 ≤ i) × ((top < scopesEnd) × (2 * top + 2 ≤ length labels))))
+  to-push = (x .worded, (x .within, (x .later, (omega (arith, x .few), omega (arith, x .stack .space, x .few)))))
 
 module _ {records : List ℕ} {n i : ℕ} {b : Bool} (tells : (v : Kinded records n) → b ≡ more (drop (i + 1) (v .tokens))) where
   pub opened-more : {old new : List ℕ} {depth base top : ℕ} → FramePushed old new depth base top → b ≡ true → Opened records old new n i depth base top
@@ -277,7 +278,7 @@ module _ {text records old : List ℕ} {n i kind depth base top : ℕ} (x : Turn
           frame {limit = top} (ap (cell 2 new) at ∙ o .pushed .base-there) (ap (λ (y : ℕ). cell 2 new (y + 1)) at ∙ o .pushed .top-there) (omega arith)
           (x .stack .edge)
           (scope-kept top (omega arith) below (z .scoped))
-          (frames-kept (omega (arith, x .few)) below (λ j h. o .pushed .kept j (λ y. omega (arith, x .few)) (λ y. omega (arith, x .few))) (z .frames))
+          (frames-kept (omega (arith, x .few)) below (λ j h l. o .pushed .kept j (λ y. omega (arith, x .few)) (λ y. omega (arith, x .few))) (z .frames))
 
       on-by : (ds : Table) (v : Worded text records n) (σ : List Scope) (s : Scope) → Standing (v .tokens) old depth base top σ s → (b : Bool) → more
           (drop (i + 1) (v .tokens)) ≡ b
@@ -305,8 +306,8 @@ module _ {text records old : List ℕ} {n i kind depth base top : ℕ} (x : Turn
       scope = labelling (tokenAt (v .tokens) (i - 1)) s;
       standing = record {
         scoped = p .scope v s (z .scoped);
-        frames = frames-under (p .low) (frames-kept (omega (arith, x .few)) (λ j h. p .kept j (λ y. omega arith))
-            (λ j h. p .kept j (λ y. omega (arith, x .few))) (z .frames));
+        frames = frames-under (p .low) (frames-kept (omega (arith, x .few)) (λ j h. p .kept j (omega (arith, x .few)) (λ y. omega arith))
+            (λ j h l. p .kept j l (λ y. omega (arith, x .few))) (z .frames));
       };
       walks = from-here ds v σ s ∙ walk-becomes ds σ s _ _ _ (kind-here v e);
     };

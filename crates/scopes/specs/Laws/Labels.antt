@@ -216,7 +216,7 @@ module _ {text records labels : List ℕ} {n i base top : ℕ} (h : i < n) (one 
   unchanged e = record {
     low = omega arith;
     high = omega arith;
-    kept = λ j l. refl;
+    kept = λ j m l. refl;
     labelled = λ x. x;
     scope = λ v s x. subst (Scoped (v .tokens) labels base top) (sym (e v s x)) x;
   }
@@ -244,7 +244,7 @@ module _ {text records labels : List ℕ} {n i base top : ℕ} (h : i < n) (one 
     push-label {new} l z small e room = record {
       low = omega arith;
       high = omega arith;
-      kept = others-kept;
+      kept = λ j m g. others-kept j g;
       labelled = λ x. record {
         room = omega (arith, ap length e, length-put 2 labels (2 * top) (i - 1));
         inside = λ j g. by-inside x j g (decLt j top);

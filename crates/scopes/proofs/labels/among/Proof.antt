@@ -1,28 +1,15 @@
 -- `scopes::labels::among` meets its contract.
+-- Assumes nothing.
 use borrow.Author.Needs.{needs}
-use Prim.Native.Nat.{_-_}
-use Rattle.scopes.specs.Laws.Labels.{Seeking, seek, both-words, found-there, seek-on, nowhere-found}
+use mathlib.Core.Path.{sym}
 use Rattle.scopes.proofs.labels.among.Statement.{statement}
 use Rattle.scopes.proofs.labels.among.Tie as tie
-
-abbrev Inv-loop : tie.InvT-loop
-Inv-loop text records labels n base top name j₀ j = Seeking text records labels n base top name j
-
-abbrev μ-loop : tie.MeasureT-loop
-μ-loop text records labels n base top name j₀ j = j
 
 pub among-spec : {M : Type 1} → statement M
 among-spec =
     tie.close
     (tie.spec
-    Inv-loop
-    μ-loop
-    (λ c. search (needs, seek))
-    (λ c. search needs)
     (λ c κs. search needs)
-    (λ c. search needs)
-    (λ c κs. search (needs, both-words))
-    (λ c. search (needs, found-there))
-    (λ c. search needs)
-    (λ c. search (needs, seek-on))
-    (λ c. search (needs, nowhere-found)))
+    (λ c v. sym (c .before .hinted .ensures v (c .if1 .taken)))
+    (λ c κs. search needs)
+    (λ c. search needs))
