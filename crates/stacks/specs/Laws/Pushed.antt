@@ -48,8 +48,7 @@ module _ {records room : List ℕ} {count i r : ℕ} (v : NameView records room 
     where
       by : (k : ℕ) → k < count → Dec (linkCell records (cell 2 room k) ≡ linkCell records i) → indexed records entered (cell 2 room k) ≡ indexed records room (cell 2 room k)
       by k l (no n) = other-cell (indexCell records (cell 2 room k)) (λ e. n (omega arith))
-      by k l (yes e) =
-          rw e (entered-index ∙ sym (found .by-index (found-low k l e)))
+      by k l (yes e) = rw e (entered-index ∙ sym (found .by-index (found-low k l e)))
 
   abbrev pushed : List ℕ
   pushed = putCell 2 entered count i
