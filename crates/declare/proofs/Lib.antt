@@ -7,6 +7,6 @@ pub mod Judging
 pub mod Targets
 pub mod Numbering
 pub mod Places
-pub mod Meanings
+pub mod Marking
 pub mod Totals
 pub mod Telling

@@ -1,4 +1,4 @@
--- Laws of what a mapping lies on: its target's name, looked up among all declarations.
+-- Laws of what a mapping lies on: the declaration that its target's name means.
 -- Assumes nothing.
 use Prim.Native.Nat.{ℕ, _+_, _*_, _<_, _≤_}
 use mathlib.Core.Path.{_≡_, refl, sym, ap, _∙_}
@@ -13,47 +13,51 @@ use Rattle.rules.specs.Text.Scan.{sameBytes}
 use Rattle.rules.specs.Grammar.Trees.{Tokens}
 use Rattle.rules.specs.Declarations.{declaredOf, Target, numberOf}
 use Rattle.rules.specs.Faults.Declared.{goodTarget, declaredAt, badMapping}
+use Rattle.rules.specs.Limits.{mostTokens}
+use Rattle.table.specs.Holds.{insideCell}
 use Rattle.table.specs.Kth.{map-found}
 use Rattle.table.specs.Declarations.{declarationList}
 use Rattle.table.specs.Words.{NameAt, wordAt, TwoNames, sameWords}
 use Rattle.table.specs.Views.{View, TargetAt}
-use Rattle.table.specs.Lookups.{Known, orElse, firstOf, nth}
+use Rattle.table.specs.Lookups.{nth}
+use Rattle.table.specs.Meaning.{meaningBy, meaningOf}
 use Rattle.declare.specs.Listed.{Listed, outerOf, tableOf, Chosen, chosenOf}
 use Rattle.declare.proofs.Choosing.{chosen-room, outer-word, outer-and, chosen-view, number-below}
 use Rattle.declare.proofs.Judging.{no-target}
 
--- a name of a table: what looking it up among all declarations comes to
+-- a name of a table: the declaration that it means
 module _ {text records values decls : List ℕ} {m i : ℕ} (v : Listed text records values decls m) (n : NameAt (v .tokens) i) where
-  abbrev pub known-in : Known text records decls m i
-  known-in = record {
-    values = values;
-    tokens = v .tokens;
-    holds = v .holds;
-    declared = declarationList (v .description);
-    decls-hold = v .hold;
-    count = v .count;
-    name = n;
-  }
+  pub name-record : 8 * i + 8 ≤ length records
+  name-record = omega (arith, n .within, v .holds .record-room)
 
-  pub found-nowhere : {j : ℕ} → j ≡ firstOf known-in → j ≡ m → numberOf (tableOf v) (wordAt (v .tokens) i) ≡ none
-  unfolding numberOf
-  found-nowhere {j} e z = by (numberOf (tableOf v) (wordAt (v .tokens) i)) refl e
-    where
-      by : (o : Option ℕ) → numberOf (tableOf v) (wordAt (v .tokens) i) ≡ o → j ≡ orElse m o → numberOf (tableOf v) (wordAt (v .tokens) i) ≡ none
-      by none s q = s
-      by (some h) s q =
-          absurd (omega (arith, number-below (wordAt (v .tokens) i) 0 h (tableOf v) s, length-map (declarationList (v .description)) declaredOf, v .count))
+  few-declared : m ≤ mostTokens
+  few-declared = omega (arith, v .count, v .hold .few)
 
-  pub found-there : {j : ℕ} → j ≡ firstOf known-in → (j ≡ m → ⊥) → (numberOf (tableOf v) (wordAt (v .tokens) i) ≡ some j) × (j < m)
+  means-by : insideCell records i ≡ meaningBy (numberOf (tableOf v) (wordAt (v .tokens) i)) (sameBytes (outerOf v) (wordAt (v .tokens) i))
+  unfolding meaningOf
+  means-by = v .means .means i (n .within) (n .kind)
+
+  number-small : (j : ℕ) → numberOf (tableOf v) (wordAt (v .tokens) i) ≡ some j → j < m
   unfolding numberOf
-  found-there {j} e f = by (numberOf (tableOf v) (wordAt (v .tokens) i)) refl e
-    where
-      by : (o : Option ℕ) → numberOf (tableOf v) (wordAt (v .tokens) i) ≡ o → j ≡ orElse m o → (numberOf (tableOf v) (wordAt (v .tokens) i) ≡ some j) × (j < m)
-      by none s q = absurd (f q)
-      by (some h) s q = (
-        s ∙ ap some (sym q),
-        omega (arith, number-below (wordAt (v .tokens) i) 0 h (tableOf v) s, length-map (declarationList (v .description)) declaredOf, v .count),
-      )
+  number-small j e = omega (arith, number-below (wordAt (v .tokens) i) 0 j (tableOf v) e, length-map (declarationList (v .description)) declaredOf, v .count)
+
+  module _ {j : ℕ} (e : j ≡ insideCell records i) where
+    pub found-nowhere : m ≤ j → numberOf (tableOf v) (wordAt (v .tokens) i) ≡ none
+    found-nowhere z = by (numberOf (tableOf v) (wordAt (v .tokens) i)) refl (e ∙ means-by)
+      where
+        by : (o : Option ℕ) → numberOf (tableOf v) (wordAt (v .tokens) i) ≡ o → j ≡ meaningBy o (sameBytes (outerOf v) (wordAt (v .tokens) i))
+            → numberOf (tableOf v) (wordAt (v .tokens) i) ≡ none
+        by none s q = s
+        by (some h) s q = absurd (omega (arith, number-small h s))
+
+    pub found-there : j < m → numberOf (tableOf v) (wordAt (v .tokens) i) ≡ some j
+    found-there l = by (numberOf (tableOf v) (wordAt (v .tokens) i)) (sameBytes (outerOf v) (wordAt (v .tokens) i)) refl (e ∙ means-by)
+      where
+        by : (o : Option ℕ) (b : Bool) → numberOf (tableOf v) (wordAt (v .tokens) i) ≡ o → j ≡ meaningBy o b
+            → numberOf (tableOf v) (wordAt (v .tokens) i) ≡ some j
+        by (some h) b s q = s ∙ ap some (sym q)
+        by none true s q = absurd (omega (arith, few-declared))
+        by none false s q = absurd (omega (arith, few-declared))
 
 abbrev pub chosen-at : {text records values decls : List ℕ} {m j : ℕ} (v : Listed text records values decls m) → j < m → Chosen text records values decls m j
 chosen-at {j = j} v l =
@@ -91,8 +95,8 @@ module _ (text records values decls : List ℕ) (m k : ℕ) {p t : ℕ} (place :
     pub target-and-outer : Chosen text records values decls m k → TwoNames text records 0 t
     target-and-outer v = outer-and (v .listed) (aimed v .name)
 
-    pub target-known : Chosen text records values decls m k → Known text records decls m t
-    target-known v = known-in (v .listed) (aimed v .name)
+    pub target-record : Chosen text records values decls m k → 8 * t + 8 ≤ length records
+    target-record v = name-record (v .listed) (aimed v .name)
 
     module _ {a : Bool} (outer : (w : TwoNames text records 0 t) → a ≡ sameWords w) where
       -- the target, looked up
@@ -110,17 +114,16 @@ module _ (text records values decls : List ℕ) (m k : ℕ) {p t : ℕ} (place :
       pub outer-target : a ≡ true → Bad true
       outer-target y v = sym (opened v ∙ rw y)
 
-      module _ {j : ℕ} (looked : (w : Known text records decls m t) → j ≡ firstOf w) (not-outer : a ≡ false) where
-        pub unknown-target : j ≡ m → Bad true
-        unknown-target z v = sym (opened v ∙ rw (not-outer, found-nowhere (v .listed) (aimed v .name) (looked (known-in (v .listed) (aimed v .name))) z))
+      module _ {j : ℕ} (meaning : j ≡ insideCell records t) (not-outer : a ≡ false) where
+        pub unknown-target : m ≤ j → Bad true
+        unknown-target z v = sym (opened v ∙ rw (not-outer, found-nowhere (v .listed) (aimed v .name) meaning z))
 
-        module _ (known : j ≡ m → ⊥) where
-          there : (v : Chosen text records values decls m k)
-              → (numberOf (tableOf (v .listed)) (wordAt (v .listed .tokens) t) ≡ some j) × (j < m)
-          there v = found-there (v .listed) (aimed v .name) (looked (known-in (v .listed) (aimed v .name))) known
+        module _ (known : j < m) where
+          there : (v : Chosen text records values decls m k) → numberOf (tableOf (v .listed)) (wordAt (v .listed .tokens) t) ≡ some j
+          there v = found-there (v .listed) (aimed v .name) meaning known
 
           abbrev found : Chosen text records values decls m k → Chosen text records values decls m j
-          found v = chosen-at (v .listed) (there v .1)
+          found v = chosen-at (v .listed) known
 
           pub target-room : Chosen text records values decls m k → 2 * j + 2 ≤ length decls
           target-room v = chosen-room (found v)
@@ -135,4 +138,4 @@ module _ (text records values decls : List ℕ) (m k : ℕ) {p t : ℕ} (place :
               let c = found v in
               let at : declaredAt (tableOf (v .listed)) (some j) ≡ some (chosenOf c)
               = map-found (declarationList (v .listed .description)) j (c .declaration) (c .found) in
-              sym (opened v ∙ rw (not-outer, there v .0, at) (ap not (sym (good (chosen-view v place) (chosen-view c e) (aimed v .target) (aimed v .is)))))
+              sym (opened v ∙ rw (not-outer, there v, at) (ap not (sym (good (chosen-view v place) (chosen-view c e) (aimed v .target) (aimed v .is)))))

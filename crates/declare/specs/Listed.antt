@@ -1,4 +1,4 @@
--- The declarations of a description in a table, listed by the numbers of their names.
+-- The declarations of a description in a table, listed by the numbers of their names, when the names have their meanings.
 use Prim.Native.Nat.{ℕ}
 use mathlib.Core.Path.{_≡_}
 use mathlib.Core.Bool.{false}
@@ -11,6 +11,7 @@ use Rattle.rules.specs.Faults.Declared.{largeWords}
 use Rattle.table.specs.Holds.{Holds}
 use Rattle.table.specs.Declarations.{declarationList}
 use Rattle.table.specs.Lookups.{DeclsHold}
+use Rattle.table.specs.Meaning.{MeaningHolds}
 use Rattle.table.specs.Views.{View}
 use Rattle.declare.specs.Finding.{Increasing}
 use Rattle.declare.specs.Faults.{knownBehind}
@@ -23,6 +24,7 @@ pub record Listed (text records values decls : List ℕ) (m : ℕ) : Type 0 wher
   pub hold : DeclsHold decls tokens (declarationList description)
   pub count : m ≡ length (declarationList description)
   pub increasing : Increasing decls m
+  pub means : MeaningHolds records tokens (outerName description .word) (map declaredOf (declarationList description))
 
 module _ {text records values decls : List ℕ} {m : ℕ} (v : Listed text records values decls m) where
   abbrev pub outerOf : Name

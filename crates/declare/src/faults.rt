@@ -9,7 +9,7 @@ use rules::limits::MOST_DECLARATIONS;
 use rules::limits::MOST_WORDS;
 use table::keys::NO_KEY;
 use table::keys::fault_key;
-use table::lookups::lookup;
+use table::records::inside_at;
 use table::records::place_at;
 use table::views::bits_of;
 use table::views::target_bits;
@@ -35,7 +35,7 @@ fn declared_before(text: &[u8], records: &[u8], decls: &[u8], k: usize) -> bool
         → r ≡ isKnown (chosenOf v .name .word) (knownOf (v .listed) k)) ⌝ }
 {
     let p = get16(decls, k) as usize;
-    same_word(text, records, 0, p) || lookup(text, records, decls, k, p) < k
+    same_word(text, records, 0, p) || inside_at(records, p) < k
 }
 
 // Whether the declaration named p has too many bits, or too large a name of a bit or a word.
@@ -93,8 +93,8 @@ fn bad_mapping(text: &[u8], records: &[u8], values: &[u8], decls: &[u8], m: usiz
     if same_word(text, records, 0, t) {
         return true;
     }
-    let j = lookup(text, records, decls, m, t);
-    if j == m {
+    let j = inside_at(records, t);
+    if m <= j {
         return true;
     }
     let q = get16(decls, j) as usize;

@@ -7,12 +7,14 @@ pub mod spans;
 
 use crate::faults::fault30;
 use crate::finding::find;
-use crate::resolving::resolve;
+use crate::resolving::give_meanings;
+use spelling::spell;
 use table::keys::NO_KEY;
-ghost use Prim.Native.Nat.{_*_, _≤_};
+ghost use Prim.Native.Nat.{_≤_};
 ghost use lib.ListN.{length};
-ghost use Rattle.rules.specs.Limits.{deepest, mostTokens};
+ghost use Rattle.rules.specs.Limits.{deepest};
 ghost use Rattle.laws_grammar.specs.Cited.Nesting.{nest};
+ghost use Rattle.spelling.specs.Trees.{roomSize};
 ghost use Rattle.declare.specs.Finding.{Described};
 ghost use Rattle.declare.specs.Told.{Told};
 
@@ -22,7 +24,7 @@ pub enum Declared {
     Refused(u32, usize),
 }
 
-// Lists the declarations, judges them, and resolves the names.
+// Spells the names, lists the declarations, gives the names their meanings, and judges the declarations.
 pub fn declare(
     text: &[u8],
     records: &mut [u8],
@@ -31,15 +33,16 @@ pub fn declare(
     n: usize,
 ) -> Declared
     requires { ⌜ Described (now text) (now records) (now values) n ⌝ }
-    requires { ⌜ 2 * mostTokens ≤ length (now decls) ⌝ }
+    requires { ⌜ roomSize ≤ length (now decls) ⌝ }
     ensures { λ r. ⌜ ((v : Described (now (text .entry)) (now (records .entry)) (now (values .entry)) n) → nest (v .description) ≤ deepest
         → Told (now (text .entry)) (now (records .exit)) (now (values .entry)) (now (decls .exit)) (v .tokens) (v .description) r) ⌝ }
 {
+    spell(text, records, decls, n);
     let m = find(records, decls);
+    give_meanings(records, decls, m, n);
     let key = fault30(text, records, values, decls, m);
     if key != NO_KEY {
         return Declared::Refused(key % 128, (key / 128) as usize);
     }
-    resolve(text, records, decls, m, n);
     Declared::Fine(m)
 }

@@ -1,56 +1,96 @@
 // What the names mean: each name's record takes the number of its first declaration.
+use cells::get16;
 use table::kinds::NAME;
 use table::lookups::OUTER_ONLY;
 use table::lookups::UNKNOWN;
-use table::lookups::lookup;
+use table::records::inside16_at;
 use table::records::kind_at;
+use table::records::link_at;
 use table::records::put_inside;
-use table::words::same_word;
 ghost use mathlib.Core.Path.{_≡_};
 ghost use mathlib.Core.List.{List};
-ghost use Prim.Native.Nat.{ℕ, _+_, _<_};
+ghost use Prim.Native.Nat.{_+_, _*_, _<_, _≤_};
 ghost use lib.ListN.{length};
-ghost use Rattle.declare.specs.Listed.{Listed, outerOf, tableOf};
-ghost use Rattle.declare.specs.Resolving.{NameIn, meaningIn, ResolvedTo};
+ghost use Rattle.rules.specs.Limits.{mostTokens};
+ghost use Rattle.rules.specs.Grammar.Trees.{Tokens, Declaration};
+ghost use Rattle.rules.specs.Declarations.{Name};
+ghost use Rattle.table.specs.Words.{wordAt};
+ghost use Rattle.declare.specs.Resolving.{SpelledIn, Lists, InsideOnly, Forgotten, MarkedFrom, MeantTo};
 
-// The number of the first declaration of the name i; or that it is the outer name, or unknown.
-fn meaning(text: &[u8], records: &[u8], decls: &[u8], m: usize, i: usize) -> u16
-    requires { ⌜ NameIn (now text) (now records) (now decls) m i ⌝ }
-    ensures { λ r. ⌜ ((v : NameIn (now (text .entry)) (now (records .entry)) (now (decls .entry)) m i) → r ≡ meaningIn v) ⌝ }
-{
-    let k = lookup(text, records, decls, m, i);
-    if k != m {
-        return k as u16;
-    }
-    if same_word(text, records, 0, i) {
-        return OUTER_ONLY;
-    }
-    UNKNOWN
-}
-
-// Writes the meaning of the token i, if it is a name, behind those of the tokens before it.
-fn resolve_one(text: &[u8], records: &mut [u8], decls: &[u8], m: usize, i: usize)
-    requires { ⌜ ((values : List ℕ) × (v : Listed (now text) (now records) values (now decls) m) × (i < length (v .tokens))) ⌝ }
-    ensures { λ _. ⌜ ((values : List ℕ) (v : Listed (now (text .entry)) (now (records .entry)) values (now (decls .entry)) m)
-        → i < length (v .tokens) → ResolvedTo (now (text .entry)) (now (records .entry)) values (v .tokens) (outerOf v) (tableOf v) i
-        → ResolvedTo (now (text .entry)) (now (records .exit)) values (v .tokens) (outerOf v) (tableOf v) (i + 1)) ⌝ }
-{
-    if kind_at(records, i) != NAME {
-        return;
-    }
-    let number = meaning(text, records, decls, m, i);
-    put_inside(records, i, number as usize);
-}
-
-// Writes what each of the n tokens means that is a name.
-pub fn resolve(text: &[u8], records: &mut [u8], decls: &[u8], m: usize, n: usize)
-    requires { ⌜ ((values : List ℕ) × (v : Listed (now text) (now records) values (now decls) m) × (n ≡ length (v .tokens))) ⌝ }
-    ensures { λ _. ⌜ ((values : List ℕ) (v : Listed (now (text .entry)) (now (records .entry)) values (now (decls .entry)) m)
-        → n ≡ length (v .tokens) → ResolvedTo (now (text .entry)) (now (records .exit)) values (v .tokens) (outerOf v) (tableOf v) n) ⌝ }
+// Leaves no meaning at the n tokens.
+fn forget(records: &mut [u8], n: usize)
+    requires { ⌜ (8 * n ≤ length (now records)) × (n ≤ mostTokens) ⌝ }
+    ensures { λ _. ⌜ InsideOnly (now (records .entry)) (now (records .exit)) × Forgotten (now (records .exit)) n ⌝ }
 {
     let mut i: usize = 0;
     while i < n {
-        resolve_one(text, records, decls, m, i);
+        put_inside(records, i, UNKNOWN as usize);
         i += 1;
     }
+}
+
+// Marks the spelling of the k-th declaration's name.
+fn mark_one(records: &mut [u8], decls: &[u8], k: usize)
+    requires { ⌜ ((ts : Tokens) × (list : List Declaration) × Lists (now records) (now decls) ts list × (k < length list)) ⌝ }
+    ensures { λ _. ⌜ InsideOnly (now (records .entry)) (now (records .exit)) ⌝ }
+    ensures { λ _. ⌜ ((ts : Tokens) (outer : Name) (list : List Declaration) → Lists (now (records .entry)) (now (decls .entry)) ts list → k < length list
+        → MarkedFrom (now (records .entry)) ts outer list (k + 1) → MarkedFrom (now (records .exit)) ts outer list k) ⌝ }
+{
+    let p = get16(decls, k) as usize;
+    put_inside(records, link_at(records, p), k);
+}
+
+// Marks the spelling of the outer name, and then those of the m declarations, from the last to the first.
+fn mark(records: &mut [u8], decls: &[u8], m: usize)
+    requires { ⌜ ((ts : Tokens) × (list : List Declaration) × Lists (now records) (now decls) ts list × (m ≡ length list)) ⌝ }
+    ensures { λ _. ⌜ InsideOnly (now (records .entry)) (now (records .exit)) ⌝ }
+    ensures { λ _. ⌜ ((ts : Tokens) (list : List Declaration) → Lists (now (records .entry)) (now (decls .entry)) ts list → m ≡ length list
+        → Forgotten (now (records .entry)) (length ts) → MarkedFrom (now (records .exit)) ts (wordAt ts 0) list 0) ⌝ }
+{
+    put_inside(records, link_at(records, 0), OUTER_ONLY as usize);
+    let mut k = m;
+    while 0 < k {
+        k -= 1;
+        mark_one(records, decls, k);
+    }
+}
+
+// The token i, if it is a name, takes the meaning of its spelling.
+fn resolve_one(records: &mut [u8], i: usize)
+    requires { ⌜ ((ts : Tokens) × SpelledIn (now records) ts × (i < length ts)) ⌝ }
+    ensures { λ _. ⌜ InsideOnly (now (records .entry)) (now (records .exit)) ⌝ }
+    ensures { λ _. ⌜ ((ts : Tokens) (outer : Name) (list : List Declaration) → SpelledIn (now (records .entry)) ts → i < length ts
+        → MarkedFrom (now (records .entry)) ts outer list 0 → MeantTo (now (records .entry)) ts outer list i
+        → MarkedFrom (now (records .exit)) ts outer list 0 × MeantTo (now (records .exit)) ts outer list (i + 1)) ⌝ }
+{
+    if kind_at(records, i) == NAME {
+        let meaning = inside16_at(records, link_at(records, i));
+        put_inside(records, i, meaning as usize);
+    }
+}
+
+// Gives each of the n tokens that is a name the meaning of its spelling.
+fn resolve(records: &mut [u8], n: usize)
+    requires { ⌜ ((ts : Tokens) × SpelledIn (now records) ts × (n ≡ length ts)) ⌝ }
+    ensures { λ _. ⌜ InsideOnly (now (records .entry)) (now (records .exit)) ⌝ }
+    ensures { λ _. ⌜ ((ts : Tokens) (outer : Name) (list : List Declaration) → SpelledIn (now (records .entry)) ts → n ≡ length ts
+        → MarkedFrom (now (records .entry)) ts outer list 0 → MeantTo (now (records .exit)) ts outer list n) ⌝ }
+{
+    let mut i: usize = 0;
+    while i < n {
+        resolve_one(records, i);
+        i += 1;
+    }
+}
+
+// Gives each of the n tokens that is a name its meaning by the m declarations.
+pub fn give_meanings(records: &mut [u8], decls: &[u8], m: usize, n: usize)
+    requires { ⌜ ((ts : Tokens) × (list : List Declaration) × Lists (now records) (now decls) ts list × (m ≡ length list) × (n ≡ length ts)) ⌝ }
+    ensures { λ _. ⌜ InsideOnly (now (records .entry)) (now (records .exit)) ⌝ }
+    ensures { λ _. ⌜ ((ts : Tokens) (list : List Declaration) → Lists (now (records .entry)) (now (decls .entry)) ts list → m ≡ length list → n ≡ length ts
+        → MeantTo (now (records .exit)) ts (wordAt ts 0) list n) ⌝ }
+{
+    forget(records, n);
+    mark(records, decls, m);
+    resolve(records, n);
 }

@@ -1,7 +1,7 @@
 -- `declare::faults::declared_before` meets its contract: the outer name first, then those before it.
 -- Assumes nothing.
 use borrow.Author.Needs.{needs}
-use Rattle.declare.proofs.Choosing.{chosen-room, chosen-two, chosen-known, outer-has-it, another-has-it}
+use Rattle.declare.proofs.Choosing.{chosen-room, chosen-two, chosen-record, outer-has-it, another-has-it}
 use Rattle.declare.proofs.faults.declared_before.Statement.{statement}
 use Rattle.declare.proofs.faults.declared_before.Tie as tie
 
@@ -12,6 +12,6 @@ declared-before-spec =
     (λ c κs. search (needs, chosen-room))
     (λ c. search needs)
     (λ c κs. search (needs, chosen-two))
-    (λ c κs. search (needs, chosen-known))
+    (λ c κs. search (needs, chosen-record))
     (λ c. search (needs, outer-has-it))
     (λ c. search (needs, another-has-it)))

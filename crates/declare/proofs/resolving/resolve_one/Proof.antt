@@ -1,7 +1,7 @@
--- `declare::resolving::resolve_one` meets its contract: a name takes its meaning, and any other token stays as it is.
+-- `declare::resolving::resolve_one` meets its contract: a name takes the meaning of its spelling, and any other token stays as it is.
 -- Assumes nothing.
 use borrow.Author.Needs.{needs}
-use Rattle.declare.proofs.Meanings.{no-name, name-in, name-resolved}
+use Rattle.declare.proofs.Marking.{token-inside, spelling-inside, taken-over, passed-over}
 use Rattle.declare.proofs.resolving.resolve_one.Statement.{statement}
 use Rattle.declare.proofs.resolving.resolve_one.Tie as tie
 
@@ -9,15 +9,14 @@ pub resolve-one-spec : {M : Type 1} → statement M
 resolve-one-spec =
     tie.close
     (tie.spec
-    (λ c κs. search needs)
+    (λ c κs. search (needs, token-inside))
+    (λ c κs. search (needs, token-inside))
+    (λ c κs. let t = c .before .before in spelling-inside (t .before .kind-at .ensures) (t .if1 .taken) (c .link-at .ensures) (t .before .before .before .before .pre))
     (λ c. search needs)
-    (λ c values v l. no-name (c .before .kind-at .ensures) v l (c .if1 .taken))
-    (λ c κs.
+    (λ c κs. search (needs, token-inside))
+    (λ c. search needs)
+    (λ c.
     let t = c .before .before .before .before .before .before .before in
-    name-in (c .before .before .kind-at .ensures) (t .pre .1) (t .pre .2) (c .before .if1 .left))
+    taken-over (t .before .kind-at .ensures) (t .if1 .taken) (c .before .before .before .before .before .link-at .ensures) (c .before .before .before .before .inside16-at .ensures) (c .before .before .put-inside .ensures) (t .before .before .before .before .pre))
     (λ c. search needs)
-    (λ c κs. search needs)
-    (λ c. search needs)
-    (λ c values v l.
-    let t = c .before .before .before .before in
-    name-resolved (t .before .before .before .kind-at .ensures) v l (t .before .before .if1 .left) (t .meaning .ensures) (c .before .before .put-inside .ensures)))
+    (λ c. passed-over (c .before .kind-at .ensures) (c .if1 .left)))
