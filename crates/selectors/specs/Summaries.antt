@@ -31,11 +31,12 @@ abbrev pub Bounded : Item → Type 0
 Bounded (pattern v f) = v + f < 2 ^ 64
 Bounded (between l h) = (l ≤ h) × (h < 2 ^ 64)
 
--- the items are met just where one of their values is
+-- each item is met just where it has a value in common
 abbrev pub AllFit : List Item → Type 0
 AllFit [] = Unit {0}
 AllFit (i ∷ is) = ItemFits i × AllFit is
 
+-- some value fits
 pub record Admitted (s : Summary) : Type 0 where
   pub value : ℕ
   pub short : value < 2 ^ 64

@@ -105,7 +105,7 @@ fn summarise(records: &[u8], values: &[u8], starts: &[u8], count: usize, summari
     }
 }
 
-// The first alternative that overlaps an earlier one, or `count`. Items are compared only where the summaries do not tell two alternatives apart.
+// The first alternative that overlaps an earlier one, or `count`. Items are compared only where two summaries do not tell the alternatives apart.
 pub fn first_overlap(records: &[u8], values: &[u8], starts: &[u8], count: usize) -> usize
     requires { ⌜ AlternativesView (now records) (now values) (now starts) count ⌝ }
     ensures { λ r. ⌜ ((v : AlternativesView (now (records .entry)) (now (values .entry)) (now (starts .entry)) count) → FirstOverlap (v .items) count r) ⌝ }

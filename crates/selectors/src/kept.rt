@@ -9,10 +9,13 @@ ghost use Rattle.rules.specs.Limits.{mostAlternatives};
 ghost use Rattle.selectors.specs.Summaries.{Apart};
 ghost use Rattle.selectors.specs.Kept.{summaryAt, withSummary};
 
+// As many summaries are kept as a DECODE may have alternatives.
 pub const MOST_ALTERNATIVES: usize = 64;
 
+// The numbers of all summaries, four for each.
 pub const NUMBERS: usize = 256;
 
+// Keeps the summary of the alternative k.
 pub fn keep(summaries: &mut [u64], k: usize, s: Summary)
     requires { ⌜ 4 * k + 4 ≤ length (now summaries) ⌝ }
     ensures { λ _. ⌜ now (summaries .exit) ≡ withSummary (now (summaries .entry)) k s ⌝ }
@@ -24,6 +27,7 @@ pub fn keep(summaries: &mut [u64], k: usize, s: Summary)
     summaries[at + 3] = s.free;
 }
 
+// The summary of the alternative k.
 fn kept(summaries: &[u64; NUMBERS], k: usize) -> Summary
     requires { ⌜ k < mostAlternatives ⌝ }
     ensures { λ r. ⌜ r ≡ summaryAt (now (summaries .entry)) k ⌝ }

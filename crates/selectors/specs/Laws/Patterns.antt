@@ -1,12 +1,12 @@
 -- Patterns by the machine's operations on words: they meet if no bit that both fix differs.
 -- Assumes nothing.
-use Prim.Native.Nat.{ℕ, zero, suc, _+_, _-_, _*_, _/_, _%_, _^_, _<_, min}
+use Prim.Native.Nat.{ℕ, zero, suc, _+_, _-_, _*_, _/_, _%_, _^_, _<_, min, max}
 use mathlib.Core.Path.{_≡_, refl, sym, ap, ap₂, _∙_}
 use mathlib.Core.Bool.{_&&_, _||_}
 use native.Mathlib.Nat.{pow-succ'}
 use native.Mathlib.Omega.{arith}
 use borrow.Author.Tests.{eq-eqb, ne-eqb}
-use lib.Bits.{differ, bitAnd, bitXor, and-step, xor-step}
+use lib.Bits.{differ, bitAnd, bitOr, bitXor, and-step, or-step, xor-step}
 use lib.Dec.{eqb, eqb·suc-zero}
 use Rattle.rules.specs.Selectors.{agree}
 use Rattle.rules.specs.Faults.Bodies.{patternsMeet}
@@ -52,10 +52,10 @@ mask-bit : (n f : ℕ) → f < 2 ^ suc n → (2 ^ suc n - 1 - f) % 2 ≡ 1 - f %
 mask-bit n f h = omega (arith, pow-succ' 2 n)
 
 -- the operations on halves and on lowest bits
-pub half : (x q b : ℕ) → x ≡ q * 2 + b → b < 2 → x / 2 ≡ q
+half : (x q b : ℕ) → x ≡ q * 2 + b → b < 2 → x / 2 ≡ q
 half x q b e h = omega arith
 
-pub odd : (x q b : ℕ) → x ≡ q * 2 + b → b < 2 → x % 2 ≡ b
+odd : (x q b : ℕ) → x ≡ q * 2 + b → b < 2 → x % 2 ≡ b
 odd x q b e h = omega arith
 
 pub differ-bit : {x y : ℕ} → Bit x → Bit y → differ x y < 2
@@ -69,6 +69,12 @@ and-half a b = half _ _ _ (and-step a b) (omega arith)
 
 and-bit : (a b : ℕ) → bitAnd a b % 2 ≡ min (a % 2) (b % 2)
 and-bit a b = odd _ _ _ (and-step a b) (omega arith)
+
+pub or-half : (a b : ℕ) → bitOr a b / 2 ≡ bitOr (a / 2) (b / 2)
+or-half a b = half _ _ _ (or-step a b) (omega arith)
+
+pub or-bit : (a b : ℕ) → bitOr a b % 2 ≡ max (a % 2) (b % 2)
+or-bit a b = odd _ _ _ (or-step a b) (omega arith)
 
 pub xor-half : (a b : ℕ) → bitXor a b / 2 ≡ bitXor (a / 2) (b / 2)
 xor-half a b = half _ _ _ (xor-step a b) (differ-bit (lowest-bit a) (lowest-bit b))

@@ -1,21 +1,21 @@
 -- Summaries: those of an item, of items joined to others, and what two that no value fits tell of their items.
 -- Assumes nothing.
-use Prim.Native.Nat.{ℕ, zero, suc, _+_, _-_, _*_, _/_, _%_, _^_, _<_, _≤_, min, max}
-use mathlib.Core.Path.{_≡_, refl, ap, ap₂, _∙_}
+use Prim.Native.Nat.{ℕ, zero, suc, _+_, _-_, _/_, _%_, _^_, _<_, _≤_, min, max}
+use mathlib.Core.Path.{_≡_, refl, ap₂, _∙_}
 use mathlib.Core.Bool.{Bool, true, false, not}
 use mathlib.Core.List.{List, [], _∷_, _++_}
 use mathlib.Core.Logic.{_⊎_, inl, inr, ⊎-elim}
 use native.Mathlib.Nat.{pow-succ'}
 use native.Mathlib.Omega.{arith}
 use borrow.Author.Tests.{not-true}
-use lib.Bits.{differ, bitAnd, bitOr, bitXor, or-step}
+use lib.Bits.{differ, bitAnd, bitOr, bitXor}
 use lib.Dec.{T, leb, eqb, leb→le, le→leb}
 use lib.Pow.{pow-pos}
 use Rattle.rules.specs.Selectors.{Item, pattern, between, agree, matches, anyMatches}
 use Rattle.rules.specs.Faults.Bodies.{patternsMeet, itemsMeet, meetsAny, someMeet}
 use Rattle.selectors.specs.declared.summaries.Summary.{Summary}
-use Rattle.selectors.specs.Summaries.{Admits, Open, Apart, Joins, Bounded, AllFit, Admitted, Tells}
-use Rattle.selectors.specs.Laws.Patterns.{Bit, b0, b1, lowest-bit, half, odd, differ-bit, xor-half, xor-bit}
+use Rattle.selectors.specs.Summaries.{Admits, Open, Apart, Joins, Bounded, AllFit, Tells}
+use Rattle.selectors.specs.Laws.Patterns.{Bit, b0, b1, lowest-bit, differ-bit, or-half, or-bit, xor-half, xor-bit}
 use Rattle.selectors.specs.Laws.Truth.{both, first, second, left, right, which}
 use Rattle.selectors.specs.Laws.Values.{allows, PatternFits, least, greatest, least-agrees}
 use Rattle.selectors.specs.Laws.Exact.{below-two, common-patterns, ItemFits, meet-share}
@@ -36,12 +36,6 @@ joinFree v f w g = bitOr (bitOr f g) (bitXor v w)
 
 abbrev freeBit : ℕ → ℕ → ℕ → ℕ → ℕ
 freeBit v f w g = max (max f g) (differ v w)
-
-or-half : (a b : ℕ) → bitOr a b / 2 ≡ bitOr (a / 2) (b / 2)
-or-half a b = half _ _ _ (or-step a b) (omega arith)
-
-or-bit : (a b : ℕ) → bitOr a b % 2 ≡ max (a % 2) (b % 2)
-or-bit a b = odd _ _ _ (or-step a b) (omega arith)
 
 free-half : (v f w g : ℕ) → joinFree v f w g / 2 ≡ joinFree (v / 2) (f / 2) (w / 2) (g / 2)
 free-half v f w g = or-half (bitOr f g) (bitXor v w) ∙ ap₂ bitOr (or-half f g) (xor-half v w)
