@@ -3,15 +3,16 @@ use declare::Declared;
 use declare::declare;
 use reader::declaring::Standing;
 use text::Scanned;
-ghost use Prim.Native.Nat.{_*_, _≤_};
+ghost use Prim.Native.Nat.{_≤_};
 ghost use lib.ListN.{length};
-ghost use Rattle.rules.specs.Limits.{longestText, mostTokens};
+ghost use Rattle.rules.specs.Limits.{longestText};
+ghost use Rattle.spelling.specs.Trees.{roomSize};
 ghost use Rattle.explaining.specs.Again.{Sound, Rescanned, Rereads};
 
 // The declarations of a sound text of n tokens, once more.
 fn declared(text: &[u8], records: &mut [u8], values: &[u8], decls: &mut [u8], n: usize) -> Standing
     requires { ⌜ Rescanned (now text) (now records) (now values) n ⌝ }
-    requires { ⌜ 2 * mostTokens ≤ length (now decls) ⌝ }
+    requires { ⌜ roomSize ≤ length (now decls) ⌝ }
     ensures { λ r. ⌜ Rereads (now (text .entry)) (now (records .exit)) (now (decls .exit)) r ⌝ }
 {
     match declare(text, records, values, decls, n) {
@@ -23,7 +24,7 @@ fn declared(text: &[u8], records: &mut [u8], values: &[u8], decls: &mut [u8], n:
 // A sound text, once more. It is not refused.
 pub fn reread(text: &[u8], records: &mut [u8], values: &mut [u8], decls: &mut [u8]) -> Standing
     requires { ⌜ Sound (now text) × ((length (now text) ≤ longestText) × ((65536 ≤ length (now records)) × (65536 ≤ length (now values)))) ⌝ }
-    requires { ⌜ 2 * mostTokens ≤ length (now decls) ⌝ }
+    requires { ⌜ roomSize ≤ length (now decls) ⌝ }
     ensures { λ r. ⌜ Rereads (now (text .entry)) (now (records .exit)) (now (decls .exit)) r ⌝ }
 {
     match text::scan(text, records, values) {

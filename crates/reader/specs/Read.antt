@@ -7,6 +7,7 @@ use Rattle.rules.specs.Text.Scan.{scan}
 use Rattle.rules.specs.Grammar.Trees.{Description, flatten}
 use Rattle.rules.specs.Answers.{judgement, Checks}
 use Rattle.table.specs.Ready.{Ready}
+use Rattle.spelling.specs.Spelled.{Spelled}
 use Rattle.reader.specs.Parsed.{Refuses}
 use Rattle.reader.specs.declared.declaring.Standing.{Standing}
 use Rattle.reader.specs.declared.declaring.Standing.the-variants.{Fine, Refused}
@@ -17,6 +18,7 @@ pub record Declares (text records values decls : List ℕ) (m n : ℕ) : Type 0 
   pub reads : flatten description ≡ scan text .tokens
   pub verdict : Checks text (judgement description)
   pub ready : Ready text records values decls (scan text .tokens) description m
+  pub spelled : Spelled records (scan text .tokens)
   pub count : n ≡ length (scan text .tokens)
 
 abbrev pub Reads : List ℕ → List ℕ → List ℕ → List ℕ → Standing → Type 0

@@ -3,9 +3,10 @@ use crate::parsing::Parsed;
 use crate::parsing::parse;
 use declare::Declared;
 use declare::declare;
-ghost use Prim.Native.Nat.{_*_, _≤_};
+ghost use Prim.Native.Nat.{_≤_};
 ghost use lib.ListN.{length};
-ghost use Rattle.rules.specs.Limits.{longestText, mostTokens};
+ghost use Rattle.rules.specs.Limits.{longestText};
+ghost use Rattle.spelling.specs.Trees.{roomSize};
 ghost use Rattle.reader.specs.Parsed.{Stands};
 ghost use Rattle.reader.specs.Read.{Reads};
 
@@ -18,7 +19,7 @@ pub enum Standing {
 // Judges the declarations of a description of n tokens that stands in the table.
 fn declared(text: &[u8], records: &mut [u8], values: &[u8], decls: &mut [u8], n: usize) -> Standing
     requires { ⌜ Stands (now text) (now records) (now values) n ⌝ }
-    requires { ⌜ 2 * mostTokens ≤ length (now decls) ⌝ }
+    requires { ⌜ roomSize ≤ length (now decls) ⌝ }
     ensures { λ r. ⌜ Reads (now (text .entry)) (now (records .exit)) (now (values .entry)) (now (decls .exit)) r ⌝ }
 {
     match declare(text, records, values, decls, n) {
@@ -30,7 +31,7 @@ fn declared(text: &[u8], records: &mut [u8], values: &[u8], decls: &mut [u8], n:
 // Reads a text up to its declarations.
 pub fn read(text: &[u8], records: &mut [u8], values: &mut [u8], decls: &mut [u8]) -> Standing
     requires { ⌜ (length (now text) ≤ longestText) × ((65536 ≤ length (now records)) × (65536 ≤ length (now values))) ⌝ }
-    requires { ⌜ 2 * mostTokens ≤ length (now decls) ⌝ }
+    requires { ⌜ roomSize ≤ length (now decls) ⌝ }
     ensures { λ r. ⌜ Reads (now (text .entry)) (now (records .exit)) (now (values .exit)) (now (decls .exit)) r ⌝ }
 {
     match parse(text, records, values) {

@@ -75,7 +75,7 @@ module _ {text records values : List ℕ} {n : ℕ} (r : Rescanned text records 
       Option·none-ne-some (fault m p) (ap (least byPlace) (sym (r .sound .passed)) ∙ h .is)
   redeclared records′ decls (DeclaredFine m) h =
       record {
-        reading = record { text = text; values = values; tokens = scan text .tokens; description = r .sound .description; ready = h; count = r .count };
+        reading = record { text = text; values = values; tokens = scan text .tokens; description = r .sound .description; ready = h .ready; count = r .count };
         stands = r .sound .stands;
       }
 

@@ -46,6 +46,7 @@ declares-kept {text} {records} {values} {room} {decls} {m} copied long v =
       description = d;
       reads = v .reads;
       verdict = v .verdict;
+      spelled = v .spelled;
       count = v .count;
       ready = record {
         holds = r .holds;

@@ -44,4 +44,4 @@ module _ {text records values : List ℕ} {n : ℕ} (s : Stands text records val
   pub told : (records′ decls : List ℕ) (r : Declared) → Told text records′ values decls (scan text .tokens) (s .description) r
       → Reads text records′ values decls (standingOf n r)
   told records′ decls (DeclaredRefused m p) h = record { checks = subst (Checks text) (first-30 (s .description) m p (h .is)) verdict; near = h .near }
-  told records′ decls (DeclaredFine m) h = record { description = s .description; reads = s .reads; verdict = verdict; ready = h; count = s .count }
+  told records′ decls (DeclaredFine m) h = record { description = s .description; reads = s .reads; verdict = verdict; ready = h .ready; spelled = h .spelled; count = s .count }
