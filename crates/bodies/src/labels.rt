@@ -6,7 +6,7 @@ use table::keys::earlier;
 use table::keys::fault_key;
 use table::kinds::BECOMES;
 use table::kinds::NAME;
-use table::lookups::UNKNOWN;
+use table::meanings::UNKNOWN;
 use table::records::inside16_at;
 use table::records::kind_at;
 use table::records::place_at;

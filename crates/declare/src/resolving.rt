@@ -1,8 +1,8 @@
 // What the names mean: each name's record takes the number of its first declaration.
 use cells::get16;
 use table::kinds::NAME;
-use table::lookups::OUTER_ONLY;
-use table::lookups::UNKNOWN;
+use table::meanings::OUTER_ONLY;
+use table::meanings::UNKNOWN;
 use table::records::inside16_at;
 use table::records::kind_at;
 use table::records::link_at;

@@ -1,7 +1,7 @@
 // The storage carrier that a name in a destination stores to.
 use crate::names::is_missing;
 use cells::get16;
-use table::lookups::OUTER_ONLY;
+use table::meanings::OUTER_ONLY;
 use table::records::inside16_at;
 use table::views::bits_of;
 use table::views::target_of;

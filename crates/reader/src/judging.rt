@@ -67,7 +67,7 @@ fn judge_bodies(
     requires { ⌜ 65536 ≤ length (now room) ⌝ }
     ensures { λ r. ⌜ Judges (now (text .entry)) (now (records .entry)) (now (values .entry)) (now (decls .entry)) r ⌝ }
 {
-    let key = fault40(text, records, values, decls, room, m);
+    let key = fault40(records, values, decls, room, m);
     if key != NO_KEY {
         return Verdict::Refused(key % 128, (key / 128) as usize);
     }

@@ -1,4 +1,5 @@
 pub mod Items
+pub mod Fits
 pub mod Stands
 pub mod Overlaps
 pub mod Reaches

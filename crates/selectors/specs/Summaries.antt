@@ -5,7 +5,7 @@ use mathlib.Core.Logic.{_⊎_}
 use lib.Dec.{T}
 use Rattle.rules.specs.Selectors.{Item, pattern, between, agree, anyMatches}
 use Rattle.selectors.specs.declared.summaries.Summary.{Summary}
-use Rattle.selectors.specs.Laws.Exact.{ItemFits}
+use Rattle.selectors.specs.Fits.{ItemFits}
 
 -- x fits the summary
 pub record Admits (s : Summary) (x : ℕ) : Type 0 where

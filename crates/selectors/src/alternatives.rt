@@ -1,5 +1,4 @@
 // The alternatives of one DECODE, by the tokens at which they begin.
-use crate::kept::MOST_ALTERNATIVES;
 use crate::kept::NUMBERS;
 use crate::kept::keep;
 use crate::kept::told_apart;
@@ -9,6 +8,7 @@ use crate::summaries::Summary;
 use crate::summaries::of_items;
 use crate::summaries::open;
 use cells::get16;
+use rules::limits::MOST_ALTERNATIVES;
 use table::kinds::LBRA;
 use table::kinds::OTHERWISE;
 use table::records::kind_at;

@@ -1,6 +1,7 @@
 // The summaries of the alternatives of one DECODE, kept in an array of four numbers for each.
 use crate::summaries::Summary;
 use crate::summaries::apart;
+use rules::limits::MOST_ALTERNATIVES;
 ghost use mathlib.Core.Path.{_≡_};
 ghost use mathlib.Core.Bool.{true};
 ghost use Prim.Native.Nat.{_+_, _*_, _<_, _≤_};
@@ -9,10 +10,7 @@ ghost use Rattle.rules.specs.Limits.{mostAlternatives};
 ghost use Rattle.selectors.specs.Summaries.{Apart};
 ghost use Rattle.selectors.specs.Kept.{summaryAt, withSummary};
 
-// As many summaries are kept as a DECODE may have alternatives.
-pub const MOST_ALTERNATIVES: usize = 64;
-
-// The numbers of all summaries, four for each.
+// The numbers of all summaries, four for each of as many alternatives as a DECODE may have.
 pub const NUMBERS: usize = 256;
 
 // Keeps the summary of the alternative k.

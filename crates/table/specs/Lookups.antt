@@ -1,16 +1,15 @@
 -- The declarations as a table of the numbers of their names' tokens, and what a name means.
 use Prim.Native.Nat.{ℕ, zero, suc, _*_, _<_, _≤_}
 use mathlib.Core.Path.{_≡_, refl}
-use mathlib.Core.List.{List, [], _∷_, map}
+use mathlib.Core.List.{List, [], _∷_}
 use mathlib.Core.Option.{Option, none, some}
 use native.Mathlib.Omega.{arith}
 use lib.ListN.{length, drop, getElem?}
 use Rattle.cells.specs.Cells.{cell}
 use Rattle.rules.specs.Limits.{mostTokens}
 use Rattle.rules.specs.Grammar.Trees.{Tokens, Declaration}
-use Rattle.rules.specs.Declarations.{declaredOf, numberOf}
 use Rattle.table.specs.Holds.{Holds}
-use Rattle.table.specs.Words.{NameAt, wordAt}
+use Rattle.table.specs.Words.{NameAt}
 use Rattle.table.specs.Declarations.{DeclaredAt}
 
 -- the cell k has the number of the name of the k-th declaration
@@ -32,10 +31,6 @@ pub record Known (text records decls : List ℕ) (m i : ℕ) : Type 0 where
 abbrev pub orElse : ℕ → Option ℕ → ℕ
 orElse m none = m
 orElse m (some k) = k
-
--- the number of the first declaration that has the name's word, or m
-abbrev pub firstOf : {text records decls : List ℕ} {m i : ℕ} → Known text records decls m i → ℕ
-firstOf {text} {records} {decls} {m} {i} v = orElse m (numberOf (map declaredOf (v .declared)) (wordAt (v .tokens) i))
 
 -- the k-th of a list
 pub record Nth (list : List Declaration) (k : ℕ) : Type 0 where

@@ -94,7 +94,7 @@ module _ (d : Description) (fine : faults30 (outerName d .word) (declarations d)
 
 abbrev pub to-judge-bodies : {text records values decls room : List ℕ} {m n : ℕ} → Declares text records values decls m n → 65536 ≤ length room
     → BodiesView text records values decls room m
-to-judge-bodies v large = ready-bodies (v .ready) (omega arith)
+to-judge-bodies v large = ready-bodies (v .ready) (v .spelled) (omega arith)
 
 -- from the least key of the 40s
 module _ {text records values decls room : List ℕ} {m n key : ℕ} (v : Declares text records values decls m n) (large : 65536 ≤ length room)

@@ -14,7 +14,8 @@ use Rattle.selectors.specs.Laws.Patterns.{Bit, b0, b1, lowest-bit}
 use Rattle.selectors.specs.Reaches.{may}
 use Rattle.selectors.specs.Laws.Reaches.{both-have, neither-has, one-has}
 use Rattle.selectors.specs.Laws.Truth.{both, first, second, left, right, which}
-use Rattle.selectors.specs.Laws.Values.{allows, PatternFits, low-fits, by-highest, least, greatest, least-agrees, greatest-agrees, sum-fits, Split, split-low, split-high}
+use Rattle.selectors.specs.Fits.{PatternFits, ItemFits}
+use Rattle.selectors.specs.Laws.Values.{allows, low-fits, by-highest, least, greatest, least-agrees, greatest-agrees, sum-fits, Split, split-low, split-high}
 
 -- TWO PATTERNS
 pub record BothAgree (n v f w g x : ℕ) : Type 0 where
@@ -260,10 +261,6 @@ needed zero v f l h p x w = le→leb l 0 (let s = w .short in let b = w .from in
 needed (suc n) v f l h p x w = needed-by n v f l h p (decLt l (2 ^ n)) (decLt h (2 ^ n)) x w (needed n)
 
 -- ITEMS
-abbrev pub ItemFits : Item → Type 0
-ItemFits (pattern v f) = PatternFits 64 v f
-ItemFits (between l h) = (l ≤ h) × (h < 2 ^ 64)
-
 pub record Shared (a b : Item) (x : ℕ) : Type 0 where
   pub short : x < 2 ^ 64
   pub one : T (matches a x)

@@ -17,8 +17,9 @@ use Rattle.selectors.specs.declared.summaries.Summary.{Summary}
 use Rattle.selectors.specs.Summaries.{Admits, Open, Apart, Joins, Bounded, AllFit, Tells}
 use Rattle.selectors.specs.Laws.Patterns.{Bit, b0, b1, lowest-bit, differ-bit, or-half, or-bit, xor-half, xor-bit}
 use Rattle.selectors.specs.Laws.Truth.{both, first, second, left, right, which}
-use Rattle.selectors.specs.Laws.Values.{allows, PatternFits, least, greatest, least-agrees}
-use Rattle.selectors.specs.Laws.Exact.{below-two, common-patterns, ItemFits, meet-share}
+use Rattle.selectors.specs.Fits.{PatternFits, ItemFits}
+use Rattle.selectors.specs.Laws.Values.{allows, least, greatest, least-agrees}
+use Rattle.selectors.specs.Laws.Exact.{below-two, common-patterns, meet-share}
 
 -- AGREEMENT
 -- a mask of n bits leaves all of them free

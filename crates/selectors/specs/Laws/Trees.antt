@@ -14,8 +14,8 @@ use Rattle.rules.specs.Selectors.{between, literalInfo, lowest, highestDigits, 
 use Rattle.table.specs.Laws.Positions.{here}
 use Rattle.selectors.specs.Stands.{by-comma, by-close, by-becomes, itemSize, ItemAt, ItemsFrom, last-item, more-items, ItemsAt, no-items, in-brackets, one-item}
 use Rattle.selectors.specs.Laws.Tokens.{item-behind}
-use Rattle.selectors.specs.Laws.Values.{PatternFits, sum-fits}
-use Rattle.selectors.specs.Laws.Exact.{ItemFits}
+use Rattle.selectors.specs.Fits.{PatternFits, ItemFits}
+use Rattle.selectors.specs.Laws.Values.{sum-fits}
 
 list-from : (ts : Tokens) (q : ℕ) (l : Literal) (r : Range) (is : Items) (rest : Tokens) → drop q ts ≡ literalTokens l (rangeTokens r (itemsTokens is rest))
     → ItemsFrom ts q (itemOf l r ∷ itemsOf is)

@@ -7,22 +7,17 @@ use native.Mathlib.Nat.{pow-succ', zero-mod, mod-lt, div-eq-of-lt, mod-eq-of-lt,
 use native.Mathlib.Numerals.{add-one, one-add}
 use native.Mathlib.Omega.{arith}
 use lib.Arith.{digits-div, digits-mod}
-use lib.Bits.{bitAnd, and-step, and-mod, or-disjoint, or-lt}
+use lib.Bits.{and-step, and-mod, or-disjoint, or-lt}
 use lib.Dec.{T, eqb, eqb-refl, eqb→eq}
 use lib.Pow.{pow-pos, shr-shr, field, mod-mod-pow}
 use Rattle.rules.specs.Selectors.{agree}
+use Rattle.selectors.specs.Fits.{PatternFits}
 use Rattle.selectors.specs.Laws.Patterns.{Bit, b0, b1, lowest-bit}
 use Rattle.selectors.specs.Laws.Truth.{both, first, second, right}
 
 -- whether a bit may be x where the value has v, and f says whether it is free
 abbrev pub allows : ℕ → ℕ → ℕ → Bool
 allows f v x = eqb f 1 || eqb v x
-
--- the pattern of the value v with the bits of f free: they are 0 in v
-pub record PatternFits (n v f : ℕ) : Type 0 where
-  pub value : v < 2 ^ n
-  pub free : f < 2 ^ n
-  pub apart : bitAnd v f ≡ 0
 
 -- BY THE HIGHEST BIT
 shift : (x n : ℕ) → x / 2 / 2 ^ n ≡ x / 2 ^ suc n

@@ -1,12 +1,12 @@
 -- Laws of looking a name up: it is the k-th declaration's or it is found behind.
 -- Assumes nothing.
-use Prim.Native.Nat.{ℕ, suc, _+_, _*_, _<_, _≤_}
+use Prim.Native.Nat.{ℕ, suc, _<_}
 use mathlib.Core.Path.{_≡_, sym, ap, _∙_}
 use mathlib.Core.Bool.{Bool, true, false}
 use mathlib.Core.List.{List, map}
-use mathlib.Core.Option.{Option, none, some}
+use mathlib.Core.Option.{Option, some}
 use native.Mathlib.Omega.{arith}
-use lib.ListN.{length, drop, drop-of-length-le}
+use lib.ListN.{length, drop}
 use Rattle.cells.specs.Cells.{cell}
 use Rattle.rules.specs.Text.Tokens.{Name, Token, tk}
 use Rattle.rules.specs.Text.Scan.{sameBytes}
@@ -17,9 +17,6 @@ use Rattle.table.specs.Laws.Views.{name-token}
 use Rattle.table.specs.Lookups.{Known, Nth, nth}
 
 module _ {text records decls : List ℕ} {m i : ℕ} (v : Known text records decls m i) where
-  pub cell-within : (k : ℕ) → k < m → 2 * k + 2 ≤ length decls
-  cell-within k l = omega (arith, v .decls-hold .room, v .count)
-
   -- the number of the first that has the word, when the first k have not
   abbrev pub numberPast : ℕ → Option ℕ
   numberPast k = numberFrom k (wordAt (v .tokens) i) (map declaredOf (drop k (v .declared)))
@@ -46,7 +43,3 @@ module _ {text records decls : List ℕ} {m i : ℕ} (v : Known text records dec
         let spelled : sameBytes (declaredOf (here-declared .declaration) .name .word) (wordAt (v .tokens) i) ≡ r
         = sym (ap (λ (t : Token). sameBytes (t .info .word) (wordAt (v .tokens) i)) (declared-name .1)) ∙ sym same in
         rw (here-declared .split, numberFrom, spelled)
-
-  pub number-end : (k : ℕ) → m ≤ k → numberPast k ≡ none
-  unfolding numberFrom
-  number-end k l = let past : length (v .declared) ≤ k = omega (arith, v .count) in rw (drop-of-length-le (v .declared) past, numberFrom)
