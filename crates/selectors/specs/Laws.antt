@@ -8,6 +8,5 @@ pub mod Summaries
 pub mod Tokens
 pub mod Lists
 pub mod Gathering
-pub mod Kept
 pub mod Alternatives
 pub mod Trees

@@ -4,5 +4,4 @@ pub mod Stands
 pub mod Overlaps
 pub mod Reaches
 pub mod Summaries
-pub mod Kept
 pub mod Laws

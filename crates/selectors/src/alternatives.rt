@@ -1,27 +1,21 @@
 // The alternatives of one DECODE, by the tokens at which they begin.
-use crate::kept::NUMBERS;
-use crate::kept::keep;
-use crate::kept::told_apart;
 use crate::lists::past_length;
 use crate::lists::some_meet;
 use crate::summaries::Summary;
+use crate::summaries::apart;
 use crate::summaries::of_items;
 use crate::summaries::open;
 use cells::get16;
-use rules::limits::MOST_ALTERNATIVES;
 use table::kinds::LBRA;
 use table::kinds::OTHERWISE;
 use table::records::kind_at;
 ghost use mathlib.Core.Path.{_≡_};
 ghost use mathlib.Core.List.{List};
-ghost use Prim.Native.Nat.{ℕ, _*_, _≤_, min};
-ghost use lib.ListN.{length};
+ghost use Prim.Native.Nat.{ℕ, _≤_};
 ghost use Rattle.rules.specs.Faults.Bodies as rules;
-ghost use Rattle.rules.specs.Limits.{mostAlternatives};
 ghost use Rattle.selectors.specs.Stands.{AlternativeView, TwoAlternatives};
 ghost use Rattle.selectors.specs.Overlaps.{Begin, AlternativesView, FirstOverlap};
 ghost use Rattle.selectors.specs.Summaries.{Tells};
-ghost use Rattle.selectors.specs.Kept.{Kept};
 
 // Where the items of an alternative begin; OTHERWISE has none.
 pub enum Items {
@@ -80,45 +74,20 @@ fn summary_of(records: &[u8], values: &[u8], p: usize) -> Summary
     }
 }
 
-// How many alternatives have their summaries kept.
-fn most_kept(count: usize) -> usize
-    ensures { λ r. ⌜ r ≡ min count mostAlternatives ⌝ }
-{
-    if count < MOST_ALTERNATIVES {
-        count
-    } else {
-        MOST_ALTERNATIVES
-    }
-}
-
-// Keeps the summaries of as many alternatives as there is room for.
-fn summarise(records: &[u8], values: &[u8], starts: &[u8], count: usize, summaries: &mut [u64])
-    requires { ⌜ AlternativesView (now records) (now values) (now starts) count × (4 * mostAlternatives ≤ length (now summaries)) ⌝ }
-    ensures { λ _. ⌜ ((v : AlternativesView (now (records .entry)) (now (values .entry)) (now (starts .entry)) count) → Kept (v .items) (now (summaries .exit)) (min count mostAlternatives)) ⌝ }
-{
-    let most = most_kept(count);
-    let mut k: usize = 0;
-    while k < most {
-        let p = get16(starts, k) as usize;
-        keep(summaries, k, summary_of(records, values, p));
-        k += 1;
-    }
-}
-
 // The first alternative that overlaps an earlier one, or `count`. Items are compared only where two summaries do not tell the alternatives apart.
 pub fn first_overlap(records: &[u8], values: &[u8], starts: &[u8], count: usize) -> usize
     requires { ⌜ AlternativesView (now records) (now values) (now starts) count ⌝ }
     ensures { λ r. ⌜ ((v : AlternativesView (now (records .entry)) (now (values .entry)) (now (starts .entry)) count) → FirstOverlap (v .items) count r) ⌝ }
 {
-    let mut summaries: [u64; NUMBERS] = [0; NUMBERS];
-    summarise(records, values, starts, count, &mut summaries);
     let mut later: usize = 0;
     'search: while later < count {
         let p = get16(starts, later) as usize;
+        let one = summary_of(records, values, p);
         let mut earlier: usize = 0;
         while earlier < later {
             let q = get16(starts, earlier) as usize;
-            if !told_apart(&summaries, later, earlier) && overlap(records, values, p, q) {
+            let other = summary_of(records, values, q);
+            if !apart(one, other) && overlap(records, values, p, q) {
                 break 'search;
             }
             earlier += 1;
