@@ -8,12 +8,12 @@ use mathlib.Core.Option.{Option, none, some, Option·none-ne-some, Option·some-
 use native.Mathlib.Omega.{arith}
 use borrow.Author.Tests.{lt-ltb, le-ltb}
 use lib.Dec.{ltb}
-use lib.ListN.{length, take, getElem?, length-take}
+use lib.ListN.{length, take}
 use Rattle.cells.specs.Cells.{cell}
 use Rattle.rules.specs.Text.Tokens.{Name as Name-kind, Token, tk}
 use Rattle.rules.specs.Text.Scan.{sameBytes}
 use Rattle.rules.specs.Grammar.Trees.{Tokens, Declaration, Description, description, flatten}
-use Rattle.rules.specs.Declarations.{Name, Declared, Table, declaredOf, outerName, numberFrom, numberOf}
+use Rattle.rules.specs.Declarations.{Name, Table, outerName, numberFrom, numberOf}
 use Rattle.rules.specs.Faults.Declared.{isKnown}
 use Rattle.rules.specs.Limits.{mostTokens}
 use Rattle.table.specs.Holds.{tokenAt, insideCell}

@@ -1,15 +1,14 @@
 -- Laws of marking spellings and of taking meanings from them: nothing else of the table changes.
 -- Assumes nothing.
-use Prim.Native.Nat.{ℕ, zero, suc, _+_, _*_, _<_, _≤_}
+use Prim.Native.Nat.{ℕ, _+_, _*_, _<_, _≤_}
 use mathlib.Core.Path.{_≡_, refl, sym, ap, _∙_}
 use mathlib.Core.Bool.{Bool, true, false}
 use mathlib.Core.List.{List, map}
-use mathlib.Core.Option.{Option, none, some}
+use mathlib.Core.Option.{none}
 use native.Mathlib.Omega.{arith}
 use native.Mathlib.Numerals.{add-one}
 use native.Mathlib.Decide.{decLt, ℕ-discrete}
-use borrow.Author.Tests.{eqb-true, eqb-false, eq-eqb}
-use lib.Dec.{eqb}
+use borrow.Author.Tests.{eqb-true, eqb-false}
 use lib.ListN.{length, drop, drop-of-length-le}
 use Rattle.cells.specs.Cells.{cell}
 use Rattle.rules.specs.Text.Tokens.{Name as Name-kind, kindNo, kindAt}
@@ -19,7 +18,7 @@ use Rattle.rules.specs.Declarations.{Name, declaredOf, numberFrom, numberOf}
 use Rattle.rules.specs.Limits.{mostTokens}
 use Rattle.laws_grammar.specs.Grammar.Kinds.{kindAt-kindNo}
 use Rattle.table.specs.Holds.{kindByte, insideCell, linkCell, tokenAt}
-use Rattle.table.specs.Kept.{Kept, InsidePut}
+use Rattle.table.specs.Kept.{InsidePut}
 use Rattle.table.specs.Laws.Kept.{kept-none, kept-then, kept-wide, holds-kept}
 use Rattle.table.specs.Words.{NameAt, wordAt}
 use Rattle.table.specs.Lookups.{Known}
@@ -79,13 +78,13 @@ module _ {old decls : List ℕ} {ts : Tokens} {list : List Declaration} (l : Lis
   pub declared-at : NameAt ts p
   declared-at = both-names (known (l .outer)) within e .first
 
-  module _ {now : List ℕ} {q : ℕ} (link : q ≡ linkCell old p) (put : InsidePut old now q k) where
-    pub link-named : NameAt ts q
+  module _ {q : ℕ} (link : q ≡ linkCell old p) where
+    link-named : NameAt ts q
     link-named = rw link (l .table .spelled .name p declared-at)
 
-    one-marked : (outer : Name) → MarkedFrom old ts outer list (k + 1) → MarkedFrom now ts outer list k
+    one-marked : {now : List ℕ} → InsidePut old now q k → (outer : Name) → MarkedFrom old ts outer list (k + 1) → MarkedFrom now ts outer list k
     unfolding numberFrom
-    one-marked outer r = record { marked = λ j n. rw (inside-written put (few-names (l .table) link-named) .link j) (by j n (sameBytes (wordAt ts p) (wordAt ts j)) refl) }
+    one-marked {now} put outer r = record { marked = λ j n. rw (inside-written put (few-names (l .table) link-named) .link j) (by j n (sameBytes (wordAt ts p) (wordAt ts j)) refl) }
       where
         by : (j : ℕ) → NameAt ts j → (b : Bool) → sameBytes (wordAt ts p) (wordAt ts j) ≡ b
             → insideCell now (linkCell old j) ≡ meaningBy (numberFrom k (wordAt ts j) (map declaredOf (drop k list))) (sameBytes outer (wordAt ts j))
@@ -97,14 +96,13 @@ module _ {old decls : List ℕ} {ts : Tokens} {list : List Declaration} (l : Lis
             rw (number-step (known n) within e false (sym y)) (inside-other put (linkCell old j) other ∙ (rw (add-one k) at (r .marked j n)))
 
 -- no declaration yet: the outer name only
-module _ {old decls : List ℕ} {ts : Tokens} {list : List Declaration} (l : Lists old decls ts list) {now : List ℕ} {q : ℕ} (link : q ≡ linkCell old 0)
-    (put : InsidePut old now q outerOnly) (forgotten : Forgotten old (length ts)) where
-  pub outer-named : NameAt ts q
+module _ {old decls : List ℕ} {ts : Tokens} {list : List Declaration} (l : Lists old decls ts list) {q : ℕ} (link : q ≡ linkCell old 0) where
+  outer-named : NameAt ts q
   outer-named = rw link (l .table .spelled .name 0 (l .outer))
 
-  outer-marked : MarkedFrom now ts (wordAt ts 0) list (length list)
+  outer-marked : {now : List ℕ} → InsidePut old now q outerOnly → Forgotten old (length ts) → MarkedFrom now ts (wordAt ts 0) list (length list)
   unfolding numberFrom
-  outer-marked = record { marked = λ j n. rw (inside-written put (few-names (l .table) outer-named) .link j) (by j n (sameBytes (wordAt ts 0) (wordAt ts j)) refl) }
+  outer-marked {now} put forgotten = record { marked = λ j n. rw (inside-written put (few-names (l .table) outer-named) .link j) (by j n (sameBytes (wordAt ts 0) (wordAt ts j)) refl) }
     where
       none-left : (w : Name) → numberFrom (length list) w (map declaredOf (drop (length list) list)) ≡ none
       none-left w = let past : length list ≤ length list = omega arith in rw (drop-of-length-le list past, numberFrom)
@@ -189,7 +187,7 @@ module _ {old decls : List ℕ} {k p : ℕ} (e : p ≡ cell 2 decls k) where
   module _ {q : ℕ} (link : q ≡ linkCell old p) where
     pub link-inside : ((ts : Tokens) × (list : List Declaration) × Lists old decls ts list × (k < length list)) → (8 * q + 8 ≤ length old) × (k < 65536)
     link-inside (ts, list, l, h) = (
-      name-inside (l .table) (rw link (l .table .spelled .name p (declared-at l h e))),
+      name-inside (l .table) (link-named l h e link),
       omega (arith, h, l .hold .few),
     )
 
@@ -197,7 +195,7 @@ module _ {old decls : List ℕ} {k p : ℕ} (e : p ≡ cell 2 decls k) where
         → InsideOnly old now × ((ts : Tokens) (outer : Name) (list : List Declaration) → Lists old decls ts list → k < length list
         → MarkedFrom old ts outer list (k + 1) → MarkedFrom now ts outer list k)
     marked-one put (ts, list, l, h) = (
-      inside-written put (few-names (l .table) (rw link (l .table .spelled .name p (declared-at l h e)))),
+      inside-written put (few-names (l .table) (link-named l h e link)),
       λ ts outer list l h r. one-marked l h e link put outer r,
     )
 
@@ -215,15 +213,12 @@ pub none-marked : (records decls : List ℕ) (m : ℕ) → MarkedTo records reco
 none-marked records decls m = record { within = omega arith; only = inside-none records; marks = λ ts outer list l e r. r }
 
 module _ {entry decls : List ℕ} {m q : ℕ} (link : q ≡ linkCell entry 0) (s : (ts : Tokens) × (list : List Declaration) × Lists entry decls ts list × (m ≡ length list)) where
-  outer-spelling : NameAt (s .0) q
-  outer-spelling = rw link (s .2 .table .spelled .name 0 (s .2 .outer))
-
   pub outer-link : 8 * q + 8 ≤ length entry
-  outer-link = name-inside (s .2 .table) outer-spelling
+  outer-link = name-inside (s .2 .table) (outer-named (s .2) link)
 
   module _ {old : List ℕ} (put : InsidePut entry old q outerOnly) where
     pub outer-written : InsideOnly entry old
-    outer-written = inside-written put (few-names (s .2 .table) outer-spelling)
+    outer-written = inside-written put (few-names (s .2 .table) (outer-named (s .2) link))
 
     module _ {now : List ℕ} {k : ℕ} (r : MarkedTo old now decls m k) where
       pub next-declared : {h : ℕ} → h + 1 ≡ k → ((ts : Tokens) × (list : List Declaration) × Lists now decls ts list × (h < length list))

@@ -1,18 +1,16 @@
 -- Laws of spelling one token after another, from the calls to their contracts.
 -- Assumes nothing.
 use Prim.Native.Nat.{ℕ, _+_, _*_, _<_, _≤_}
-use mathlib.Core.Path.{_≡_, refl, sym, ap, _∙_}
+use mathlib.Core.Path.{_≡_, sym, ap, _∙_}
 use mathlib.Core.List.{List}
 use native.Mathlib.Omega.{arith}
 use lib.ListN.{length}
 use Rattle.cells.specs.Cells.{cell, putCell}
 use Rattle.rules.specs.Text.Tokens.{Name, kindNo, kindAt}
-use Rattle.rules.specs.Grammar.Trees.{Tokens}
 use Rattle.laws_grammar.specs.Grammar.Kinds.{kindAt-kindNo}
-use Rattle.table.specs.Holds.{kindByte, tokenAt, Holds}
+use Rattle.table.specs.Holds.{kindByte, tokenAt}
 use Rattle.table.specs.Kept.{Kept, LinkPut}
 use Rattle.table.specs.Laws.Kept.{kept-none, kept-then, holds-kept}
-use Rattle.table.specs.Words.{NameAt}
 use Rattle.spelling.specs.Spelled.{Spelled}
 use Rattle.spelling.specs.Trees.{noNode, heads, roomSize}
 use Rattle.spelling.specs.Spelling.{SpelledTo, Spelling, Seeking, Ends, Cleared, Opened, Tabled}

@@ -23,8 +23,6 @@ use Rattle.laws_accepted.specs.Accepted.Named.{same-equal, same-itself}
 pub record Comes (room : List ℕ) (ts : Tokens) (i c d : ℕ) : Type 0 where
   pub cell : c ≡ cellBehind room (wordAt ts i) d
   pub passes : Passes room ts i (wordAt ts i) d
-  pub inside : c < heads + 2 * i
-  pub deep : d ≤ c
 
 pub record Inv (text records room : List ℕ) (i c d : ℕ) : Type 0 where
   pub comes : (v : Seeking text records room i) → Comes room (v .spelling .tokens) i c d
@@ -45,8 +43,6 @@ module _ {text records room : List ℕ} {i p n : ℕ} (place : p ≡ placeCell r
     comes = λ v. record {
       cell = e ∙ ap hashOf (word-there v);
       passes = record { before = λ k h. absurd (omega arith); other = λ k h. absurd (omega arith) };
-      inside = omega arith;
-      deep = omega arith;
     };
     inside = omega arith;
     deep = omega arith;
@@ -58,7 +54,7 @@ module _ {text records room : List ℕ} {i p n : ℕ} (place : p ≡ placeCell r
       depth = d;
       comes = w .cell;
       passes = w .passes;
-      inside = w .inside;
+      inside = inv .inside;
       same = λ f. absurd (f (sym node ∙ e));
     }
 
@@ -78,7 +74,7 @@ module _ {text records room : List ℕ} {i p n : ℕ} (place : p ≡ placeCell r
           depth = d;
           comes = w .cell;
           passes = w .passes;
-          inside = w .inside;
+          inside = inv .inside;
           same = λ f. ap (wordAt (v .spelling .tokens)) (sym node) ∙ same-equal _ _ (sym (compared (both-names v)) ∙ y);
         }
 
@@ -125,8 +121,6 @@ module _ {text records room : List ℕ} {i p n : ℕ} (place : p ≡ placeCell r
             comes = λ v. record {
               cell = next-cell v;
               passes = one-passed v;
-              inside = omega (arith, node-before s);
-              deep = omega (arith, inv .deep, node-rises s);
             };
             inside = omega (arith, node-before s);
             deep = omega (arith, inv .deep, node-rises s);

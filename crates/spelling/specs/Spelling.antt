@@ -7,7 +7,7 @@ use Rattle.cells.specs.Cells.{cell}
 use Rattle.rules.specs.Grammar.Trees.{Tokens}
 use Rattle.table.specs.Holds.{linkCell, Holds}
 use Rattle.table.specs.Words.{NameAt, wordAt}
-use Rattle.spelling.specs.Trees.{noNode, heads, roomSize, cellBehind, Passes, Finds, Grown}
+use Rattle.spelling.specs.Trees.{noNode, heads, cellBehind, Passes, Finds, Grown}
 
 -- x is the first name with the word of the name j, and the search for that word finds it among the names before i
 pub record Spells (room : List ℕ) (ts : Tokens) (i j x : ℕ) : Type 0 where

@@ -1,7 +1,6 @@
 -- `declare::declare` meets its contract: what was spelled, found, resolved and judged is the answer.
 -- Assumes nothing.
 use borrow.Author.Needs.{needs}
-use native.Mathlib.Omega.{arith}
 use Rattle.declare.proofs.Telling.{tabled, described, to-mean, listed, refused, ready}
 use Rattle.declare.proofs.declare.Statement.{statement}
 use Rattle.declare.proofs.declare.Tie as tie

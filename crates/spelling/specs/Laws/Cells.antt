@@ -1,14 +1,14 @@
 -- Laws of cells of two bytes: a cell that was put is read back, and every other is unchanged.
 -- Assumes nothing.
 use Prim.Native.Nat.{ℕ, _+_, _*_, _<_, _≤_}
-use mathlib.Core.Path.{_≡_, refl, _∙_}
+use mathlib.Core.Path.{_≡_, _∙_}
 use mathlib.Core.List.{List}
 use native.Mathlib.Omega.{arith}
 use native.Mathlib.Decide.{decLt}
 use lib.ListN.{length}
 use Rattle.cells.specs.Cells.{cell, putCell}
 use Rattle.cells.specs.Laws.{le-put-same, le-put-below, le-put-above}
-use Rattle.spelling.specs.Trees.{noNode, heads, roomSize}
+use Rattle.spelling.specs.Trees.{noNode, heads}
 use Rattle.spelling.specs.Spelling.{Cleared, Opened}
 
 pub cell-same : (b : List ℕ) (i v : ℕ) → 2 * i + 2 ≤ length b → v < 65536 → cell 2 (putCell 2 b i v) i ≡ v

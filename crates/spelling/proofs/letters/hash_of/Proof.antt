@@ -2,13 +2,13 @@
 -- Assumes nothing.
 use borrow.Author.Needs.{needs}
 use native.Mathlib.Omega.{arith}
-use mathlib.Core.Path.{_≡_, refl, sym, ap, _∙_}
+use mathlib.Core.Path.{_≡_, refl, ap, _∙_}
 use mathlib.Core.List.{List}
 use Prim.Native.Nat.{ℕ, _+_, _*_, _-_, _%_, _<_, _≤_}
 use lib.ListN.{length, getD}
 use Rattle.table.specs.Holds.{foldedAt}
 use Rattle.spelling.specs.Trees.{heads, hashTo, hashOf}
-use Rattle.spelling.specs.Laws.Letters.{letters, hash-small, hash-next}
+use Rattle.spelling.specs.Laws.Letters.{letters, hash-next}
 use Rattle.spelling.proofs.letters.hash_of.Statement.{statement}
 use Rattle.spelling.proofs.letters.hash_of.Tie as tie
 
