@@ -2,7 +2,7 @@
 use Prim.Native.Nat.{ℕ, _+_, _*_}
 use mathlib.Core.List.{List}
 use Rattle.cells.specs.Cells.{putCell}
-use Rattle.matching.specs.declared.entries.Entry.{Entry}
+use Rattle.listed.specs.declared.entries.Entry.{Entry}
 
 -- the bytes with e in the place of the entry i
 unfoldable pub putEntry : List ℕ → ℕ → Entry → List ℕ

@@ -1,7 +1,7 @@
 // The entries of a list, written to its bytes.
 use cells::put16;
 use cells::put64;
-use matching::entries::Entry;
+use listed::entries::Entry;
 ghost use mathlib.Core.Path.{_≡_};
 ghost use Prim.Native.Nat.{_+_, _*_, _≤_};
 ghost use lib.ListN.{length};

@@ -5,7 +5,7 @@ use crate::decimals::behind_digits;
 use crate::decimals::decimal_in;
 use crate::entries::ENTRY_ROOM;
 use crate::entries::put_entry;
-use matching::entries::Entry;
+use listed::entries::Entry;
 ghost use Prim.Native.Nat.{_<_, _≤_};
 ghost use lib.ListN.{length};
 

@@ -1,6 +1,6 @@
 // A designer's list by name: a slice of entries. One entry is read from it, and covered code writes it to the bytes of the list.
 use crate::entries::put_entry;
-use matching::entries::Entry;
+use listed::entries::Entry;
 ghost use mathlib.Core.Path.{_≡_};
 ghost use Prim.Native.Nat.{_+_, _*_, _<_, _≤_};
 ghost use lib.ListN.{length, getD};

@@ -1,10 +1,4 @@
-pub mod Entries
 pub mod Groups
-pub mod Parts
-pub mod Seeking
 pub mod Room
-pub mod Puts
-pub mod Telling
-pub mod Chains
 pub mod Answering
 pub mod Matched

@@ -1,5 +1,4 @@
 pub mod Named
 pub mod Matching
 pub mod Room
-pub mod Seeking
 pub mod Laws

@@ -1,10 +1,10 @@
 // The answer about a list, when all is told.
-use crate::entries::count;
 use crate::positions::lesser;
 use crate::room::BAD;
 use crate::room::FLOOR;
 use crate::room::NEVER;
 use cells::get16;
+use listed::entries::count;
 ghost use mathlib.Core.Path.{_≡_};
 ghost use lib.ListN.{length};
 ghost use Rattle.traces.specs.Marking as marking;

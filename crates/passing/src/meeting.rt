@@ -1,9 +1,9 @@
 // What is passed on the way, told one by one: groups that end, a next member, groups that begin.
-use matching::telling::tell_closes;
-use matching::telling::tell_opens;
-use matching::telling::tell_turns;
 use members::rank_at;
 use members::up_at;
+use noting::telling::tell_closes;
+use noting::telling::tell_opens;
+use noting::telling::tell_turns;
 ghost use Prim.Native.Nat.{_+_, _*_, _≤_};
 ghost use mathlib.Core.List.{List};
 ghost use lib.ListN.{length};

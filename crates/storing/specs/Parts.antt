@@ -11,7 +11,7 @@ use Rattle.traces.specs.Machine.{stores}
 use Rattle.telling.specs.Cited.Tracing.{storeReport, groupsOf}
 use Rattle.operands.specs.Cells.{cellFirst, cellLow, cellBits}
 use Rattle.evaluation.specs.Stores.{sizes, Put, StoresAt, StoresAnswer}
-use Rattle.matching.specs.declared.entries.Entry.{Entry}
+use Rattle.listed.specs.declared.entries.Entry.{Entry}
 use Rattle.matching.specs.Matching.{Matching, told, toldAll, toldPart}
 use Rattle.matching.specs.Room.{matchingIn, Stands}
 

@@ -1,9 +1,9 @@
 // The parts of a destination, whose fields wait in the scratch: each is stored, and what its word then holds is told.
 use cells::get64;
 use evaluation::transfers::store;
-use matching::entries::Entry;
-use matching::telling::tell_first;
-use matching::telling::tell_next;
+use listed::entries::Entry;
+use noting::telling::tell_first;
+use noting::telling::tell_next;
 use values::fields::part;
 ghost use Prim.Native.Nat.{_+_, _*_, _<_, _≤_};
 ghost use lib.ListN.{length};
@@ -11,7 +11,7 @@ ghost use Rattle.rules.specs.Limits.{mostBits, mostWords};
 ghost use Rattle.rules.specs.Entries.{entriesIn};
 ghost use Rattle.operands.specs.Cells.{cellFirst, cellLow, cellBits};
 ghost use Rattle.evaluation.specs.Stores.{StoresAt};
-ghost use Rattle.matching.specs.Named.{entryOf};
+ghost use Rattle.listed.specs.Named.{entryOf};
 ghost use Rattle.matching.specs.Room.{matchingIn, Sound, Stands};
 ghost use Rattle.storing.specs.Parts.{PartPut, toldAt, StoresTold};
 

@@ -27,7 +27,7 @@ use Rattle.rules.specs.Calls.Trace.{Trace, denied, unended, compared, Traces, n
 use Rattle.laws_grammar.specs.Grammar.Exact.{unique}
 use Rattle.laws_grammar.specs.Answers.{one-result}
 use Rattle.traces.specs.Answers.{one-answer}
-use Rattle.matching.specs.Laws.Entries.{list-few}
+use Rattle.listed.specs.Laws.Entries.{list-few}
 use Rattle.isps.specs.Laws.Calls.{four-bytes, ran-code, result-code}
 use Rattle.isps.specs.Laws.Orders as orders
 

@@ -5,7 +5,7 @@ use mathlib.Core.Path.{_≡_, refl, sym}
 use mathlib.Core.List.{List}
 use native.Mathlib.Omega.{arith}
 use Rattle.cells.specs.Cells.{putAt, putCell}
-use Rattle.matching.specs.declared.entries.Entry.{Entry}
+use Rattle.listed.specs.declared.entries.Entry.{Entry}
 use Rattle.lists.specs.Entries.{putEntry}
 
 -- what lies 256 and more higher changes the lowest byte in nothing

@@ -9,9 +9,9 @@ use Rattle.cells.specs.Cells.{cell, putCell}
 use Rattle.cells.specs.Laws.{length-put, le-put-same, le-put-below}
 use Rattle.rules.specs.Stores.{entry}
 use Rattle.rules.specs.Entries.{entriesFrom}
-use Rattle.matching.specs.declared.entries.Entry.{Entry}
-use Rattle.matching.specs.Named.{entryOf}
-use Rattle.matching.specs.Laws.Entries.{entry-read}
+use Rattle.listed.specs.declared.entries.Entry.{Entry}
+use Rattle.listed.specs.Named.{entryOf}
+use Rattle.listed.specs.Laws.Entries.{entry-read}
 use Rattle.lists.specs.Entries.{putEntry}
 
 -- The entry i that was written is the entry i of the bytes.

@@ -7,16 +7,16 @@ use mathlib.Core.List.{List, [], _∷_}
 use mathlib.Core.Option.{none, some}
 use native.Mathlib.Omega.{arith}
 use native.Mathlib.Decide.{decLt}
-use native.Mathlib.Nat.{add-zero}
+use native.Mathlib.Nat.{add-zero, zero-add}
 use lib.Dec.{eqb}
 use lib.ListN.{length, getD, set}
-use borrow.Author.Tests.{lt-ltb, le-ltb}
+use borrow.Author.Tests.{lt-ltb, le-ltb, eq-eqb, ne-eqb}
 use Rattle.cells.specs.Cells.{cell, putCell}
 use Rattle.cells.specs.Laws.{length-put, le-put-same, le-put-below, le-put-above}
 use Rattle.rules.specs.Stores.{Entry, entry}
 use Rattle.traces.specs.Marking.{at, never, lesserN, lesser, greaterN, greater, Cells}
 use Rattle.matching.specs.Matching.{Group, group}
-use Rattle.matching.specs.Room.{endless, groupsCell, posOf, leftFrom, groupsIn}
+use Rattle.matching.specs.Room.{endless, groupsCell, posOf, leftFrom, groupsIn, matchingIn, Sound}
 
 -- a cell that was put is read back, every other is unchanged
 pub cell-same : (b : List ℕ) (i v : ℕ) → 2 * i + 2 ≤ length b → v < 65536 → cell 2 (putCell 2 b i v) i ≡ v
@@ -147,3 +147,19 @@ groups-frame a b (suc d) h =
     ap₂ (λ (g : Group) (t : List Group). g ∷ t)
     (ap₂ (λ m n. group (posOf m) (posOf n)) (h (groupsCell + 2 * d) (omega arith) (omega arith)) (h (groupsCell + 2 * d + 1) (omega arith) (omega arith)))
     (groups-frame a b d (λ j m n. h j m (omega arith)))
+
+-- the entries that are not yet taken, in the matching
+module _ {l : List Entry} {b : List ℕ} (s : Sound l b) where
+  pub cells-long : length (matchingIn l b .cells) ≡ length l
+  unfolding matchingIn
+  cells-long = length-left b 0 l
+
+  cell-there : (i : ℕ) → i < length l → getD (matchingIn l b .cells) i none ≡ cond (eqb (cell 2 b i) 0) (some (getD l i (entry 0 0 0))) none
+  unfolding matchingIn
+  cell-there i h = left-at b 0 l i h ∙ ap (λ n. cond (eqb (cell 2 b n) 0) (some (getD l i (entry 0 0 0))) none) (zero-add i)
+
+  pub taken-there : (i : ℕ) → i < length l → (cell 2 b i ≡ 0 → ⊥) → getD (matchingIn l b .cells) i none ≡ none
+  taken-there i h n = cell-there i h ∙ ap (λ k. cond k (some (getD l i (entry 0 0 0))) none) (ne-eqb (cell 2 b i) 0 n)
+
+  pub left-there : (i : ℕ) → i < length l → cell 2 b i ≡ 0 → getD (matchingIn l b .cells) i none ≡ some (getD l i (entry 0 0 0))
+  left-there i h e = cell-there i h ∙ ap (λ k. cond k (some (getD l i (entry 0 0 0))) none) (eq-eqb (cell 2 b i) 0 e)

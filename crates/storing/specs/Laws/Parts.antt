@@ -18,11 +18,11 @@ use Rattle.traces.specs.Machine.{stores}
 use Rattle.operands.specs.Cells.{cellFirst, cellBits}
 use Rattle.evaluation.specs.Stores.{sizes, Put, StoresAt}
 use Rattle.evaluation.specs.Laws.Stores.{Storing, storing, stored-all, next-field, packed, turn-writes, stored-turn}
-use Rattle.matching.specs.declared.entries.Entry as code
-use Rattle.matching.specs.Named.{entryOf}
+use Rattle.listed.specs.declared.entries.Entry as code
+use Rattle.listed.specs.Named.{entryOf}
 use Rattle.matching.specs.Matching.{Matching, told, toldAll, toldPart}
 use Rattle.matching.specs.Room.{matchingIn, Sound, Stands}
-use Rattle.matching.specs.Laws.Parts.{part-told}
+use Rattle.noting.specs.Laws.Parts.{part-told}
 use Rattle.matching.specs.Laws.Matched.{told-from}
 use Rattle.storing.specs.Parts.{PartPut, toldAt, Tells, StoresTold}
 

@@ -3,7 +3,7 @@
 use borrow.Author.Needs.{needs}
 use native.Mathlib.Omega.{arith}
 use mathlib.Core.Path.{_∙_}
-use Rattle.matching.specs.Laws.Entries.{list-few}
+use Rattle.listed.specs.Laws.Entries.{list-few}
 use Rattle.comparing.specs.Laws.Traced.{reading-by, to-trace, traced-ended}
 use Rattle.comparing.proofs.traces.compare.Statement.{statement}
 use Rattle.comparing.proofs.traces.compare.Tie as tie

@@ -37,9 +37,9 @@ use denote.Triple.Spec.{Meets, tripleOf}
 use denote.Triple.Table.{entered}
 use denote.Triple.Walked.{says, needs, Stays, stay-none-slice, stay-none, walkOf, goes-none-slice, goes-none, Walks, ends-at, walked, walk-meets}
 use denote.Exit.{yes}
-use Rattle.matching.specs.declared.entries.Entry.{Entry}
-use Rattle.matching.proofs.entries.Entry as T
-use Rattle.matching.proofs.entries.Entry.Laws as T′
+use Rattle.listed.specs.declared.entries.Entry.{Entry}
+use Rattle.listed.proofs.entries.Entry as T
+use Rattle.listed.proofs.entries.Entry.Laws as T′
 use Rattle.lists.specs.Named.{noEntry}
 use Rattle.lists.proofs.named.named_at.Key.{name as #lists·named-at}
 use Rattle.lists.proofs.named.named_at as named_at

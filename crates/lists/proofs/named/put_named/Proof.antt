@@ -38,9 +38,9 @@ use denote.Triple.Statement.{Contract, Triple}
 use denote.Triple.Table.{entered, cited}
 use denote.Triple.Walked.{says, needs, Stays, gave-slice, stay-none-slice, stay-none, walkOf, goes-gave-slice, goes-none-slice, goes-none, Walks, ends-at, walked, walk-meets}
 use denote.Exit.{yes}
-use Rattle.matching.specs.declared.entries.Entry.{Entry}
-use Rattle.matching.proofs.entries.Entry as T
-use Rattle.matching.proofs.entries.Entry.Laws as T′
+use Rattle.listed.specs.declared.entries.Entry.{Entry}
+use Rattle.listed.proofs.entries.Entry as T
+use Rattle.listed.proofs.entries.Entry.Laws as T′
 use Rattle.lists.specs.Entries.{putEntry}
 use Rattle.lists.specs.Named.{noEntry}
 use Rattle.lists.proofs.named.named_at as named-at

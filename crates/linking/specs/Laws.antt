@@ -1,0 +1,4 @@
+-- The laws of linked entries.
+pub mod Seeking
+pub mod Puts
+pub mod Chains

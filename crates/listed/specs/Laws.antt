@@ -1,0 +1,2 @@
+-- The laws of entries.
+pub mod Entries

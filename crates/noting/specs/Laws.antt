@@ -1,0 +1,3 @@
+-- The laws of what is noted.
+pub mod Parts
+pub mod Telling
