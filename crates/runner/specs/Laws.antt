@@ -1,4 +1,2 @@
 -- The laws of the runner.
-pub mod Choice
-pub mod Steps
 pub mod Runs

@@ -1,4 +1,2 @@
-pub mod Choice
-pub mod Steps
 pub mod Runs
 pub mod Laws

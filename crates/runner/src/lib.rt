@@ -1,4 +1,2 @@
 // Runs an accepted description from left to right, with a budget of steps.
-pub mod choice;
 pub mod runs;
-pub mod steps;

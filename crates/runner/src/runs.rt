@@ -1,6 +1,6 @@
 // The run from left to right, with a budget of steps.
-use crate::steps::Moved;
-use crate::steps::step;
+use stepping::steps::Moved;
+use stepping::steps::step;
 ghost use Prim.Native.Nat.{_≤_};
 ghost use lib.ListN.{length};
 ghost use Rattle.runner.specs.Runs.{RunAt, RunAnswer};

@@ -4,8 +4,8 @@ use mathlib.Core.List.{List}
 use Rattle.rules.specs.Stores.{Entry, made}
 use Rattle.laws_orders.specs.Cited.Flat.{workM}
 use Rattle.operands.specs.Scene.{wordsOf}
-use Rattle.runner.specs.declared.steps.Moved.{Moved}
-use Rattle.runner.specs.Steps.{StepAt, StepAnswer}
+use Rattle.stepping.specs.declared.steps.Moved.{Moved}
+use Rattle.stepping.specs.Steps.{StepAt, StepAnswer}
 use Rattle.storing.specs.Parts.{Tells}
 
 pub record ActTold {records values decls carriers : List ℕ} {n : ℕ} (v : StepAt records values decls carriers n) (after : List ℕ)

@@ -7,7 +7,7 @@ use Rattle.rules.specs.Declarations.{totalWords}
 use Rattle.rules.specs.Entries.{entriesIn}
 use Rattle.laws_orders.specs.Cited.Flat.{pc, put}
 use Rattle.operands.specs.Scene.{carrierWords, wordsOf}
-use Rattle.runner.specs.Steps.{StepAt}
+use Rattle.stepping.specs.Steps.{StepAt}
 use Rattle.runner.specs.Runs.{stackOf}
 use Rattle.telling.specs.Cited.Passing.{Grouping}
 use Rattle.telling.specs.Cited.Tracing.{nextT, groupsOf, Stepped, stepT}

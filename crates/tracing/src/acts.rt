@@ -1,7 +1,7 @@
 // The step of one instruction, whose stores are told.
 use evaluation::transfers::Transferred;
-use runner::steps::Moved;
-use runner::steps::step;
+use stepping::steps::Moved;
+use stepping::steps::step;
 use storing::transfers::transfer;
 use table::kinds::LPAR;
 use table::kinds::NAME;
@@ -14,7 +14,7 @@ ghost use lib.ListN.{length};
 ghost use Rattle.rules.specs.Limits.{mostWords};
 ghost use Rattle.rules.specs.Entries.{entriesIn};
 ghost use Rattle.table.specs.Holds.{kindByte};
-ghost use Rattle.runner.specs.Steps.{StepAt};
+ghost use Rattle.stepping.specs.Steps.{StepAt};
 ghost use Rattle.matching.specs.Room.{Sound};
 ghost use Rattle.tracing.specs.Acts.{ActTold};
 

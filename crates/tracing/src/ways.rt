@@ -2,7 +2,7 @@
 use passing::enter;
 use passing::leave;
 use passing::pass;
-use runner::steps::Moved;
+use stepping::steps::Moved;
 use table::records::link_at;
 ghost use Prim.Native.Nat.{_<_};
 ghost use lib.ListN.{length};

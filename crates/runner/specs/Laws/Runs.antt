@@ -18,9 +18,9 @@ use Rattle.promise.specs.Reached.{Reached, first, onward}
 use Rattle.promise.specs.Laws.Reached.{AllReached, reached-next}
 use Rattle.operands.specs.Scene.{carrierWords}
 use Rattle.runner.specs.declared.runs.Ended.the-variants.{Done, Stopped, Paused, Fault as Broken}
-use Rattle.runner.specs.declared.steps.Moved.{Moved}
-use Rattle.runner.specs.declared.steps.Moved.the-variants.{Go, Call, Stop, Fault}
-use Rattle.runner.specs.Steps.{returning, control, Keeps, StepAt, StepAnswer}
+use Rattle.stepping.specs.declared.steps.Moved.{Moved}
+use Rattle.stepping.specs.declared.steps.Moved.the-variants.{Go, Call, Stop, Fault}
+use Rattle.stepping.specs.Steps.{returning, control, Keeps, StepAt, StepAnswer}
 use Rattle.runner.specs.Runs.{stackOf, RunAt, RunAnswer}
 
 -- THE STACK

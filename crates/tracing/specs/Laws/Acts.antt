@@ -11,10 +11,10 @@ use Rattle.table.specs.Holds.{kindByte}
 use Rattle.evaluation.specs.declared.transfers.Transferred.{Transferred}
 use Rattle.evaluation.specs.declared.transfers.Transferred.the-variants.{Stored, Fault as unstored}
 use Rattle.evaluation.specs.Transfers.{TransferAt}
-use Rattle.runner.specs.declared.steps.Moved.{Moved}
-use Rattle.runner.specs.declared.steps.Moved.the-variants.{Go, Fault}
-use Rattle.runner.specs.Steps.{StepAt, StepAnswer}
-use Rattle.runner.specs.Laws.Steps.{no-move, move-at, move-made, move-faults, move-goes}
+use Rattle.stepping.specs.declared.steps.Moved.{Moved}
+use Rattle.stepping.specs.declared.steps.Moved.the-variants.{Go, Fault}
+use Rattle.stepping.specs.Steps.{StepAt, StepAnswer}
+use Rattle.stepping.specs.Laws.Steps.{no-move, move-at, move-made, move-faults, move-goes}
 use Rattle.table.specs.Holds.{linkCell}
 use Rattle.matching.specs.Matching.{toldAll}
 use Rattle.matching.specs.Room.{Sound}

@@ -14,7 +14,7 @@ use Rattle.laws_orders.specs.Orders.Tests.{impossible}
 use Rattle.promise.specs.Reached.{Reached, onward, Leads}
 use Rattle.promise.specs.Laws.Reached.{AllReached}
 use Rattle.runner.specs.Runs.{stackOf}
-use Rattle.runner.specs.Laws.Steps.{chosen-leads}
+use Rattle.stepping.specs.Laws.Steps.{chosen-leads}
 use Rattle.telling.specs.Cited.Passing.{Grouping}
 use Rattle.telling.specs.Cited.Tracing.{linkOf, resume, return, follow, pickedT, nextT}
 

@@ -15,9 +15,9 @@ use Rattle.rules.specs.Steps.Runs.{Worked, moved, perform}
 use Rattle.rules.specs.Values.{cut}
 use Rattle.laws_orders.specs.Cited.Flat.{Link, at, exit, Instr, ifI, decodeI, goI, callI, stopI, moveI, Code, At, pc, over, halt, broken, go, find, picked, workM, nextM, put, putAfter, stepM}
 use Rattle.laws_orders.specs.Orders.Tests.{impossible}
-use Rattle.runner.specs.declared.steps.Moved.{Moved}
-use Rattle.runner.specs.declared.steps.Moved.the-variants.{Go, Call, Stop, Fault}
-use Rattle.runner.specs.Steps.{onward, returning, control, Activates, Into}
+use Rattle.stepping.specs.declared.steps.Moved.{Moved}
+use Rattle.stepping.specs.declared.steps.Moved.the-variants.{Go, Call, Stop, Fault}
+use Rattle.stepping.specs.Steps.{onward, returning, control, Activates, Into}
 use Rattle.telling.specs.Cited.Passing.{Grouping, passage}
 use Rattle.telling.specs.Cited.Tracing.{Told, told, follow, pickedT, nextT, putT, afterT, stepT}
 use Rattle.telling.specs.Taken.{activates, next-stays, next-over}

@@ -26,7 +26,7 @@ use Rattle.operands.specs.Scene.{carrierWords}
 use Rattle.runner.specs.declared.runs.Ended.{Ended}
 use Rattle.runner.specs.declared.runs.Ended.the-variants.{Done, Stopped, Paused, Fault as Failed}
 use Rattle.runner.specs.Runs.{stackOf, endingOf, stepsOf}
-use Rattle.runner.specs.Steps.{StepAt}
+use Rattle.stepping.specs.Steps.{StepAt}
 use Rattle.runner.specs.Laws.Runs.{stack-length}
 use Rattle.telling.specs.Cited.Cells.{Cells}
 use Rattle.telling.specs.Cited.Passing.{Grouping, Passing, opened, turned, closed, groupEvent, passage}

@@ -12,10 +12,10 @@ use Rattle.rules.specs.Entries.{entriesIn}
 use Rattle.laws_orders.specs.Cited.Flat.{Link, at, exit, Code, workM, put}
 use Rattle.laws_orders.specs.Orders.Tests.{impossible}
 use Rattle.operands.specs.Scene.{carrierWords, wordsOf}
-use Rattle.runner.specs.declared.steps.Moved.{Moved}
-use Rattle.runner.specs.declared.steps.Moved.the-variants.{Go, Call, Stop, Fault}
-use Rattle.runner.specs.Steps as runner
-use Rattle.runner.specs.Steps.{StepAt}
+use Rattle.stepping.specs.declared.steps.Moved.{Moved}
+use Rattle.stepping.specs.declared.steps.Moved.the-variants.{Go, Call, Stop, Fault}
+use Rattle.stepping.specs.Steps as runner
+use Rattle.stepping.specs.Steps.{StepAt}
 use Rattle.runner.specs.Runs.{stackOf}
 use Rattle.traces.specs.Machine.{Event}
 use Rattle.traces.specs.Members.{Block}

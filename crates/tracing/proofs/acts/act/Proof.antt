@@ -2,7 +2,7 @@
 -- Assumes nothing.
 use borrow.Author.Needs.{needs}
 use mathlib.Core.Path.{sym, _∙_}
-use Rattle.runner.specs.Laws.Steps.{name-room}
+use Rattle.stepping.specs.Laws.Steps.{name-room}
 use Rattle.tracing.specs.Laws.Acts.{quiet-told}
 use Rattle.tracing.proofs.acts.act.Statement.{statement}
 use Rattle.tracing.proofs.acts.act.Tie as tie

@@ -1,7 +1,7 @@
 -- `tracing::acts::transfer_act` meets its contract: the transfer is made and told, or nothing is.
 -- Assumes nothing.
 use borrow.Author.Needs.{needs}
-use Rattle.runner.specs.Laws.Steps.{move-at}
+use Rattle.stepping.specs.Laws.Steps.{move-at}
 use Rattle.tracing.specs.Laws.Acts.{fault-told, stored-told}
 use Rattle.tracing.proofs.acts.transfer_act.Statement.{statement}
 use Rattle.tracing.proofs.acts.transfer_act.Tie as tie

@@ -22,7 +22,7 @@ use Rattle.selectors.specs.Stands.{Held, ItemsView, ItemsFrom}
 use Rattle.selectors.specs.Laws.Lists as lists
 use Rattle.selectors.specs.Laws.Alternatives.{SeenItems, otherwise-seen, brackets-seen, item-seen, see-items}
 use Rattle.selectors.specs.Laws.Trees.{selector-at}
-use Rattle.runner.specs.Choice.{CaseView, ChoiceView, placeNo}
+use Rattle.stepping.specs.Choice.{CaseView, ChoiceView, placeNo}
 
 pub some-matches : (x : ℕ) (is : List Item) → lists.some (λ i. matches i x) is ≡ anyMatches is x
 unfolding lists.some anyMatches

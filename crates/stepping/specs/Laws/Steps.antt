@@ -34,10 +34,10 @@ use Rattle.evaluation.specs.declared.transfers.Transferred.{Transferred}
 use Rattle.evaluation.specs.declared.transfers.Transferred.the-variants.{Stored, Fault as unstored}
 use Rattle.evaluation.specs.Tests.{TestAt, TestAnswer}
 use Rattle.evaluation.specs.Transfers.{TransferAt, TransferAnswer}
-use Rattle.runner.specs.declared.steps.Moved.{Moved}
-use Rattle.runner.specs.declared.steps.Moved.the-variants.{Go, Call, Stop, Fault}
-use Rattle.runner.specs.Choice.{placeNo, ChoiceView}
-use Rattle.runner.specs.Steps.{onward, returning, StepAt, control, Keeps, Into, StepAnswer}
+use Rattle.stepping.specs.declared.steps.Moved.{Moved}
+use Rattle.stepping.specs.declared.steps.Moved.the-variants.{Go, Call, Stop, Fault}
+use Rattle.stepping.specs.Choice.{placeNo, ChoiceView}
+use Rattle.stepping.specs.Steps.{onward, returning, StepAt, control, Keeps, Into, StepAnswer}
 
 -- LINKS
 link-goes : (k : Link) → ((g : ℕ) → k ≡ at g → 0 < g) → (σ : List ℕ) → go k σ ≡ onward (linkNo k) σ

@@ -12,8 +12,8 @@ use Rattle.table.specs.Holds.{tokenAt}
 use Rattle.promise.specs.Instructions.{InstructionHolds}
 use Rattle.promise.specs.Reached.{Leads}
 use Rattle.operands.specs.Scene.{Scene, carrierWords, wordsOf}
-use Rattle.runner.specs.declared.steps.Moved.{Moved}
-use Rattle.runner.specs.declared.steps.Moved.the-variants.{Go, Call, Stop, Fault}
+use Rattle.stepping.specs.declared.steps.Moved.{Moved}
+use Rattle.stepping.specs.declared.steps.Moved.the-variants.{Go, Call, Stop, Fault}
 
 -- where control goes by the number of a link; 0 leads out of the body
 abbrev pub onward : ℕ → List ℕ → flat.At

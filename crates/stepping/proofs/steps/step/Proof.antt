@@ -1,10 +1,10 @@
--- `runner::steps::step` meets its contract: the kind tells the instruction.
+-- `stepping::steps::step` meets its contract: the kind tells the instruction.
 -- Assumes nothing.
 use borrow.Author.Needs.{needs}
 use mathlib.Core.Path.{sym, _∙_}
-use Rattle.runner.specs.Laws.Steps.{name-room, go-answer, stop-answer}
-use Rattle.runner.proofs.steps.step.Statement.{statement}
-use Rattle.runner.proofs.steps.step.Tie as tie
+use Rattle.stepping.specs.Laws.Steps.{name-room, go-answer, stop-answer}
+use Rattle.stepping.proofs.steps.step.Statement.{statement}
+use Rattle.stepping.proofs.steps.step.Tie as tie
 
 pub step-spec : {M : Type 1} → statement M
 step-spec =

@@ -1,14 +1,14 @@
--- `runner::choice::choose` meets its contract: the alternatives are asked in turn.
+-- `stepping::choice::choose` meets its contract: the alternatives are asked in turn.
 -- Assumes nothing.
 use native.Mathlib.Omega.{arith}
 use mathlib.Core.Path.{refl}
 use Prim.Native.Nat.{_-_, _≤_}
 use lib.ListN.{length}
 use Rattle.laws_orders.specs.Cited.Flat.{find}
-use Rattle.runner.specs.Choice.{ChoiceView, placeNo}
-use Rattle.runner.specs.Laws.Choice.{choice-room, case-view, goes-ahead, Left, walk-ends, walk-finds, walk-goes-on}
-use Rattle.runner.proofs.choice.choose.Statement.{statement}
-use Rattle.runner.proofs.choice.choose.Tie as tie
+use Rattle.stepping.specs.Choice.{ChoiceView, placeNo}
+use Rattle.stepping.specs.Laws.Choice.{choice-room, case-view, goes-ahead, Left, walk-ends, walk-finds, walk-goes-on}
+use Rattle.stepping.proofs.choice.choose.Statement.{statement}
+use Rattle.stepping.proofs.choice.choose.Tie as tie
 
 abbrev Inv-loop : tie.InvT-loop
 Inv-loop records values p x at₀ number₀ at number =

@@ -1,9 +1,9 @@
--- `runner::steps::if_step` meets its contract: the test is worked out, and any bit counts.
+-- `stepping::steps::if_step` meets its contract: the test is worked out, and any bit counts.
 -- Assumes nothing.
 use borrow.Author.Needs.{needs}
-use Rattle.runner.specs.Laws.Steps.{if-test, if-faults, if-passes, if-acts}
-use Rattle.runner.proofs.steps.if_step.Statement.{statement}
-use Rattle.runner.proofs.steps.if_step.Tie as tie
+use Rattle.stepping.specs.Laws.Steps.{if-test, if-faults, if-passes, if-acts}
+use Rattle.stepping.proofs.steps.if_step.Statement.{statement}
+use Rattle.stepping.proofs.steps.if_step.Tie as tie
 
 pub if-step-spec : {M : Type 1} → statement M
 if-step-spec =

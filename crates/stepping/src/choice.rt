@@ -14,7 +14,7 @@ ghost use mathlib.Core.Path.{_≡_};
 ghost use Rattle.rules.specs.Selectors.{anyMatches, takes};
 ghost use Rattle.laws_orders.specs.Cited.Flat.{find};
 ghost use Rattle.selectors.specs.Stands.{ItemsView};
-ghost use Rattle.runner.specs.Choice.{CaseView, ChoiceView, placeNo};
+ghost use Rattle.stepping.specs.Choice.{CaseView, ChoiceView, placeNo};
 
 // Whether one of the items from q on matches x.
 fn any_matches(records: &[u8], values: &[u8], q: usize, x: u64) -> bool

@@ -19,7 +19,7 @@ ghost use mathlib.Core.List.{List};
 ghost use Prim.Native.Nat.{ℕ, _+_, _≤_};
 ghost use lib.ListN.{length};
 ghost use Rattle.table.specs.Holds.{kindByte};
-ghost use Rattle.runner.specs.Steps.{StepAt, StepAnswer};
+ghost use Rattle.stepping.specs.Steps.{StepAt, StepAnswer};
 
 // Where a step leads: by a link (0 for out of the body), into a body with the link behind the activation, to a STOP, or to a fault.
 pub enum Moved {

@@ -1,4 +1,4 @@
--- `runner::choice::any_matches` meets its contract: each item is asked whether it matches.
+-- `stepping::choice::any_matches` meets its contract: each item is asked whether it matches.
 -- Assumes nothing.
 use borrow.Author.Needs.{needs}
 use native.Mathlib.Omega.{arith}
@@ -8,9 +8,9 @@ use lib.ListN.{length}
 use Rattle.rules.specs.Selectors.{matches}
 use Rattle.selectors.specs.Stands.{ItemsView}
 use Rattle.selectors.specs.Laws.Lists.{Left, walk-starts, item-view, next-room, walks-on, walk-finds, walk-ends, walk-goes-on}
-use Rattle.runner.specs.Laws.Choice.{some-matches}
-use Rattle.runner.proofs.choice.any_matches.Statement.{statement}
-use Rattle.runner.proofs.choice.any_matches.Tie as tie
+use Rattle.stepping.specs.Laws.Choice.{some-matches}
+use Rattle.stepping.proofs.choice.any_matches.Statement.{statement}
+use Rattle.stepping.proofs.choice.any_matches.Tie as tie
 
 abbrev Inv-loop : tie.InvT-loop
 Inv-loop records values q x at₀ at = (v : ItemsView records values q) → Left (λ i. matches i x) v at

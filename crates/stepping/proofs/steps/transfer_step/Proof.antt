@@ -1,9 +1,9 @@
--- `runner::steps::transfer_step` meets its contract: the transfer is made, or nothing is.
+-- `stepping::steps::transfer_step` meets its contract: the transfer is made, or nothing is.
 -- Assumes nothing.
 use borrow.Author.Needs.{needs}
-use Rattle.runner.specs.Laws.Steps.{move-at, move-faults, move-goes}
-use Rattle.runner.proofs.steps.transfer_step.Statement.{statement}
-use Rattle.runner.proofs.steps.transfer_step.Tie as tie
+use Rattle.stepping.specs.Laws.Steps.{move-at, move-faults, move-goes}
+use Rattle.stepping.proofs.steps.transfer_step.Statement.{statement}
+use Rattle.stepping.proofs.steps.transfer_step.Tie as tie
 
 pub transfer-step-spec : {M : Type 1} → statement M
 transfer-step-spec =

@@ -1,11 +1,11 @@
--- `runner::steps::decode_step` meets its contract: the test is worked out, and an alternative chosen.
+-- `stepping::steps::decode_step` meets its contract: the test is worked out, and an alternative chosen.
 -- Assumes nothing.
 use borrow.Author.Needs.{needs}
 use native.Mathlib.Omega.{arith}
-use Rattle.runner.specs.Laws.Choice.{choice-room}
-use Rattle.runner.specs.Laws.Steps.{decode-test, decode-choice, decode-faults, decode-none, decode-goes}
-use Rattle.runner.proofs.steps.decode_step.Statement.{statement}
-use Rattle.runner.proofs.steps.decode_step.Tie as tie
+use Rattle.stepping.specs.Laws.Choice.{choice-room}
+use Rattle.stepping.specs.Laws.Steps.{decode-test, decode-choice, decode-faults, decode-none, decode-goes}
+use Rattle.stepping.proofs.steps.decode_step.Statement.{statement}
+use Rattle.stepping.proofs.steps.decode_step.Tie as tie
 
 pub decode-step-spec : {M : Type 1} → statement M
 decode-step-spec =

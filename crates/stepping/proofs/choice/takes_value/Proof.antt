@@ -1,9 +1,9 @@
--- `runner::choice::takes_value` meets its contract: the kind of the first token tells the case.
+-- `stepping::choice::takes_value` meets its contract: the kind of the first token tells the case.
 -- Assumes nothing.
 use native.Mathlib.Omega.{arith}
-use Rattle.runner.specs.Laws.Choice.{case-room, listed-inside, listed-there, takes-inside, takes-any, takes-there, takes-number}
-use Rattle.runner.proofs.choice.takes_value.Statement.{statement}
-use Rattle.runner.proofs.choice.takes_value.Tie as tie
+use Rattle.stepping.specs.Laws.Choice.{case-room, listed-inside, listed-there, takes-inside, takes-any, takes-there, takes-number}
+use Rattle.stepping.proofs.choice.takes_value.Statement.{statement}
+use Rattle.stepping.proofs.choice.takes_value.Tie as tie
 
 pub takes-value-spec : {M : Type 1} → statement M
 takes-value-spec =

@@ -1,13 +1,13 @@
--- `runner::steps::call_step` meets its contract: the declaration tells where the body begins.
+-- `stepping::steps::call_step` meets its contract: the declaration tells where the body begins.
 -- Assumes nothing.
 use borrow.Author.Needs.{needs}
 use native.Mathlib.Omega.{arith}
 use mathlib.Core.Path.{ap, _∙_}
 use Rattle.cells.specs.Cells.{cell}
 use Rattle.table.specs.Holds.{linkCell}
-use Rattle.runner.specs.Laws.Steps.{call-declared, call-body, call-answer}
-use Rattle.runner.proofs.steps.call_step.Statement.{statement}
-use Rattle.runner.proofs.steps.call_step.Tie as tie
+use Rattle.stepping.specs.Laws.Steps.{call-declared, call-body, call-answer}
+use Rattle.stepping.proofs.steps.call_step.Statement.{statement}
+use Rattle.stepping.proofs.steps.call_step.Tie as tie
 
 pub call-step-spec : {M : Type 1} → statement M
 call-step-spec =

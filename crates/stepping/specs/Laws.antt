@@ -1,0 +1,3 @@
+-- The laws of steps.
+pub mod Choice
+pub mod Steps
