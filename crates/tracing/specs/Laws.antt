@@ -1,6 +1,5 @@
 -- The laws of tracing.
 pub mod Acts
-pub mod Ways
 pub mod Steps
 pub mod Turns
 pub mod Reached

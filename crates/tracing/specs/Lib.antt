@@ -1,5 +1,4 @@
 pub mod Acts
-pub mod Ways
 pub mod Turns
 pub mod Traces
 pub mod Laws

@@ -15,9 +15,9 @@ use Rattle.matching.specs.Matching.{toldAll}
 use Rattle.matching.specs.Room.{mostGroups, matchingIn, Sound, Stands}
 use Rattle.passing.specs.Ways.{groupingIn}
 use Rattle.passing.specs.Depth.{depthAfter}
-use Rattle.tracing.specs.declared.ways.Turned.{Turned}
-use Rattle.tracing.specs.declared.ways.Turned.the-variants.{At, Over, Stop, Fault}
-use Rattle.tracing.specs.Ways.{Linked, turnedTo}
+use Rattle.turning.specs.declared.ways.Turned.{Turned}
+use Rattle.turning.specs.declared.ways.Turned.the-variants.{At, Over, Stop, Fault}
+use Rattle.turning.specs.Ways.{Linked, turnedTo}
 
 abbrev pub cellsAt : ℕ
 cellsAt = 32768

@@ -2,4 +2,3 @@
 mod acts;
 pub mod runs;
 mod turns;
-mod ways;

@@ -1,9 +1,9 @@
 // The run from left to right, with a budget of steps, that tells the matching.
 use crate::turns::turn;
-use crate::ways::Turned;
 use passing::enter;
 use rules::limits::LONGEST_CHAIN;
 use runner::runs::Ended;
+use turning::ways::Turned;
 ghost use Rattle.tracing.specs.Traces.{TraceAt, TraceTold};
 
 // Where the cells of tokens begin in the memory, behind the room for the carriers.

@@ -1,8 +1,8 @@
 // One turn of the run: a step, whose stores are told, and then what control passes.
 use crate::acts::act;
 use crate::runs::CELLS;
-use crate::ways::Turned;
-use crate::ways::onward;
+use turning::ways::Turned;
+use turning::ways::onward;
 ghost use Prim.Native.Nat.{_≤_};
 ghost use lib.ListN.{length};
 ghost use Rattle.tracing.specs.Turns.{TurnAt, TurnTold};

@@ -21,7 +21,7 @@ use Rattle.stepping.specs.Steps.{onward, returning, control, Activates, Into}
 use Rattle.telling.specs.Cited.Passing.{Grouping, passage}
 use Rattle.telling.specs.Cited.Tracing.{Told, told, follow, pickedT, nextT, putT, afterT, stepT}
 use Rattle.telling.specs.Taken.{activates, next-stays, next-over}
-use Rattle.tracing.specs.Ways.{linkTo, wayOf}
+use Rattle.turning.specs.Ways.{linkTo, wayOf}
 
 -- A transfer that faults makes no store.
 fault-quiet : (ds : Table) (w : Work) (s : Carriers) {m p : ℕ} → perform ds w s ≡ faulty m p → made ds w s ≡ []

@@ -40,9 +40,9 @@ use Rattle.matching.specs.Room.{mostGroups, matchingIn, Sound, Stands}
 use Rattle.passing.specs.Ways.{groupingIn, into}
 use Rattle.passing.specs.Depth.{depthAfter}
 use Rattle.passing.specs.Laws.Depth.{depth-told}
-use Rattle.tracing.specs.declared.ways.Turned.{Turned}
-use Rattle.tracing.specs.declared.ways.Turned.the-variants.{At, Over, Stop as Stood, Fault as Broken}
-use Rattle.tracing.specs.Ways.{turnedTo, Linked}
+use Rattle.turning.specs.declared.ways.Turned.{Turned}
+use Rattle.turning.specs.declared.ways.Turned.the-variants.{At, Over, Stop as Stood, Fault as Broken}
+use Rattle.turning.specs.Ways.{turnedTo, Linked}
 use Rattle.tracing.specs.Turns.{cellsAt, groupingAt, TurnAt, Keeps, TurnTold}
 use Rattle.tracing.specs.Traces.{TraceAt, tableOf, codeOf, wordsIn, tracedBy, TraceTold}
 use Rattle.tracing.specs.Laws.Steps.{put-same}

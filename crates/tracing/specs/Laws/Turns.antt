@@ -25,10 +25,10 @@ use Rattle.matching.specs.Matching.{Matching, toldAll}
 use Rattle.matching.specs.Room.{mostGroups, matchingIn}
 use Rattle.passing.specs.Depth.{depthAfter}
 use Rattle.passing.specs.Laws.Telling.{told-append}
-use Rattle.tracing.specs.declared.ways.Turned.{Turned}
-use Rattle.tracing.specs.declared.ways.Turned.the-variants.{At, Over, Stop as Stood, Fault as Broken}
+use Rattle.turning.specs.declared.ways.Turned.{Turned}
+use Rattle.turning.specs.declared.ways.Turned.the-variants.{At, Over, Stop as Stood, Fault as Broken}
 use Rattle.tracing.specs.Acts.{ActTold}
-use Rattle.tracing.specs.Ways.{linkTo, wayOf, turnedTo, WayAt, WayTold}
+use Rattle.turning.specs.Ways.{linkTo, wayOf, turnedTo, WayAt, WayTold}
 use Rattle.tracing.specs.Turns.{cellsAt, groupingAt, TurnAt, Keeps, TurnTold}
 use Rattle.tracing.specs.Laws.Steps.{Calm, Takes, takes}
 

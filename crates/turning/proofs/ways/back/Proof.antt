@@ -1,14 +1,14 @@
--- `tracing::ways::back` meets its contract: activations are left until one goes on.
+-- `turning::ways::back` meets its contract: activations are left until one goes on.
 -- Assumes nothing.
 use borrow.Author.Needs.{needs}
 use native.Mathlib.Omega.{arith}
 use mathlib.Core.Path.{_≡_, refl}
 use lib.ListN.{length}
 use Rattle.telling.specs.Cited.Tracing.{return}
-use Rattle.tracing.specs.Ways.{WayAt}
-use Rattle.tracing.specs.Laws.Ways.{Returning, top-within, top-linked, behind-few, none-left, one-left, out-of-all, gone-on}
-use Rattle.tracing.proofs.ways.back.Statement.{statement}
-use Rattle.tracing.proofs.ways.back.Tie as tie
+use Rattle.turning.specs.Ways.{WayAt}
+use Rattle.turning.specs.Laws.Ways.{Returning, top-within, top-linked, behind-few, none-left, one-left, out-of-all, gone-on}
+use Rattle.turning.proofs.ways.back.Statement.{statement}
+use Rattle.turning.proofs.ways.back.Tie as tie
 
 abbrev Inv-loop : tie.InvT-loop
 Inv-loop records cells room₀ stack depth n top₀ room top =

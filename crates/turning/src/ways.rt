@@ -7,7 +7,7 @@ use table::records::link_at;
 ghost use Prim.Native.Nat.{_<_};
 ghost use lib.ListN.{length};
 ghost use Rattle.telling.specs.Cited.Tracing.{return};
-ghost use Rattle.tracing.specs.Ways.{wayOf, WayAt, WayTold};
+ghost use Rattle.turning.specs.Ways.{wayOf, WayAt, WayTold};
 
 // Where control is behind a step: at an instruction, with so many activations that go on; all has ended; at a STOP; or at a fault.
 pub enum Turned {

@@ -1,9 +1,9 @@
--- `tracing::ways::onward` meets its contract: control goes where the step leads, and what it passes is told.
+-- `turning::ways::onward` meets its contract: control goes where the step leads, and what it passes is told.
 -- Assumes nothing.
 use borrow.Author.Needs.{needs}
-use Rattle.tracing.specs.Laws.Ways.{way-faults, way-stops, call-few, call-told, go-few, go-told, out-returns, out-told}
-use Rattle.tracing.proofs.ways.onward.Statement.{statement}
-use Rattle.tracing.proofs.ways.onward.Tie as tie
+use Rattle.turning.specs.Laws.Ways.{way-faults, way-stops, call-few, call-told, go-few, go-told, out-returns, out-told}
+use Rattle.turning.proofs.ways.onward.Statement.{statement}
+use Rattle.turning.proofs.ways.onward.Tie as tie
 
 pub onward-spec : {M : Type 1} → statement M
 onward-spec =

@@ -18,8 +18,8 @@ use Rattle.matching.specs.Matching.{toldAll}
 use Rattle.matching.specs.Room.{mostGroups, matchingIn, Sound, Stands}
 use Rattle.passing.specs.Ways.{groupingIn}
 use Rattle.passing.specs.Depth.{depthAfter}
-use Rattle.tracing.specs.declared.ways.Turned.{Turned}
-use Rattle.tracing.specs.declared.ways.Turned.the-variants.{At, Over, Stop as Stood, Fault as Broken}
+use Rattle.turning.specs.declared.ways.Turned.{Turned}
+use Rattle.turning.specs.declared.ways.Turned.the-variants.{At, Over, Stop as Stood, Fault as Broken}
 
 -- 0 leads out of the body
 abbrev pub linkTo : ℕ → Link

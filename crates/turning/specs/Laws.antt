@@ -1,0 +1,2 @@
+-- The laws of the ways that control takes.
+pub mod Ways
