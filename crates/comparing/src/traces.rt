@@ -1,6 +1,6 @@
 // Trace, with its working memory.
 use crate::endings::told_answer;
-use images::bytes::copy;
+use blocks::bytes::copy;
 use lent::answers::Answer;
 use lent::answers::refusal;
 use linking::beginning::begin;

@@ -1,7 +1,3 @@
-pub mod Sums
-pub mod Blocks
 pub mod Images
-pub mod Loops
-pub mod Puts
 pub mod Turns
 pub mod Kept

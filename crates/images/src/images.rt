@@ -1,11 +1,11 @@
 // Whole images: judged block by block, read, written.
-use crate::blocks::BLOCK_SIZE;
-use crate::blocks::HEAD_SIZE;
-use crate::blocks::PAYLOAD_SIZE;
-use crate::blocks::is_checked;
-use crate::blocks::is_formed;
-use crate::blocks::put_block;
-use crate::bytes::copy;
+use blocks::blocks::BLOCK_SIZE;
+use blocks::blocks::HEAD_SIZE;
+use blocks::blocks::PAYLOAD_SIZE;
+use blocks::blocks::is_checked;
+use blocks::blocks::is_formed;
+use blocks::blocks::put_block;
+use blocks::bytes::copy;
 ghost use mathlib.Core.Path.{_≡_};
 ghost use Prim.Native.Nat.{_+_, _-_, _*_, _<_, _≤_, min};
 ghost use lib.ListN.{length};

@@ -11,8 +11,8 @@ use lib.ListN.{length, getD, take, drop, set, length-append, length-take, length
 use lib.Seq.{length-take-le, take-all, take-at, drop-at, take-append-le, drop-append-le, take-set-le, take-set-lt, drop-set-add, getD-take, getD-drop}
 use Rattle.rules.specs.Faults.Fault.{Fault, fault}
 use Rattle.rules.specs.Images.{payloadSize, headSize, blockSize, blockOf, blocksFrom, blocksFor, imageSize, imageOf, blockFault, orFault, blocksFault, imageFault, heldFrom, heldIn}
-use Rattle.images.specs.Laws.Sums.{Bytes}
-use Rattle.images.specs.Laws.Blocks.{bytes-take, bytes-drop, length-block, payload-of-block, block-sound, sound-block, payload-within, block-changed, sound-checked}
+use Rattle.blocks.specs.Laws.Sums.{Bytes}
+use Rattle.blocks.specs.Laws.Blocks.{bytes-take, bytes-drop, length-block, payload-of-block, block-sound, sound-block, payload-within, block-changed, sound-checked}
 
 -- the blocks have room for the bytes
 pub blocks-enough : (size : ℕ) → size ≤ payloadSize * blocksFor size

@@ -18,7 +18,7 @@ use Rattle.rules.specs.Images.{blockSize, blocksFor, imageSize, imageOf, imageF
 use Rattle.rules.specs.Keeping.{Kept, declined, kept, refusedOr, faultUnless, carriersSize, fault60, fault61, fault62, storing, loading, Keeps, not-accepted, kept-by}
 use Rattle.laws_grammar.specs.Answers.{one-verdict, accepted-iff-lawful, descriptionOf, description-of}
 use Rattle.laws_accepted.specs.Accepted.Declared.{accepted-declares, few-words}
-use Rattle.images.specs.Laws.Sums.{Bytes}
+use Rattle.blocks.specs.Laws.Sums.{Bytes}
 use Rattle.images.specs.Laws.Images.{length-image, image-sound, image-holds, length-held-in, image-of-held, image-changed}
 
 -- a text has one description

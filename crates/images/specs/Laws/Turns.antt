@@ -12,7 +12,7 @@ use lib.ListN.{length, take, drop, length-append, length-take, length-drop, drop
 use lib.Seq.{length-take-le, take-all, take-at, drop-drop, take-length, paste, take-paste, length-paste}
 use Rattle.rules.specs.Faults.Fault.{Fault, fault}
 use Rattle.rules.specs.Images.{payloadSize, headSize, checkedSize, blockSize, blockOf, blocksFrom, blocksFor, imageSize, imageOf, isChecked, isFormed, faultBy, blockFault, orFault, blocksFault, imageFault, heldFrom, heldIn}
-use Rattle.images.specs.Laws.Blocks.{length-block}
+use Rattle.blocks.specs.Laws.Blocks.{length-block}
 
 -- so many blocks of an image, i of them passed
 pub record Passed (size blocks : ℕ) (image : List ℕ) (i : ℕ) : Type 0 where

@@ -17,7 +17,7 @@ use Rattle.rules.specs.Keeping.{Kept, declined, kept, refusedOr, faultUnless, a
 use Rattle.rules.specs.Calls.Memory.{Memory, Enough, settled}
 use Rattle.rules.specs.Calls.Keep.{KeepCall, StoreCall, LoadCall, short-memory, long-text, answer, keptNumber, keptNumbers}
 use Rattle.laws.specs.Refusals.Numbered.{checks-numbered}
-use Rattle.images.specs.Laws.Sums.{Bytes}
+use Rattle.blocks.specs.Laws.Sums.{Bytes}
 use Rattle.images.specs.Laws.Kept as law
 
 -- one result

@@ -1,11 +1,11 @@
--- `images::blocks::is_formed` meets its contract: the tests come in the order of the rules.
+-- `blocks::blocks::is_formed` meets its contract: the tests come in the order of the rules.
 -- Assumes nothing.
 use borrow.Author.Needs.{needs}
 use mathlib.Core.Path.{_∙_}
 use native.Mathlib.Omega.{arith}
-use Rattle.images.specs.Laws.Puts.{other-number, other-edition, other-count, by-padding}
-use Rattle.images.proofs.blocks.is_formed.Statement.{statement}
-use Rattle.images.proofs.blocks.is_formed.Tie as tie
+use Rattle.blocks.specs.Laws.Puts.{other-number, other-edition, other-count, by-padding}
+use Rattle.blocks.proofs.blocks.is_formed.Statement.{statement}
+use Rattle.blocks.proofs.blocks.is_formed.Tie as tie
 
 returns : tie.Need-returns
 returns c = other-number (c .before .before .before .args .block .now) (c .before .before .before .args .number) (c .before .before .before .args .used) (c .if1 .taken)

@@ -1,9 +1,9 @@
--- `images::blocks::put_check` meets its contract: two halves of a number.
+-- `blocks::blocks::put_check` meets its contract: two halves of a number.
 -- Assumes nothing.
 use borrow.Author.Needs.{needs}
-use Rattle.images.specs.Laws.Puts.{check-written}
-use Rattle.images.proofs.blocks.put_check.Statement.{statement}
-use Rattle.images.proofs.blocks.put_check.Tie as tie
+use Rattle.blocks.specs.Laws.Puts.{check-written}
+use Rattle.blocks.proofs.blocks.put_check.Statement.{statement}
+use Rattle.blocks.proofs.blocks.put_check.Tie as tie
 
 returns : tie.Need-returns
 returns c =

@@ -1,12 +1,12 @@
--- `images::blocks::put_block` meets its contract.
+-- `blocks::blocks::put_block` meets its contract.
 -- Assumes nothing.
 use borrow.Author.Needs.{needs}
 use mathlib.Core.Path.{sym}
 use native.Mathlib.Omega.{arith}
 use lib.Seq.{length-take-le}
-use Rattle.images.specs.Laws.Puts.{block-put, length-fronted}
-use Rattle.images.proofs.blocks.put_block.Statement.{statement}
-use Rattle.images.proofs.blocks.put_block.Tie as tie
+use Rattle.blocks.specs.Laws.Puts.{block-put, length-fronted}
+use Rattle.blocks.proofs.blocks.put_block.Statement.{statement}
+use Rattle.blocks.proofs.blocks.put_block.Tie as tie
 
 slice-aggregate-check-of : tie.Need-slice-aggregate-check-of
 slice-aggregate-check-of c =

@@ -1,11 +1,11 @@
--- `images::blocks::stored_check` meets its contract: two halves of a number.
+-- `blocks::blocks::stored_check` meets its contract: two halves of a number.
 -- Assumes nothing.
 use borrow.Author.Needs.{needs}
 use mathlib.Core.Path.{_∙_, ap₂}
 use Prim.Native.Nat.{ℕ, _+_, _*_}
-use Rattle.images.specs.Laws.Puts.{check-read}
-use Rattle.images.proofs.blocks.stored_check.Statement.{statement}
-use Rattle.images.proofs.blocks.stored_check.Tie as tie
+use Rattle.blocks.specs.Laws.Puts.{check-read}
+use Rattle.blocks.proofs.blocks.stored_check.Statement.{statement}
+use Rattle.blocks.proofs.blocks.stored_check.Tie as tie
 
 returns : tie.Need-returns
 returns c = ap₂ (λ (x y : ℕ). x + 65536 * y) (c .before .get16 .ensures) (c .get162 .ensures) ∙ check-read (c .before .before .before .args .block .now)

@@ -1,12 +1,12 @@
--- `images::blocks::check_of` meets its contract: what is summed up and what is left make the check.
+-- `blocks::blocks::check_of` meets its contract: what is summed up and what is left make the check.
 -- Assumes nothing.
 use borrow.Author.Needs.{needs}
 use Prim.Native.Nat.{_-_}
 use native.Mathlib.Omega.{arith}
 use lib.ListN.{length}
-use Rattle.images.specs.Laws.Loops.{Summed, none-summed, more-summed, all-summed}
-use Rattle.images.proofs.blocks.check_of.Statement.{statement}
-use Rattle.images.proofs.blocks.check_of.Tie as tie
+use Rattle.blocks.specs.Laws.Loops.{Summed, none-summed, more-summed, all-summed}
+use Rattle.blocks.proofs.blocks.check_of.Statement.{statement}
+use Rattle.blocks.proofs.blocks.check_of.Tie as tie
 
 abbrev Inv-loop : tie.InvT-loop
 Inv-loop front sum₀ i₀ sum i = Summed front sum i

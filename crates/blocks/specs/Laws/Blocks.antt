@@ -15,7 +15,7 @@ use Rattle.rules.specs.Answers.{littleEndian, bytesOf}
 use Rattle.laws_accepted.specs.Accepted.Named.{and-both}
 use Rattle.starts.specs.Laws.Buffers.{bytes-back}
 use Rattle.rules.specs.Images.{payloadSize, headSize, checkedSize, blockSize, edition, checkOf, frontOf, blockOf, isChecked, allZero, isFormed, faultBy, blockFault}
-use Rattle.images.specs.Laws.Sums.{Bytes, length-bytes, number-front, check-bounded, check-changed, number-changed}
+use Rattle.blocks.specs.Laws.Sums.{Bytes, length-bytes, number-front, check-bounded, check-changed, number-changed}
 
 -- bytes, part by part
 pub bytes-cons : (b : ℕ) (bs : List ℕ) → b < 256 → Bytes bs → Bytes (b ∷ bs)

@@ -1,11 +1,11 @@
 use borrow.Author.Needs.{needs}
-use Rattle.images.specs.Laws.Puts.{front-put}
-use Rattle.images.proofs.blocks.put_front.Statement.{statement}
-use Rattle.images.proofs.blocks.put_front.Tie as tie
-use Rattle.images.proofs.blocks.put_front.Reads as reads
-use Rattle.images.proofs.blocks.put_front.Lts as lts
-use Rattle.images.proofs.blocks.put_head.Reads as put-head-reads
-use Rattle.images.proofs.bytes.copy.Reads as copy-reads
+use Rattle.blocks.specs.Laws.Puts.{front-put}
+use Rattle.blocks.proofs.blocks.put_front.Statement.{statement}
+use Rattle.blocks.proofs.blocks.put_front.Tie as tie
+use Rattle.blocks.proofs.blocks.put_front.Reads as reads
+use Rattle.blocks.proofs.blocks.put_front.Lts as lts
+use Rattle.blocks.proofs.blocks.put_head.Reads as put-head-reads
+use Rattle.blocks.proofs.bytes.copy.Reads as copy-reads
 
 -- src/blocks.rt:96:5
 put-head-requires : tie.Need-put-head-requires

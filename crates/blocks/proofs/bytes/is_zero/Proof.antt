@@ -1,11 +1,11 @@
--- `images::bytes::is_zero` meets its contract: the bytes passed are 0, so the others decide.
+-- `blocks::bytes::is_zero` meets its contract: the bytes passed are 0, so the others decide.
 -- Assumes nothing.
 use borrow.Author.Needs.{needs}
 use Prim.Native.Nat.{_-_}
 use lib.ListN.{length}
-use Rattle.images.specs.Laws.Loops.{Zeros, none-zero, more-zero, not-zero, all-zero}
-use Rattle.images.proofs.bytes.is_zero.Statement.{statement}
-use Rattle.images.proofs.bytes.is_zero.Tie as tie
+use Rattle.blocks.specs.Laws.Loops.{Zeros, none-zero, more-zero, not-zero, all-zero}
+use Rattle.blocks.proofs.bytes.is_zero.Statement.{statement}
+use Rattle.blocks.proofs.bytes.is_zero.Tie as tie
 
 abbrev Inv-loop : tie.InvT-loop
 Inv-loop bytes i₀ i = Zeros bytes i

@@ -1,10 +1,10 @@
--- `images::blocks::put_head` meets its contract.
+-- `blocks::blocks::put_head` meets its contract.
 -- Assumes nothing.
 use borrow.Author.Needs.{needs}
 use mathlib.Core.Path.{sym, _∙_}
-use Rattle.images.specs.Laws.Puts.{head-put, head-room, length-headed}
-use Rattle.images.proofs.blocks.put_head.Statement.{statement}
-use Rattle.images.proofs.blocks.put_head.Tie as tie
+use Rattle.blocks.specs.Laws.Puts.{head-put, head-room, length-headed}
+use Rattle.blocks.proofs.blocks.put_head.Statement.{statement}
+use Rattle.blocks.proofs.blocks.put_head.Tie as tie
 
 put16-requires : tie.Need-put16-requires
 put16-requires c κs = head-room _ (c .before .before .before .before .before .before .args .block .now) _ (c .before .before .before .before .before .before .pre .0) (c .before .before .before .clear .ensures)

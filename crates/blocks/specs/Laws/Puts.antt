@@ -15,8 +15,8 @@ use Rattle.rules.specs.Answers.{littleEndian, bytesOf}
 use Rattle.starts.specs.Laws.Buffers.{number-at}
 use Rattle.lent.specs.Laws.Bytes.{put-behind, byte-step}
 use Rattle.rules.specs.Images.{payloadSize, headSize, checkedSize, blockSize, edition, frontOf, blockOf, checkOf, isFormed, allZero}
-use Rattle.images.specs.Laws.Sums.{length-bytes}
-use Rattle.images.specs.Laws.Blocks.{length-front}
+use Rattle.blocks.specs.Laws.Sums.{length-bytes}
+use Rattle.blocks.specs.Laws.Blocks.{length-front}
 
 -- a part of a front
 drop-take : (m n : ℕ) (l : List ℕ) → drop m (take n l) ≡ take (n - m) (drop m l)

@@ -1,10 +1,10 @@
--- `images::blocks::weight` meets its contract: the weight is small.
+-- `blocks::blocks::weight` meets its contract: the weight is small.
 -- Assumes nothing.
 use borrow.Author.Needs.{needs}
 use native.Mathlib.Omega.{arith}
-use Rattle.images.specs.Laws.Sums.{weight-bounded}
-use Rattle.images.proofs.blocks.weight.Statement.{statement}
-use Rattle.images.proofs.blocks.weight.Tie as tie
+use Rattle.blocks.specs.Laws.Sums.{weight-bounded}
+use Rattle.blocks.proofs.blocks.weight.Statement.{statement}
+use Rattle.blocks.proofs.blocks.weight.Tie as tie
 
 mul-result : tie.Need-mul-result
 mul-result c = omega (arith, weight-bounded (c .args .byte) (c .args .position) (omega arith) (omega arith))

@@ -1,4 +1,4 @@
--- `images::blocks::is_checked` meets its contract.
+-- `blocks::blocks::is_checked` meets its contract.
 -- Assumes nothing.
 use borrow.Author.Needs.{needs}
 use mathlib.Core.Path.{sym, ap₂}
@@ -6,8 +6,8 @@ use native.Mathlib.Omega.{arith}
 use lib.Dec.{eqb}
 use lib.Seq.{length-take-le}
 use Rattle.rules.specs.Images.{isChecked}
-use Rattle.images.proofs.blocks.is_checked.Statement.{statement}
-use Rattle.images.proofs.blocks.is_checked.Tie as tie
+use Rattle.blocks.proofs.blocks.is_checked.Statement.{statement}
+use Rattle.blocks.proofs.blocks.is_checked.Tie as tie
 
 returns : tie.Need-returns
 unfolding isChecked

@@ -1,11 +1,11 @@
--- `images::bytes::copy` meets its contract: the bytes passed are copied, and the others are as they were.
+-- `blocks::bytes::copy` meets its contract: the bytes passed are copied, and the others are as they were.
 -- Assumes nothing.
 use borrow.Author.Needs.{needs}
 use Prim.Native.Nat.{_-_}
 use lib.ListN.{length}
-use Rattle.images.specs.Laws.Loops.{Copied, none-copied, more-copied, all-copied}
-use Rattle.images.proofs.bytes.copy.Statement.{statement}
-use Rattle.images.proofs.bytes.copy.Tie as tie
+use Rattle.blocks.specs.Laws.Loops.{Copied, none-copied, more-copied, all-copied}
+use Rattle.blocks.proofs.bytes.copy.Statement.{statement}
+use Rattle.blocks.proofs.bytes.copy.Tie as tie
 
 abbrev Inv-loop : tie.InvT-loop
 Inv-loop to₀ at from i₀ to i = Copied to₀ at from to i
