@@ -15,8 +15,8 @@ use Rattle.table.specs.Words.{wordAt}
 use Rattle.reading.specs.Reading.{Reading, tableOf}
 use Rattle.reading.specs.Events.{heard}
 use Rattle.reading.specs.Calls.{callsOf}
-use Rattle.bounding.specs.Holding.{enough}
-use Rattle.bounding.specs.Walking.{tableSize, undeclared, indexOf}
+use Rattle.counting.specs.Holding.{enough}
+use Rattle.walking.specs.Walking.{tableSize, undeclared, indexOf}
 
 -- a description without faults of the 50s
 pub record Ready (records decls : List ℕ) (m n : ℕ) : Type 0 where

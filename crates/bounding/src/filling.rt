@@ -1,11 +1,11 @@
 // The counts of the bodies, by recursion down activations: each body is walked once, behind those that it activates. The remaining length of the chain falls.
-use crate::names::UNDECLARED;
-use crate::names::index_of;
-use crate::walks::walk;
 use cells::get64;
 use cells::put64;
 use reading::bodies::body_at;
 use reading::calls::next_call;
+use walking::names::UNDECLARED;
+use walking::names::index_of;
+use walking::walks::walk;
 ghost use mathlib.Core.Path.{_≡_};
 ghost use mathlib.Core.Bool.{false};
 ghost use Prim.Native.Nat.{_<_, _≤_};

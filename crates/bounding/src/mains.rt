@@ -1,11 +1,11 @@
 // The count of MAIN.
 use crate::filling::blank;
 use crate::filling::fill;
-use crate::names::index_of;
 use cells::get16;
 use cells::get64;
 use rules::limits::LONGEST_CHAIN;
 use table::views::main_of;
+use walking::names::index_of;
 ghost use Prim.Native.Nat.{_≤_};
 ghost use lib.ListN.{length};
 ghost use Rattle.links.specs.Mains.{MainIn};

@@ -1,6 +1,6 @@
 // The bound of a text, as an answer.
-use bounding::counts::ENDLESS;
 use bounding::mains::longest;
+use counting::counts::ENDLESS;
 use lent::answers::Answer;
 use lent::answers::refusal;
 use lent::answers::unrefused;

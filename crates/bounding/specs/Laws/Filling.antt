@@ -31,12 +31,12 @@ use Rattle.reading.specs.Laws.Reading.{kinded}
 use Rattle.reading.specs.Laws.Names.{number-bound}
 use Rattle.reading.specs.Laws.Meanings.{table-size}
 use Rattle.reading.specs.Laws.Bodies.{body-calls}
-use Rattle.bounding.specs.Machine.{run, outset}
-use Rattle.bounding.specs.Walking.{tableSize, undeclared, numberOr, indexOf, Scene}
-use Rattle.bounding.specs.Going.{Beginning, Walked}
+use Rattle.counting.specs.Machine.{run, outset}
+use Rattle.walking.specs.Walking.{tableSize, undeclared, numberOr, indexOf, Scene}
+use Rattle.walking.specs.Going.{Beginning, Walked}
 use Rattle.bounding.specs.Filling.{Ready, countIn, unknown, Known, Right, ShortFrom, callsFrom, Blank, Fillable, Grows, Fills, Descends}
 use Rattle.bounding.specs.Laws.Machine.{body-read}
-use Rattle.bounding.specs.Laws.Holding.{put-size, put-same, put-here}
+use Rattle.counting.specs.Laws.Holding.{put-size, put-same, put-here}
 use Rattle.bounding.specs.Laws.Knowing.{no-chains, count-some, low-counts, body-known}
 
 -- the first k counts are taken away

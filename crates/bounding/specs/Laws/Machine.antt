@@ -21,7 +21,7 @@ use Rattle.laws_grammar.specs.Cited.Nesting.{actionNest, membersNest, alternati
 use Rattle.bounds.specs.Walk.{endless, up, walk, walkMembers, walkAlternatives, walkCounted, walkSelected, walkMore}
 use Rattle.reading.specs.Kinds.{tests, begins, mode}
 use Rattle.reading.specs.Laws.Hearing.{Apart, by-comma, by-semi, by-end, by-next, members-apart, counted-apart, more-apart}
-use Rattle.bounding.specs.Machine.{Frame, frame, State, state, opened, none-open, takesStep, turns, acted, run, outset}
+use Rattle.counting.specs.Machine.{Frame, frame, State, state, opened, none-open, takesStep, turns, acted, run, outset}
 
 module _ (counts : Word → ℕ) where
   abbrev R : ℕ → State → Tokens → ℕ

@@ -10,8 +10,8 @@ use Rattle.bounding.proofs.filling.+descend+fill.Lts-descend as descend
 use Rattle.bounding.proofs.filling.fill.Reads as fill
 use Rattle.bounding.proofs.filling.fill.Kinds as fill-kinds
 use Rattle.bounding.proofs.filling.+descend+fill.Lts-fill as fill-lts
-use Rattle.bounding.proofs.names.index_of.Reads as index-of-reads
-use Rattle.bounding.proofs.walks.walk.Reads as walk-reads
+use Rattle.walking.proofs.names.index_of.Reads as index-of-reads
+use Rattle.walking.proofs.walks.walk.Reads as walk-reads
 use Rattle.cells.proofs.get64.Reads as get64-reads
 use Rattle.cells.proofs.put64.Reads as put64-reads
 use Rattle.reading.proofs.bodies.body_at.Reads as body-at-reads

@@ -1,0 +1,2 @@
+-- The laws of counts and open brackets.
+pub mod Holding

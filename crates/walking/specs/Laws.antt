@@ -1,0 +1,3 @@
+-- The laws of the walk.
+pub mod Acting
+pub mod Going
