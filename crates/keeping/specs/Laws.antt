@@ -1,3 +1,3 @@
 -- The laws of keeping.
-pub mod Cases
+pub mod Answered
 pub mod Calls

@@ -1,4 +1,5 @@
-// How Store and Load end, and the answer that says so.
+// The answer that says how Store and Load ended.
+use kept::endings::Ending;
 use lent::answers::Answer;
 use lent::answers::refusal;
 use lent::answers::unrefused;
@@ -7,13 +8,7 @@ ghost use mathlib.Core.List.{List};
 ghost use Prim.Native.Nat.{ℕ};
 ghost use Rattle.rules.specs.Calls.Keep.{keptNumbers};
 ghost use Rattle.lent.specs.Numbers.{numbersOf};
-ghost use Rattle.keeping.specs.Kept.{keptOf, Near};
-
-// With a refusal, its number and its place; or the buffer is written.
-pub enum Ending {
-    Refused(u32, usize),
-    Done,
-}
+ghost use Rattle.kept.specs.Kept.{keptOf, Near};
 
 // The numbers of an ending.
 pub fn ending_answer(text: &[u8], e: Ending) -> Answer

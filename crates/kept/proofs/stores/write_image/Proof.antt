@@ -1,10 +1,10 @@
--- `keeping::stores::write_image` meets its contract.
+-- `kept::stores::write_image` meets its contract.
 -- Assumes nothing.
 use borrow.Author.Needs.{needs}
 use mathlib.Core.Path.{refl, sym, _∙_}
-use Rattle.keeping.specs.Kept.{wrong-length, written}
-use Rattle.keeping.proofs.stores.write_image.Statement.{statement}
-use Rattle.keeping.proofs.stores.write_image.Tie as tie
+use Rattle.kept.specs.Kept.{wrong-length, written}
+use Rattle.kept.proofs.stores.write_image.Statement.{statement}
+use Rattle.kept.proofs.stores.write_image.Tie as tie
 
 returns : tie.Need-returns
 returns c = wrong-length (λ e. c .if1 .taken (e ∙ sym (c .before .image-size .ensures))) refl

@@ -8,8 +8,8 @@ use Rattle.rules.specs.Declarations.{Table, declarations}
 use Rattle.table.specs.Ready.{Ready}
 use Rattle.rules.specs.Images.{imageOf, imageSize, heldIn}
 use Rattle.rules.specs.Keeping.{Kept, declined, kept, refusedOr, fault61, Keeps, keptIn}
-use Rattle.keeping.specs.declared.endings.Ending.{Ending}
-use Rattle.keeping.specs.declared.endings.Ending.the-variants.{Refused, Done}
+use Rattle.kept.specs.declared.endings.Ending.{Ending}
+use Rattle.kept.specs.declared.endings.Ending.the-variants.{Refused, Done}
 
 -- an accepted description that stands in the table
 pub record Stands (records values decls : List ℕ) (m : ℕ) : Type 0 where

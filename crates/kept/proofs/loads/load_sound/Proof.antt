@@ -1,4 +1,4 @@
--- `keeping::loads::load_sound` meets its contract.
+-- `kept::loads::load_sound` meets its contract.
 -- Assumes nothing.
 use borrow.Author.Needs.{needs}
 use native.Mathlib.Omega.{arith}
@@ -6,10 +6,10 @@ use mathlib.Core.Path.{ap, _∙_}
 use lib.ListN.{length-take}
 use Rattle.rules.specs.Images.{imageSize}
 use Rattle.starts.specs.Laws.Cases.{declines-by, begins-by}
-use Rattle.keeping.specs.Kept.{tableOf}
-use Rattle.keeping.specs.Laws.Cases.{same-held, taken-declined, taken-done}
-use Rattle.keeping.proofs.loads.load_sound.Statement.{statement}
-use Rattle.keeping.proofs.loads.load_sound.Tie as tie
+use Rattle.kept.specs.Kept.{tableOf}
+use Rattle.kept.specs.Laws.Cases.{same-held, taken-declined, taken-done}
+use Rattle.kept.proofs.loads.load_sound.Statement.{statement}
+use Rattle.kept.proofs.loads.load_sound.Tie as tie
 
 slice-aggregate-start-held : tie.Need-slice-aggregate-start-held
 slice-aggregate-start-held c = simp length-take (omega arith)

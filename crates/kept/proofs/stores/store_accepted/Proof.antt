@@ -1,11 +1,11 @@
--- `keeping::stores::store_accepted` meets its contract.
+-- `kept::stores::store_accepted` meets its contract.
 -- Assumes nothing.
 use borrow.Author.Needs.{needs}
 use Rattle.starts.specs.Laws.Cases.{declines-by, begins-by}
-use Rattle.keeping.specs.Laws.Cases.{store-declined, store-begun, small-carriers}
-use Rattle.keeping.specs.Kept.{tableOf}
-use Rattle.keeping.proofs.stores.store_accepted.Statement.{statement}
-use Rattle.keeping.proofs.stores.store_accepted.Tie as tie
+use Rattle.kept.specs.Laws.Cases.{store-declined, store-begun, small-carriers}
+use Rattle.kept.specs.Kept.{tableOf}
+use Rattle.kept.proofs.stores.store_accepted.Statement.{statement}
+use Rattle.kept.proofs.stores.store_accepted.Tie as tie
 
 start-requires : tie.Need-start-requires
 start-requires c κs = let v = c .before .before .before .before .before .pre in (v .text, v .tokens, v .description, v .ready)

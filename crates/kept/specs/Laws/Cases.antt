@@ -1,4 +1,4 @@
--- The cases of Store and Load, from what start, judge and the reader found.
+-- The cases of Store and Load, from what start and judge found.
 -- Assumes nothing.
 use Prim.Native.Nat.{ℕ, _+_, _*_, _<_, _≤_}
 use mathlib.Core.Path.{_≡_, refl, sym, ap, ap₂, _∙_, subst}
@@ -9,29 +9,24 @@ use native.Mathlib.Omega.{arith}
 use borrow.Author.Tests.{eq-eqb, ne-eqb}
 use lib.Dec.{eqb}
 use lib.ListN.{length}
-use Rattle.rules.specs.Text.Scan.{scan}
-use Rattle.rules.specs.Declarations.{Table, totalWords, declarations}
+use Rattle.rules.specs.Declarations.{Table, totalWords}
 use Rattle.rules.specs.Steps.Runs.{run}
 use Rattle.rules.specs.Faults.Fault.{Fault, fault}
 use Rattle.rules.specs.Faults.Whole.{mainName}
 use Rattle.rules.specs.Answers.{Result, ended, resultOf, startOr61, runOn, wordsFrom, wordLengths, longWord}
 use Rattle.rules.specs.Answers.{refusal as not-run}
 use Rattle.rules.specs.Images.{imageSize, imageOf, blocksFor, imageFault, heldIn}
-use Rattle.rules.specs.Keeping.{Kept, declined, kept, refusedOr, faultUnless, at61, carriersSize, fault60, fault61, fault62, storing, loading, Keeps, not-accepted, kept-by, keptIn}
+use Rattle.rules.specs.Keeping.{Kept, declined, kept, refusedOr, faultUnless, at61, carriersSize, fault60, fault61, fault62, storing, loading, keptIn}
 use Rattle.starts.specs.Starts.{Starts, begins, declines, Begins, Declines}
-use Rattle.reader.specs.Parsed.{Refuses}
-use Rattle.reader.specs.Judged.{Judges, refuses, accepts, Accepts}
-use Rattle.reader.specs.declared.judging.Verdict.{Verdict}
-use Rattle.reader.specs.declared.judging.Verdict.the-variants.{Accepted}
 use Rattle.laws_accepted.specs.Accepted.Declared.{declares, few-words}
 use Rattle.starts.specs.declared.Started.{Started}
 use Rattle.images.specs.Judged.{faultOf}
 use Rattle.images.specs.declared.images.Judged.{Judged}
 use Rattle.images.specs.declared.images.Judged.the-variants.{Fine, Refused as Bad}
 use Rattle.images.specs.Laws.Images.{length-held-in, blocks-near}
-use Rattle.keeping.specs.Kept.{Stands, tableOf, keptOf, Keeping, Written, wrong-length, written, Taken, Answered}
-use Rattle.keeping.specs.declared.endings.Ending.{Ending}
-use Rattle.keeping.specs.declared.endings.Ending.the-variants.{Refused, Done}
+use Rattle.kept.specs.Kept.{Stands, tableOf, keptOf, Keeping, Written, wrong-length, written, Taken}
+use Rattle.kept.specs.declared.endings.Ending.{Ending}
+use Rattle.kept.specs.declared.endings.Ending.the-variants.{Refused, Done}
 
 -- a refusal, and bytes that are written
 declined-as : (x : Kept) (target : List ℕ) (m p : ℕ) → x ≡ declined m p → p < 65536 → Keeping x target target (Refused m p)
@@ -169,21 +164,6 @@ module _ (ds : Table) (image carriers : List ℕ) where
         let words = heldIn (length carriers) image in
         record { taken = done-as _ carriers left (ap (λ x. refusedOr x (kept words)) (run-begun ds words b .1) ∙ ap kept (sym e)) }
 
--- the whole
-pub refused-answer : {text : List ℕ} {call : Table → Kept} {target : List ℕ} {m p : ℕ} → Refuses text m p → Answered text call target target (Refused m p)
-refused-answer {target = target} {m} {p} r = record {
-  result = declined m p;
-  keeps = not-accepted (r .checks);
-  keeping = record { is = refl; left-is = refl; near = omega (arith, r .near) };
-}
-
-pub kept-answer : {text records values decls : List ℕ} {m words n : ℕ} {call : Table → Kept} {target left : List ℕ} {r : Ending} (v : Accepts text records values decls m words n)
-    → Keeping (call (declarations (v .lawful .declares .description))) target left r → Answered text call target left r
-kept-answer {call = call} v k = record { result = call (declarations (v .lawful .declares .description)); keeps = kept-by _ (v .lawful .declares .reads) (v .verdict); keeping = k }
-
-abbrev pub standing : {text records values decls : List ℕ} {m words n : ℕ} → Accepts text records values decls m words n → Stands records values decls m
-standing {text} v = record { text = text; tokens = scan text .tokens; description = v .lawful .declares .description; ready = v .lawful .declares .ready }
-
 pub small-carriers : {records values decls carriers : List ℕ} {m : ℕ} (v : Stands records values decls m) → Begins (tableOf v) carriers → length carriers ≤ 32768
 small-carriers v b = omega (arith, b .long, few-words (declares (v .description) (v .ready .lawful)))
 
@@ -195,11 +175,3 @@ judged-refused image h e q = sym (ap faultOf e) ∙ h ∙ ap (λ s. imageFault s
 
 pub judged-fine : {r : Judged} (image : List ℕ) {k size : ℕ} → faultOf r ≡ imageFault k image → r ≡ Fine → k ≡ size → none ≡ imageFault size image
 judged-fine image h e q = sym (ap faultOf e) ∙ h ∙ ap (λ s. imageFault s image) q
-
-pub accepted-by : {text records values decls : List ℕ} {r : Verdict} {m w n : ℕ} → Judges text records values decls r → r ≡ Accepted m w n → Accepts text records values decls m w n
-accepted-by (refuses h) e = let z : _≡_ {A = ℕ} 0 1 = cc in absurd (omega arith)
-accepted-by {text} {records} {values} {decls} {m = m} {w} {n} (accepts {m = j} {words = v} {n = k} h) e =
-    let x : j ≡ m = cc in
-    let y : v ≡ w = cc in
-    let z : k ≡ n = cc in
-    subst (λ q. Accepts text records values decls q w n) x (subst (λ q. Accepts text records values decls j q n) y (subst (Accepts text records values decls j v) z h))

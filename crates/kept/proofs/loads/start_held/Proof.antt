@@ -1,13 +1,13 @@
--- `keeping::loads::start_held` meets its contract.
+-- `kept::loads::start_held` meets its contract.
 -- Assumes nothing.
 use borrow.Author.Needs.{needs}
 use mathlib.Core.Path.{subst}
 use mathlib.Core.List.{List}
 use Prim.Native.Nat.{ℕ}
 use Rattle.starts.specs.Starts.{Starts}
-use Rattle.keeping.specs.Kept.{tableOf}
-use Rattle.keeping.proofs.loads.start_held.Statement.{statement}
-use Rattle.keeping.proofs.loads.start_held.Tie as tie
+use Rattle.kept.specs.Kept.{tableOf}
+use Rattle.kept.proofs.loads.start_held.Statement.{statement}
+use Rattle.kept.proofs.loads.start_held.Tie as tie
 
 start-requires : tie.Need-start-requires
 start-requires c κs = let v = c .before .before .before .before .before .before .before .before .before .before .pre .0 in (v .text, v .tokens, v .description, v .ready)

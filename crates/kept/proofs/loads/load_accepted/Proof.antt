@@ -1,14 +1,14 @@
--- `keeping::loads::load_accepted` meets its contract.
+-- `kept::loads::load_accepted` meets its contract.
 -- Assumes nothing.
 use borrow.Author.Needs.{needs}
 use native.Mathlib.Omega.{arith}
 use Prim.Native.Nat.{ℕ, _*_}
 use mathlib.Core.Path.{sym, ap, _∙_}
 use Rattle.rules.specs.Images.{imageSize}
-use Rattle.keeping.specs.Kept.{tableOf}
-use Rattle.keeping.specs.Laws.Cases.{load-60, load-62, load-block, load-sound, judged-refused, judged-fine}
-use Rattle.keeping.proofs.loads.load_accepted.Statement.{statement}
-use Rattle.keeping.proofs.loads.load_accepted.Tie as tie
+use Rattle.kept.specs.Kept.{tableOf}
+use Rattle.kept.specs.Laws.Cases.{load-60, load-62, load-block, load-sound, judged-refused, judged-fine}
+use Rattle.kept.proofs.loads.load_accepted.Statement.{statement}
+use Rattle.kept.proofs.loads.load_accepted.Tie as tie
 
 returns : tie.Need-returns
 returns c = λ v w. load-60 (tableOf v) _ _ (λ e. c .if1 .taken (e ∙ ap (λ (k : ℕ). 8 * k) (sym w)))

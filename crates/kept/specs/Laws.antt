@@ -1,0 +1,2 @@
+-- The laws of kept carriers.
+pub mod Cases
