@@ -1,4 +1,4 @@
-// Summaries of items: what is known of every value that they match, worked out once, so that most lists are told apart without comparing their items.
+// Summaries of items: what is known of every value that they match. Lists that their summaries tell apart need no comparison of items.
 use crate::items::Item;
 use crate::meets::higher;
 use crate::meets::lower;
