@@ -21,7 +21,7 @@ use Rattle.expressions.specs.Names.{NamedAt, NamedAnswer}
 use Rattle.expressions.specs.Laws.Accesses as accesses
 use Rattle.expressions.specs.Laws.Operands as operands
 use Rattle.expressions.specs.Operands.{OperandIn, Bared}
-use Rattle.expressions.specs.Settling.{SettleAt, Settles}
+use Rattle.weighing.specs.Settling.{SettleAt, Settles}
 use Rattle.expressions.specs.Laws.Expressions as chains
 use Rattle.expressions.specs.Laws.Expressions.{Going}
 

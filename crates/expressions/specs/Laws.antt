@@ -1,12 +1,9 @@
 -- The laws of expressions and destinations.
 pub mod Tests
-pub mod Weights
 pub mod Operands
 pub mod Lookups
 pub mod Lengths
 pub mod Names
-pub mod Chains
-pub mod Settling
 pub mod Expressions
 pub mod Accesses
 pub mod Carriers

@@ -1,10 +1,7 @@
-pub mod Weights
 pub mod Scene
 pub mod Operands
 pub mod Lengths
 pub mod Names
-pub mod Chains
-pub mod Settling
 pub mod Carriers
 pub mod Owners
 pub mod Destinations

@@ -12,7 +12,7 @@ use Rattle.rules.specs.Faults.Bodies.{Judged, judge, judgeFactor, judgeDestinat
 use Rattle.laws_grammar.specs.Cited.Nesting.{operandNest, tailNest, subscriptNest}
 use Rattle.table.specs.Ready.{Ready}
 use Rattle.table.specs.Operators.{endsAccess, endsExpression}
-use Rattle.expressions.specs.Weights.{Weighs}
+use Rattle.weighing.specs.Weights.{Weighs}
 use Rattle.expressions.specs.declared.Judged.{Judged as Answer}
 
 -- a description whose declarations are passed

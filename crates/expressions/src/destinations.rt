@@ -1,11 +1,9 @@
 // A destination: accesses joined by `@`, up to `=`.
-use crate::Weight;
 use crate::carriers::Carriers;
 use crate::carriers::has;
 use crate::carriers::no_carriers;
 use crate::carriers::with;
 use crate::judge::access;
-use crate::operators::combined;
 use crate::owners::Storage;
 use crate::owners::owner;
 use table::keys::NO_KEY;
@@ -14,6 +12,8 @@ use table::keys::fault_key;
 use table::kinds::AT;
 use table::records::kind_at;
 use table::records::place_at;
+use weighing::Weight;
+use weighing::operators::combined;
 ghost use mathlib.Core.Path.{_≡_};
 ghost use Prim.Native.Nat.{_+_, _*_, _≤_};
 ghost use lib.ListN.{length};

@@ -2,8 +2,6 @@
 // with each; NOTs and operators in a row are loops.
 use crate::Judged;
 use crate::names::named;
-use crate::operators::Settled;
-use crate::operators::settle;
 use table::keys::NO_KEY;
 use table::keys::earlier;
 use table::kinds::CONST;
@@ -13,6 +11,8 @@ use table::kinds::NOT;
 use table::operators::tightness_of;
 use table::records::kind_at;
 use table::records::size_at;
+use weighing::operators::Settled;
+use weighing::operators::settle;
 ghost use Rattle.expressions.specs.Scene.{ExpressionAt, ExpressionAnswer, OperandAt, OperandAnswer, AccessAt, AccessAnswer};
 ghost use Rattle.expressions.specs.Operands.{OperandIn, Bared};
 

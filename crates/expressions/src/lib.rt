@@ -4,7 +4,6 @@ pub mod destinations;
 pub mod judge;
 pub mod lengths;
 pub mod names;
-pub mod operators;
 pub mod owners;
 
 // What is judged: the key of its least fault, its length (0 if it has a fault), and the token behind it.
@@ -12,10 +11,4 @@ pub struct Judged {
     pub key: u32,
     pub bits: u32,
     pub next: usize,
-}
-
-// The key of a judged thing, and its length.
-pub struct Weight {
-    pub key: u32,
-    pub bits: u32,
 }

@@ -1,6 +1,5 @@
 // The name of an access, judged by its declaration.
 use crate::Judged;
-use crate::Weight;
 use crate::lengths::access_length;
 use cells::get16;
 use table::keys::NO_KEY;
@@ -14,6 +13,7 @@ use table::views::bits_of;
 use table::views::bits_size;
 use table::views::names_at;
 use table::views::words_of;
+use weighing::Weight;
 ghost use mathlib.Core.Path.{_≡_};
 ghost use Prim.Native.Nat.{_+_, _≤_};
 ghost use mathlib.Core.Option.{Option};
@@ -22,7 +22,7 @@ ghost use Rattle.rules.specs.Grammar.Precedence.{Index};
 ghost use Rattle.rules.specs.Declarations as rules;
 ghost use Rattle.rules.specs.Faults.Bodies.{accessJudged};
 ghost use Rattle.expressions.specs.Lengths.{Short};
-ghost use Rattle.expressions.specs.Weights.{Weighs};
+ghost use Rattle.weighing.specs.Weights.{Weighs};
 ghost use Rattle.expressions.specs.Names.{NamedAt, NamedAnswer, isMissing, fitsWords, Shows};
 
 pub fn is_missing(names: Names) -> bool

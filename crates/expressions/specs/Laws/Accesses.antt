@@ -16,7 +16,7 @@ use Rattle.table.specs.Keys.{noKey}
 use Rattle.table.specs.Laws.Positions.{Here, here, behind-far, kind-here, record-within}
 use Rattle.expressions.specs.declared.Judged.{Judged as Answer}
 use Rattle.table.specs.Laws.Operators as kinds
-use Rattle.expressions.specs.Laws.Weights.{weighs-again, beside-unsound, beside-sound}
+use Rattle.weighing.specs.Laws.Weights.{weighs-again, beside-unsound, beside-sound}
 use Rattle.expressions.specs.Scene.{ExpressionAt, ExpressionAnswer, AccessAt, AccessAnswer}
 use Rattle.expressions.specs.Names.{NamedAt, NamedAnswer}
 

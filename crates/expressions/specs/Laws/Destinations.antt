@@ -24,7 +24,7 @@ use Rattle.expressions.specs.declared.Judged.{Judged as Answer}
 use Rattle.expressions.specs.declared.owners.Storage.{Storage}
 use Rattle.expressions.specs.declared.owners.Storage.the-variants.{Carrier, Nothing}
 use Rattle.table.specs.Operators.{endsAccess}
-use Rattle.expressions.specs.Weights.{Weighs, operated}
+use Rattle.weighing.specs.Weights.{Weighs, operated}
 use Rattle.expressions.specs.Scene.{outerOf, tableOf, AccessAt, AccessAnswer}
 use Rattle.expressions.specs.Carriers.{holds}
 use Rattle.expressions.specs.Laws.Carriers.{none-held, added-long, added-held}

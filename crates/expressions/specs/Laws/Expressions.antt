@@ -18,11 +18,11 @@ use Rattle.table.specs.Laws.Positions.{Here, here, kind-here, record-within}
 use Rattle.expressions.specs.declared.Judged.{Judged as Answer}
 use Rattle.table.specs.Operators.{tightnessAt, endsAccess, endsExpression}
 use Rattle.table.specs.Laws.Operators.{tightness-at, tightness-range, no-operator, ends-access, operator-ends}
-use Rattle.expressions.specs.Weights.{Weighs, operated}
+use Rattle.weighing.specs.Weights.{Weighs, operated}
 use Rattle.expressions.specs.Scene.{outerOf, tableOf, ExpressionAt, OperandAt, OperandAnswer, Answers}
-use Rattle.expressions.specs.Chains.{Wait}
-use Rattle.expressions.specs.Laws.Chains.{Under, under-few, wait-push, wait-looser, under-looser, settled-all, chain-judged}
-use Rattle.expressions.specs.Settling.{SettleAt, Settles}
+use Rattle.weighing.specs.Chains.{Wait}
+use Rattle.weighing.specs.Laws.Chains.{Under, under-few, wait-push, wait-looser, under-looser, settled-all, chain-judged}
+use Rattle.weighing.specs.Settling.{SettleAt, Settles}
 
 -- the token behind an operand of a chain: the next operator, or what ends the expression
 record Behind (t : Tail) (ts : Tokens) : Type 0 where

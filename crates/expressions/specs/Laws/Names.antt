@@ -25,8 +25,8 @@ use Rattle.table.specs.Laws.Bits.{access-bits}
 use Rattle.table.specs.Shown.{shownBits, shownWords}
 use Rattle.table.specs.declared.views.Names.{Names}
 use Rattle.table.specs.Laws.Operators.{no-bits}
-use Rattle.expressions.specs.Weights.{Weighs}
-use Rattle.expressions.specs.Laws.Weights.{weighs-fault, weighs-sound}
+use Rattle.weighing.specs.Weights.{Weighs}
+use Rattle.weighing.specs.Laws.Weights.{weighs-fault, weighs-sound}
 use Rattle.expressions.specs.Scene.{Scene, outerOf, tableOf}
 use Rattle.expressions.specs.Laws.Lookups.{Found, undeclared, declared}
 use Rattle.expressions.specs.Lengths.{accessLength, Short}

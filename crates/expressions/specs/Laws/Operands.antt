@@ -15,7 +15,7 @@ use Rattle.table.specs.Holds.{kindByte, sizeByte, tokenAt}
 use Rattle.table.specs.Keys.{noKey}
 use Rattle.table.specs.Laws.Positions.{Here, here, kind-here, record-within}
 use Rattle.expressions.specs.declared.Judged.{Judged as Answer}
-use Rattle.expressions.specs.Laws.Weights.{weighs-sound}
+use Rattle.weighing.specs.Laws.Weights.{weighs-sound}
 use Rattle.expressions.specs.Scene.{outerOf, tableOf, ExpressionAt, ExpressionAnswer, OperandAt, OperandAnswer, AccessAt, AccessAnswer, Answers}
 use Rattle.expressions.specs.Operands.{bare, OperandIn, Bared}
 

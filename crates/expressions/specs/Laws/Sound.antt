@@ -15,8 +15,8 @@ use Rattle.rules.specs.Declarations.{Name as Word, Table}
 use Rattle.rules.specs.Faults.Fault.{Fault, when}
 use Rattle.rules.specs.Faults.Bodies.{Judged, over, judge}
 use Rattle.table.specs.Keys.{noKey}
-use Rattle.expressions.specs.Weights.{Weighs}
-use Rattle.expressions.specs.Laws.Weights.{no-faults}
+use Rattle.weighing.specs.Weights.{Weighs}
+use Rattle.weighing.specs.Laws.Weights.{no-faults}
 
 pub record Sound (j : Judged) : Type 0 where
   pub none : j .faults ≡ []

@@ -13,10 +13,10 @@ use Rattle.rules.specs.Faults.Bodies.{Judged}
 use Rattle.table.specs.Holds.{kindByte, placeCell}
 use Rattle.table.specs.Keys.{noKey, leastKey}
 use Rattle.expressions.specs.declared.Judged.{Judged as Answer}
-use Rattle.expressions.specs.declared.Weight.{Weight}
+use Rattle.weighing.specs.declared.Weight.{Weight}
 use Rattle.expressions.specs.declared.carriers.Carriers.{Carriers}
 use Rattle.expressions.specs.declared.owners.Storage.{Storage}
-use Rattle.expressions.specs.Weights.{Weighs, operated}
+use Rattle.weighing.specs.Weights.{Weighs, operated}
 use Rattle.expressions.specs.Scene.{AccessAt, AccessAnswer}
 use Rattle.expressions.specs.Owners.{NameHere, Owns}
 use Rattle.expressions.specs.Destinations.{DestinationAt, DestinationAnswer, repeats, stored}

@@ -14,7 +14,7 @@ use Rattle.rules.specs.Faults.Fault.{fault}
 use Rattle.rules.specs.Faults.Bodies.{accessJudged}
 use Rattle.table.specs.Keys.{key, noKey}
 use Rattle.table.specs.declared.views.Names.{Names}
-use Rattle.expressions.specs.Weights.{Weighs}
+use Rattle.weighing.specs.Weights.{Weighs}
 use Rattle.expressions.specs.Lengths.{Short, accessLength}
 use Rattle.expressions.specs.Names.{Shows, isMissing, fitsWords}
 use Rattle.expressions.specs.Laws.Names.{access-bitless, access-unfit, access-outside, access-sound}

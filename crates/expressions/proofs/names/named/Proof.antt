@@ -22,7 +22,7 @@ use Rattle.table.specs.Laws.Bits.{bits-within}
 use Rattle.table.specs.Views.{View}
 use Rattle.table.specs.Shown.{shownWords, shownBits}
 use Rattle.table.specs.declared.views.Names.{Names}
-use Rattle.expressions.specs.Weights.{Weighs}
+use Rattle.weighing.specs.Weights.{Weighs}
 use Rattle.expressions.specs.Lengths.{Short}
 use Rattle.expressions.specs.Laws.Lengths.{shown-short}
 use Rattle.expressions.specs.Laws.Lookups.{Found, view-of, short-bits}

@@ -8,7 +8,7 @@ use Rattle.rules.specs.Grammar.Trees.{Tokens}
 use Rattle.rules.specs.Faults.Bodies.{Judged}
 use Rattle.laws_grammar.specs.Cited.Shunting.{Waiting}
 use Rattle.table.specs.Holds.{tokenAt}
-use Rattle.expressions.specs.Weights.{Weighs}
+use Rattle.weighing.specs.Weights.{Weighs}
 
 -- an operator that waits: its token is `at`, and its left operand weighs so
 pub record WaitsAt (tokens : Tokens) (at k n : ℕ) (w : Waiting Judged) : Type 0 where

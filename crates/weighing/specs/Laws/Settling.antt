@@ -12,10 +12,10 @@ use Rattle.rules.specs.Faults.Bodies.{Judged}
 use Rattle.laws_grammar.specs.Cited.Shunting.{Waiting, looser, settled}
 use Rattle.table.specs.Holds.{tokenAt, kindByte, placeCell}
 use Rattle.table.specs.Laws.Positions.{kind-here, record-within}
-use Rattle.expressions.specs.Weights.{Weighs, operated}
-use Rattle.expressions.specs.Chains.{WaitsAt, Wait}
-use Rattle.expressions.specs.Laws.Chains.{after, looser-pass, settled-pass, looser-stop, settled-stop}
-use Rattle.expressions.specs.Settling.{SettleAt, Settles}
+use Rattle.weighing.specs.Weights.{Weighs, operated}
+use Rattle.weighing.specs.Chains.{WaitsAt, Wait}
+use Rattle.weighing.specs.Laws.Chains.{after, looser-pass, settled-pass, looser-stop, settled-stop}
+use Rattle.weighing.specs.Settling.{SettleAt, Settles}
 
 -- on the way: settling the rest comes to the same
 pub record Settling {records ats keys lengths : List ℕ} {count₀ k₀ n₀ : ℕ} (v : SettleAt records ats keys lengths count₀ k₀ n₀)

@@ -8,8 +8,8 @@ use Rattle.rules.specs.Grammar.Precedence.{Factor}
 use Rattle.rules.specs.Faults.Bodies.{Judged}
 use Rattle.laws_grammar.specs.Cited.Shunting.{Waiting, looser, settled}
 use Rattle.table.specs.Holds.{Holds}
-use Rattle.expressions.specs.Weights.{Weighs, operated}
-use Rattle.expressions.specs.Chains.{Wait}
+use Rattle.weighing.specs.Weights.{Weighs, operated}
+use Rattle.weighing.specs.Chains.{Wait}
 
 -- `count` operators wait in the arrays, and the operand behind the last of them weighs k and n
 pub record SettleAt (records ats keys lengths : List ℕ) (count k n : ℕ) : Type 0 where

@@ -1,4 +1,4 @@
--- `expressions::operators::combined` meets its contract: an operand has a fault, the result is too long, or neither.
+-- `weighing::operators::combined` meets its contract: an operand has a fault, the result is too long, or neither.
 -- Assumes nothing.
 use borrow.Author.Needs.{needs}
 use mathlib.Core.Path.{_≡_, ap, _∙_}
@@ -11,10 +11,10 @@ use Rattle.rules.specs.Faults.Bodies.{Judged}
 use Rattle.values.specs.Operators.{opAt}
 use Rattle.values.specs.Laws.Operators.{opAt-kind}
 use Rattle.table.specs.Keys.{key, noKey}
-use Rattle.expressions.specs.Weights.{Weighs, operated}
-use Rattle.expressions.specs.Laws.Weights.{operated-unsound, operated-long, operated-short}
-use Rattle.expressions.proofs.operators.combined.Statement.{statement}
-use Rattle.expressions.proofs.operators.combined.Tie as tie
+use Rattle.weighing.specs.Weights.{Weighs, operated}
+use Rattle.weighing.specs.Laws.Weights.{operated-unsound, operated-long, operated-short}
+use Rattle.weighing.proofs.operators.combined.Statement.{statement}
+use Rattle.weighing.proofs.operators.combined.Tie as tie
 
 module _ (op place k m l n : ℕ) where
   -- whatever is judged so, the weight is that of the operator's result

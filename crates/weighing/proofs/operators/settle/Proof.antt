@@ -1,4 +1,4 @@
--- `expressions::operators::settle` meets its contract. The invariant: settling what still waits comes to settling all.
+-- `weighing::operators::settle` meets its contract. The invariant: settling what still waits comes to settling all.
 -- Assumes nothing.
 use borrow.Author.Needs.{needs}
 use native.Mathlib.Omega.{arith}
@@ -12,11 +12,11 @@ use Rattle.rules.specs.Faults.Bodies.{Judged, judgedAs}
 use Rattle.table.specs.Holds.{kindByte, placeCell}
 use Rattle.table.specs.Operators.{tightnessAt}
 use Rattle.table.specs.Laws.Operators.{tightness-at}
-use Rattle.expressions.specs.Weights.{Weighs, operated}
-use Rattle.expressions.specs.Settling.{SettleAt, Settles}
-use Rattle.expressions.specs.Laws.Settling.{Settling, top, top-room, top-kind, top-place, top-small, length-fits, left-fits, turned, stopped, emptied}
-use Rattle.expressions.proofs.operators.settle.Statement.{statement}
-use Rattle.expressions.proofs.operators.settle.Tie as tie
+use Rattle.weighing.specs.Weights.{Weighs, operated}
+use Rattle.weighing.specs.Settling.{SettleAt, Settles}
+use Rattle.weighing.specs.Laws.Settling.{Settling, top, top-room, top-kind, top-place, top-small, length-fits, left-fits, turned, stopped, emptied}
+use Rattle.weighing.proofs.operators.settle.Statement.{statement}
+use Rattle.weighing.proofs.operators.settle.Tie as tie
 
 record Inv (records ats keys lengths : List ℕ) (tight count₀ k₀ n₀ count k n : ℕ) : Type 0 where
   pub now : SettleAt records ats keys lengths count k n

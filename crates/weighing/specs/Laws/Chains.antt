@@ -16,8 +16,8 @@ use Rattle.rules.specs.Faults.Bodies.{Judged, judge, judgeFactor}
 use Rattle.laws_grammar.specs.Cited.Shunting.{Waiting, combine, looser, settled}
 use Rattle.laws_grammar.specs.Grammar.Shunting.{valueOf, unwind, chain, chain-is}
 use Rattle.table.specs.Laws.Operators.{tightness-range}
-use Rattle.expressions.specs.Weights.{operated}
-use Rattle.expressions.specs.Chains.{Wait, WaitsAt}
+use Rattle.weighing.specs.Weights.{operated}
+use Rattle.weighing.specs.Chains.{Wait, WaitsAt}
 
 -- the rules' judgement is that of the chain
 module _ (outer : Word) (ds : Table) where

@@ -12,8 +12,8 @@ ghost use Prim.Native.Nat.{_≤_};
 ghost use Rattle.rules.specs.Text.Tokens.{Info, Op, opKind, kindNo};
 ghost use Rattle.rules.specs.Grammar.Precedence.{Factor};
 ghost use Rattle.rules.specs.Faults.Bodies as rules;
-ghost use Rattle.expressions.specs.Weights.{Weighs, operated};
-ghost use Rattle.expressions.specs.Settling.{SettleAt, Settles};
+ghost use Rattle.weighing.specs.Weights.{Weighs, operated};
+ghost use Rattle.weighing.specs.Settling.{SettleAt, Settles};
 
 // How many operators still wait, and the weight of what is settled.
 pub struct Settled {

@@ -14,7 +14,7 @@ use Rattle.rules.specs.Faults.Bodies.{Judged, judgedAs, soundBits, over}
 use Rattle.values.specs.Laws.Results.{result-some}
 use Rattle.table.specs.Keys.{key, noKey, leastBy, leastKey, Smalls, none-small, also-small}
 use Rattle.table.specs.Laws.Keys.{by-place, smalls-append, least-bounded, least-append, no-fault}
-use Rattle.expressions.specs.Weights.{Weighs, operated}
+use Rattle.weighing.specs.Weights.{Weighs, operated}
 
 -- faults and their least key
 pub no-faults : {fs : List Fault} → Smalls fs → noKey ≤ leastKey fs → fs ≡ []

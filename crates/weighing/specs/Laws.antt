@@ -1,0 +1,4 @@
+-- The laws of weights.
+pub mod Weights
+pub mod Chains
+pub mod Settling

@@ -1,0 +1,4 @@
+pub mod Weights
+pub mod Chains
+pub mod Settling
+pub mod Laws
