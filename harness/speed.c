@@ -1,4 +1,5 @@
 /* speed [MILLISECONDS]: times the library against the reference, which is built at -O2 for the same target, side by side in one run.
+ * Check of the three texts with the most names: microseconds.
  * Why on refused texts: nanoseconds for a byte of text, and the ratio to Check.
  * Check, Profile, Bound and Trace, which here takes no step: nanoseconds for a byte of text, the ratio of the two, and the library's time relative to its time for a typical text.
  * Run and Trace: million steps a second, and the ratio; for a short run, which reading dominates, thousand runs a second. */
@@ -154,6 +155,18 @@ static void time_by_byte(const char *what, void (*library_call)(void), void (*re
     printf("\n");
 }
 
+/* On the texts with the most names. */
+static void time_largest(void)
+{
+    const char *name;
+    printf("%-36s %6s %9s %9s %7s\n", "Check, microseconds a text", "bytes", "library", "reference", "ratio");
+    for (unsigned i = 0; (name = largest_text(i, text, &text_len)) != NULL; i++) {
+        Times times = time_both(library_check, reference_check_once);
+        printf("%-36s %6u %9.1f %9.1f %7.2f\n", name, (unsigned)text_len, times.library / 1e3, times.reference / 1e3, times.library / times.reference);
+    }
+    printf("\n");
+}
+
 /* On the refused texts, of which it says more than Check does. */
 static void time_why(void)
 {
@@ -240,6 +253,7 @@ int main(int count, char **arguments)
 {
     least_time = (count > 1 ? (double)strtoul(arguments[1], NULL, 10) : 50) * 1e6;
     time_by_byte("Check, nanoseconds a byte", library_check, reference_check_once);
+    time_largest();
     time_why();
     time_by_byte("Profile, nanoseconds a byte", library_profile, reference_profile_once);
     time_by_byte("Bound, nanoseconds a byte", library_bound, reference_bound_once);

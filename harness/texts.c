@@ -337,6 +337,52 @@ static void short_names(void)
     finish();
 }
 
+/* As many names as may be declared, of the greatest length and alike but for their last letters, each of them used in turn. */
+static void all_names_used(void)
+{
+    add("N:=BEGIN ", 3);
+    for (unsigned i = 0; i < 255; i++)
+        add_with("HEALTH.COUNTER.OF.THE.SOURCE.%03u<>,", i, 4);
+    add("MAIN P:=BEGIN ", 4);
+    for (unsigned i = 0; has_room(RESERVE, 300); i++) {
+        add_with("HEALTH.COUNTER.OF.THE.SOURCE.%03u=", i % 255, 2);
+        add_with("HEALTH.COUNTER.OF.THE.SOURCE.%03u NEXT ", (i + 128) % 255, 2);
+    }
+    finish();
+}
+
+static void one_name(void)
+{
+    start();
+    add("A=A", 3);
+    add_until_full(" OR A", 2);
+    add(" END END", 2);
+}
+
+/* The head that the library's search for a word starts from: 33 times the number so far and a letter, of which 256 numbers are told apart. */
+static unsigned head_of(const char *word)
+{
+    unsigned head = 0;
+    for (; *word != '\0'; word++)
+        head = (head * 33 + (unsigned char)*word) % 256;
+    return head;
+}
+
+/* Labels that all start from one head. */
+static void labels_with_one_head(void)
+{
+    char label[16];
+    start();
+    for (unsigned i = 0; has_room_to_go_on(); i++) {
+        snprintf(label, sizeof label, "L%X", i);
+        if (head_of(label) == 0) {
+            add(label, 1);
+            add(":=", 1);
+        }
+    }
+    finish();
+}
+
 static void mappings(void)
 {
     add("N:=BEGIN ", 3);
@@ -385,6 +431,18 @@ static void leaves_below_labels(void)
     unsigned labels = 0;
     for (; tokens < MOST_TOKENS / 2; labels++)
         add_with("L%x:=", labels, 2);
+    add("BEGIN ", 1);
+    add_until_full("LEAVE L0 NEXT ", 3);
+    add("NO.OP() END END END", 6);
+}
+
+/* The same in a member of a group. */
+static void leaves_in_a_member(void)
+{
+    start();
+    add("NO.OP();", 4);
+    for (unsigned i = 0; tokens < MOST_TOKENS / 2; i++)
+        add_with("L%x:=", i, 2);
     add("BEGIN ", 1);
     add_until_full("LEAVE L0 NEXT ", 3);
     add("NO.OP() END END END", 6);
@@ -487,51 +545,75 @@ static void marks_only(void)
         add(";", 1);
 }
 
-const char *hard_text(unsigned number, uint8_t text[ISPS_LONGEST_TEXT], size_t *len)
+typedef struct {
+    const char *name;
+    void (*build)(void);
+} Hard;
+
+static const Hard hard[] = {
+    {"REPEATs in a row", repeats},
+    {"NOTs in a row", nots},
+    {"IFs in a row", ifs},
+    {"IFs in a row that act", true_ifs},
+    {"labels in a row", labels_in_a_row},
+    {"labelled REPEATs in a row", labelled_repeats},
+    {"BEGIN nested 32 deep", nested_blocks},
+    {"( nested 32 deep", nested_rounds},
+    {"operators nested 32 deep", nested_operators},
+    {"[ nested 32 deep", nested_subscripts},
+    {"operators in a row", operators_in_a_row},
+    {"( ) with operators in a row", rounds_in_a_row},
+    {"groups of two nested, racing", nested_groups},
+    {"groups of two nested", nested_quiet_groups},
+    {"one wide group", wide_group},
+    {"16 bodies, 100 activations each", chain_of_bodies},
+    {"240 bodies, 6 activations each", wide_activations},
+    {"long names", long_names},
+    {"255 long names, each in turn", all_names_used},
+    {"one name", one_name},
+    {"short names", short_names},
+    {"mappings", mappings},
+    {"joined destinations", joined_destinations},
+    {"labels side by side", labels_side_by_side},
+    {"long labels", long_labels},
+    {"labels that start from one head", labels_with_one_head},
+    {"LEAVEs below many labels", leaves_below_labels},
+    {"LEAVEs in a member", leaves_in_a_member},
+    {"64 lists of constants", singles},
+    {"64 lists, the last item overlaps", overlapping_singles},
+    {"64 lists of ranges", ranges},
+    {"64 lists, open digits and ranges", open_digits_against_ranges},
+    {"a long comment", comment},
+    {"many blanks", blank},
+    {"8,192 semicolons", marks_only},
+};
+
+static const Hard largest[] = {
+    {"255 long names, each in turn", all_names_used},
+    {"labels in a row", labels_in_a_row},
+    {"240 bodies, 6 activations each", wide_activations},
+};
+
+/* Builds the text of this number in a list. */
+static const char *text_of(const Hard *list, size_t count, unsigned number, uint8_t text[ISPS_LONGEST_TEXT], size_t *len)
 {
-    static const struct {
-        const char *name;
-        void (*build)(void);
-    } all[] = {
-        {"REPEATs in a row", repeats},
-        {"NOTs in a row", nots},
-        {"IFs in a row", ifs},
-        {"IFs in a row that act", true_ifs},
-        {"labels in a row", labels_in_a_row},
-        {"labelled REPEATs in a row", labelled_repeats},
-        {"BEGIN nested 32 deep", nested_blocks},
-        {"( nested 32 deep", nested_rounds},
-        {"operators nested 32 deep", nested_operators},
-        {"[ nested 32 deep", nested_subscripts},
-        {"operators in a row", operators_in_a_row},
-        {"( ) with operators in a row", rounds_in_a_row},
-        {"groups of two nested, racing", nested_groups},
-        {"groups of two nested", nested_quiet_groups},
-        {"one wide group", wide_group},
-        {"16 bodies, 100 activations each", chain_of_bodies},
-        {"240 bodies, 6 activations each", wide_activations},
-        {"long names", long_names},
-        {"short names", short_names},
-        {"mappings", mappings},
-        {"joined destinations", joined_destinations},
-        {"labels side by side", labels_side_by_side},
-        {"long labels", long_labels},
-        {"LEAVEs below many labels", leaves_below_labels},
-        {"64 lists of constants", singles},
-        {"64 lists, the last item overlaps", overlapping_singles},
-        {"64 lists of ranges", ranges},
-        {"64 lists, open digits and ranges", open_digits_against_ranges},
-        {"a long comment", comment},
-        {"many blanks", blank},
-        {"8,192 semicolons", marks_only},
-    };
-    if (number >= sizeof all / sizeof all[0])
+    if (number >= count)
         return NULL;
     bytes = text;
     used = tokens = 0;
-    all[number].build();
+    list[number].build();
     *len = used;
-    return all[number].name;
+    return list[number].name;
+}
+
+const char *hard_text(unsigned number, uint8_t text[ISPS_LONGEST_TEXT], size_t *len)
+{
+    return text_of(hard, sizeof hard / sizeof hard[0], number, text, len);
+}
+
+const char *largest_text(unsigned number, uint8_t text[ISPS_LONGEST_TEXT], size_t *len)
+{
+    return text_of(largest, sizeof largest / sizeof largest[0], number, text, len);
 }
 
 static bool is_in_name(uint8_t byte)

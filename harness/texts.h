@@ -12,6 +12,9 @@ extern const char typical_text[];
 /* Writes the text of this number, counted from 0, and gives its name, or NULL if there is none. */
 const char *hard_text(unsigned number, uint8_t text[ISPS_LONGEST_TEXT], size_t *len);
 
+/* The same of the three that are the largest in names: declared ones, labels, and bodies that are activated. */
+const char *largest_text(unsigned number, uint8_t text[ISPS_LONGEST_TEXT], size_t *len);
+
 typedef struct {
     const uint8_t *bytes;
     size_t len;
