@@ -1,7 +1,7 @@
 // Writes how many steps a run of the description on standard input can take at most, from any carriers.
-use asking::bound;
 use lines::answers::Answer;
 use lines::answers::REFUSED;
+use lines::answers::answer_of;
 use lines::bytes::put_byte;
 use lines::bytes::put_bytes;
 use lines::endings::put_labelled;
@@ -11,6 +11,13 @@ ghost use lib.ListN.{length};
 
 // The ending of a text without a bound.
 const NO_BOUND: u64 = 5;
+
+// What the call answers.
+fn bound(text: &[u8], a: &mut [u8], b: &mut [u8], c: &mut [u8]) -> Answer {
+    let mut answer = [0u8; 32];
+    let number = lasting::bound(text, a, b, c, &mut answer);
+    answer_of(number, &answer)
+}
 
 fn put_answer(out: &mut [u8], a: Answer) -> usize
     requires { ⌜ 128 ≤ length (now out) ⌝ }

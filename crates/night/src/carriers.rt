@@ -1,17 +1,42 @@
 // The carriers of a run, from the image that a file keeps and back into it.
 use crate::files::is_missing;
 use crate::files::keep;
-use asking::load;
-use asking::store;
 use images::images::image_size;
 use libc::STDOUT_FILENO;
 use lines::answers::Answer;
 use lines::answers::REFUSED;
+use lines::answers::answer_of;
 use lines::bytes::put_byte;
 use lines::bytes::put_bytes;
 use lines::endings::put_labelled;
 ghost use Prim.Native.Nat.{_+_, _≤_};
 ghost use lib.ListN.{length};
+
+fn store(
+    text: &[u8],
+    carriers: &[u8],
+    image: &mut [u8],
+    a: &mut [u8],
+    b: &mut [u8],
+    c: &mut [u8],
+) -> Answer {
+    let mut answer = [0u8; 32];
+    let number = keeping::store(text, carriers, image, a, b, c, &mut answer);
+    answer_of(number, &answer)
+}
+
+fn load(
+    text: &[u8],
+    image: &[u8],
+    carriers: &mut [u8],
+    a: &mut [u8],
+    b: &mut [u8],
+    c: &mut [u8],
+) -> Answer {
+    let mut answer = [0u8; 32];
+    let number = keeping::load(text, image, carriers, a, b, c, &mut answer);
+    answer_of(number, &answer)
+}
 
 // What a refusal of an image means.
 fn put_reason(out: &mut [u8], at: usize, number: u64) -> usize

@@ -1,13 +1,27 @@
 // Judges the description on standard input by the resume profile: `profile TEST OUTPUT`, with the names of the test and of the output.
 
-use asking::profile;
 use lines::answers::Answer;
+use lines::answers::answer_of;
 use lines::bytes::put_bytes;
 use lines::refusals::put_refused;
 ghost use Prim.Native.Nat.{_+_, _≤_};
 ghost use lib.ListN.{length};
 ghost use Rattle.lines.specs.Appended.{Appended};
 ghost use Rattle.profile.specs.Report.{reasonBytes, reportBytes};
+
+// What the call answers.
+fn profile(
+    text: &[u8],
+    test: &[u8],
+    output: &[u8],
+    a: &mut [u8],
+    b: &mut [u8],
+    c: &mut [u8],
+) -> Answer {
+    let mut answer = [0u8; 32];
+    let number = resuming::profile(text, test, output, a, b, c, &mut answer);
+    answer_of(number, &answer)
+}
 
 // Why the profile is refused, behind the refusal.
 fn put_reason(out: &mut [u8], at: usize, number: u64) -> usize

@@ -7,10 +7,10 @@ use crate::saying::say;
 use crate::saying::say_answer;
 use asking::carrier_bytes;
 use asking::check;
-use asking::trace;
 use libc::STDIN_FILENO;
 use libc::STDOUT_FILENO;
 use lines::answers::Answer;
+use lines::answers::answer_of;
 use lists::files::list_in;
 use rules::limits::LONGEST_TEXT;
 ghost use Prim.Native.Nat.{_≤_};
@@ -21,6 +21,21 @@ const BUDGET: u32 = 1000000;
 
 // Of a list, in bytes.
 const LONGEST_FILE: usize = 262144;
+
+// What the call answers.
+fn trace(
+    entries: &[u8],
+    text: &[u8],
+    carriers: &[u8],
+    a: &mut [u8],
+    b: &mut [u8],
+    c: &mut [u8],
+    d: &mut [u8],
+) -> Answer {
+    let mut answer = [0u8; 32];
+    let number = comparing::trace(text, carriers, BUDGET, entries, a, b, c, d, &mut answer);
+    answer_of(number, &answer)
+}
 
 // Compares the list with the runs of a text from as many zero carriers as it asks for.
 fn compared(
@@ -35,7 +50,7 @@ fn compared(
 ) -> Answer
     requires { ⌜ (size ≤ 32768) × (32768 ≤ length (now carriers)) ⌝ }
 {
-    trace(text, &carriers[..size], BUDGET, entries, a, b, c, d)
+    trace(entries, text, &carriers[..size], a, b, c, d)
 }
 
 // The same for a text that has been judged, and says how that came out.

@@ -4,9 +4,17 @@ mod races;
 mod reports;
 
 use crate::reports::put_report;
-use asking::why;
+use lines::answers::Answer;
+use lines::answers::answer_of;
 ghost use Prim.Native.Nat.{_≤_};
 ghost use lib.ListN.{length};
+
+// What the call answers. The reason is left in its own buffer, as the 24 numbers that the call writes.
+fn why(text: &[u8], a: &mut [u8], b: &mut [u8], c: &mut [u8], reason: &mut [u8]) -> Answer {
+    let mut answer = [0u8; 32];
+    let number = reporting::why(text, a, b, c, reason, &mut answer);
+    answer_of(number, &answer)
+}
 
 // What is said of a text, in this work memory.
 fn explain(out: &mut [u8], text: &[u8], a: &mut [u8], b: &mut [u8], c: &mut [u8]) -> usize
