@@ -9,7 +9,7 @@ use lib.ListN.{length}
 use Rattle.rules.specs.Declarations.{Table, totalWords}
 use Rattle.rules.specs.Answers.{refusal, wordLengths, runOn}
 use Rattle.starts.specs.Starts.{Begins}
-use Rattle.starts.specs.Laws.Buffers.{words-cells}
+use Rattle.buffers.specs.Laws.Buffers.{words-cells}
 use Rattle.starts.proofs.Passing.{longFrom}
 
 module _ (ds : Table) (b : List ℕ) where

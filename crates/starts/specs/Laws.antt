@@ -1,3 +1,2 @@
 -- The laws of the beginning of a run.
 pub mod Cases
-pub mod Buffers

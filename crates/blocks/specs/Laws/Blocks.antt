@@ -13,7 +13,7 @@ use lib.ListN.{length, getD, take, drop, set, replicate, length-append, length-t
 use lib.Seq.{length-take-le, take-all, take-append-le, drop-append-le, take-at, drop-at, drop-drop, take-set-le, take-set-lt, drop-set-lt, drop-set-add, getD-drop, getD-take, getD-set-same, getD-set-other}
 use Rattle.rules.specs.Answers.{littleEndian, bytesOf}
 use Rattle.laws_accepted.specs.Accepted.Named.{and-both}
-use Rattle.starts.specs.Laws.Buffers.{bytes-back}
+use Rattle.buffers.specs.Laws.Buffers.{bytes-back}
 use Rattle.rules.specs.Images.{payloadSize, headSize, checkedSize, blockSize, edition, checkOf, frontOf, blockOf, isChecked, allZero, isFormed, faultBy, blockFault}
 use Rattle.blocks.specs.Laws.Sums.{Bytes, length-bytes, number-front, check-bounded, check-changed, number-changed}
 

@@ -12,7 +12,7 @@ use lib.ListN.{length, getD, take, drop, set, replicate, length-drop, length-app
 use lib.Seq.{getD-take, take-nil, take-length, length-take-le, drop-drop, take-at, drop-at, paste}
 use Rattle.cells.specs.Cells.{leAt, putAt, cell, putCell}
 use Rattle.rules.specs.Answers.{littleEndian, bytesOf}
-use Rattle.starts.specs.Laws.Buffers.{number-at}
+use Rattle.buffers.specs.Laws.Buffers.{number-at}
 use Rattle.lent.specs.Laws.Bytes.{put-behind, byte-step}
 use Rattle.rules.specs.Images.{payloadSize, headSize, checkedSize, blockSize, edition, frontOf, blockOf, checkOf, isFormed, allZero}
 use Rattle.blocks.specs.Laws.Sums.{length-bytes}

@@ -8,7 +8,7 @@ use native.Mathlib.Nat.{mul-le-mul, eq-of-mul-eq-mul-right, pow-succ'}
 use lib.ListN.{length, getD, take, drop, set, length-set}
 use lib.Seq.{take-all, getD-set-same}
 use Rattle.rules.specs.Answers.{littleEndian, bytesOf}
-use Rattle.starts.specs.Laws.Buffers.{bytes-back}
+use Rattle.buffers.specs.Laws.Buffers.{bytes-back}
 use Rattle.rules.specs.Images.{weighed, checkOf}
 
 -- every element is a byte

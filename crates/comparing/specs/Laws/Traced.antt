@@ -40,7 +40,7 @@ use Rattle.runner.specs.Runs.{endingOf, stepsOf}
 use Rattle.runner.specs.declared.runs.Ended.{Ended}
 use Rattle.runner.specs.declared.runs.Ended.the-variants.{Done, Stopped, Paused, Fault as Broken}
 use Rattle.starts.specs.Starts.{Begins, Declines}
-use Rattle.starts.specs.Laws.Buffers.{words-cells}
+use Rattle.buffers.specs.Laws.Buffers.{words-cells}
 use Rattle.reader.specs.Parsed.{Refuses}
 use Rattle.reader.specs.Judged.{Accepts, described-by, table-by}
 use Rattle.running.specs.Prepared.{Prepared}

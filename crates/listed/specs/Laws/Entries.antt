@@ -10,7 +10,7 @@ use lib.ListN.{length, getD, drop}
 use lib.Seq.{drop-drop}
 use borrow.Author.Tests.{eq-eqb, ne-eqb, leb-true}
 use Rattle.cells.specs.Cells.{leAt, cell}
-use Rattle.starts.specs.Laws.Buffers.{number-at}
+use Rattle.buffers.specs.Laws.Buffers.{number-at}
 use Rattle.rules.specs.Answers.{littleEndian}
 use Rattle.rules.specs.Stores.{Entry, entry}
 use Rattle.traces.specs.Answers.{sameEntry}

@@ -22,7 +22,7 @@ use Rattle.lent.specs.declared.answers.Answer.{Answer}
 use Rattle.runner.specs.Runs.{RunAt, RunAnswer, endingOf, stepsOf}
 use Rattle.runner.specs.declared.runs.Ended.{Ended}
 use Rattle.starts.specs.Starts.{Begins, Declines}
-use Rattle.starts.specs.Laws.Buffers.{words-cells, buffer-back}
+use Rattle.buffers.specs.Laws.Buffers.{words-cells, buffer-back}
 use Rattle.reader.specs.Parsed.{Refuses}
 use Rattle.reader.specs.Judged.{Accepts, table-by}
 use Rattle.running.specs.Prepared.{Prepared}

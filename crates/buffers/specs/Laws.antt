@@ -1,0 +1,2 @@
+-- The laws of buffers.
+pub mod Buffers
