@@ -4,7 +4,6 @@ use Prim.Native.Nat.{ℕ, suc, _+_, _-_, _<_, _≤_}
 use mathlib.Core.Path.{_≡_, _∙_}
 use mathlib.Core.List.{List, [], _∷_}
 use native.Mathlib.Omega.{arith}
-use borrow.Author.Tests.{le-leb, lt-leb}
 use lib.ListN.{length, getD, take, drop, length-map, length-take, length-drop}
 use lib.Seq.{drop-cons}
 use Rattle.rules.specs.Text.Bytes.{fold}
@@ -12,19 +11,6 @@ use Rattle.table.specs.Holds.{sizeByte, placeCell, foldedAt}
 use Rattle.lines.specs.Appended.{Appended}
 use Rattle.lines.specs.Laws.Appended.{Left, all-left, less-left, none-left}
 use Rattle.listing.specs.Standing.{nameBytes, NameStands}
-
--- a byte by its tests
-pub below-letters : (b : ℕ) → b < 97 → b ≡ fold b
-unfolding fold
-below-letters b h = rw (lt-leb 97 b h, fold)
-
-pub above-letters : (b : ℕ) → 97 ≤ b → 122 < b → b ≡ fold b
-unfolding fold
-above-letters b l h = rw (le-leb 97 b l, lt-leb b 122 h, fold)
-
-pub small-letter : (b : ℕ) → 97 ≤ b → b ≤ 122 → b - 32 ≡ fold b
-unfolding fold
-small-letter b l h = rw (le-leb 97 b l, le-leb b 122 h, fold)
 
 pub folded-length : (text : List ℕ) (from n : ℕ) → from + n ≤ length text → length (foldedAt text from n) ≡ n
 folded-length text from n room =

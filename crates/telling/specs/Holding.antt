@@ -6,7 +6,7 @@ use mathlib.Core.List.{List, [], _∷_}
 use Rattle.rules.specs.Declarations.{Name}
 use Rattle.rules.specs.Steps.Actions.{Act, seq, par, label, ins, Ins, iff, decode, repeat, leave, restart, call, stop, noop, transfer, Alts, end, alt}
 use Rattle.laws_orders.specs.Cited.Flat.{Link, at, exit, Entries, no-entry, entry, ifI, decodeI, goI, callI, stopI, moveI, Code, Labels, bind, leaveTo, restartTo, Jumps, ownLabel}
-use Rattle.laws_orders.specs.Cited.Flat.{Holds, HoldsI, HoldsAlts, HoldsBodies}
+use Rattle.laws_orders.specs.Cited.Flat.{Holds, HoldsI, HoldsAlts}
 use Rattle.telling.specs.Cited.Passing.{Grouping}
 
 -- where an action stands: by itself inside some members, or as a member with the members of its group that follow it
@@ -98,6 +98,3 @@ module _ (M : Grouping) where
       holdsAlts : (bs : Alts) (c : List ℕ) (ρ : Labels) (t : Entries) (k : Link) → HoldsInAlts c ρ t k bs → HoldsAlts C ρ t k bs
       holdsAlts end c ρ t k h = h
       holdsAlts (alt x a bs) c ρ t k h = (h .0, h .1, h .2, holds a (alone c) ρ (h .0) k (h .3), holdsAlts bs c ρ (h .1) k (h .4))
-
-    pub holds-bodies : (body : Name → Act) → HoldsGrouped body → HoldsBodies C body
-    holds-bodies body h p = holds (body p) (alone []) (ownLabel C p) (C .first p) exit (h p)

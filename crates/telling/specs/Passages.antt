@@ -103,11 +103,6 @@ module _ (M : Grouping) where
   pub passage-on : (c xs ys : List ℕ) → Lasts xs → Firsts ys → passage M (xs ++ c) (into ys c) ≡ map closed xs ++ map opened ys
   passage-on c = passes c c [] (over-same c) refl
 
-  -- inside one member nothing is passed
-  pub passage-same : (c : List ℕ) → passage M c c ≡ []
-  unfolding into
-  passage-same c = passage-on c [] [] tt tt
-
   -- to the next member of a group
   pub passage-next :
       (x y : ℕ) (c xs ys : List ℕ) → M .before y ≡ suc (M .before x) → Lasts xs → Firsts ys

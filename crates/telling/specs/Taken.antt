@@ -66,10 +66,5 @@ module _ (C : Code) (M : Grouping) where
     next-stays n′ σ′ q l =
         let t = taken n i κ σ v (pc n′ σ′) f tt q in t .told-by ∙ ap (λ k. follow C M (M .around n) k κ) (stays (t .link) σ n′ σ′ (t .gone-by) l)
 
-    -- One that leaves it shorter, or ends all, has gone out of the body.
-    pub next-returns : (n′ : ℕ) (σ′ : List ℕ) → nextM C i σ v ≡ pc n′ σ′ → length σ′ < length σ → nextT C M n i κ v ≡ follow C M (M .around n) exit κ
-    next-returns n′ σ′ q l =
-        let t = taken n i κ σ v (pc n′ σ′) f tt q in t .told-by ∙ ap (λ k. follow C M (M .around n) k κ) (returns (t .link) σ n′ σ′ (t .gone-by) l)
-
     pub next-over : nextM C i σ v ≡ over → nextT C M n i κ v ≡ follow C M (M .around n) exit κ
     next-over q = let t = taken n i κ σ v over f tt q in t .told-by ∙ ap (λ k. follow C M (M .around n) k κ) (leaves (t .link) σ (t .gone-by))

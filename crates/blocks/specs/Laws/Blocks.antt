@@ -1,16 +1,16 @@
 -- Laws of one block: that of a payload is sound, a sound block is that of the payload it holds, and one changed byte breaks its check.
 -- Assumes nothing.
-use Prim.Native.Nat.{ℕ, zero, suc, _+_, _-_, _*_, _/_, _%_, _<_, _≤_}
+use Prim.Native.Nat.{ℕ, zero, suc, _+_, _-_, _/_, _%_, _<_, _≤_}
 use mathlib.Core.Path.{_≡_, refl, sym, ap, ap₂, _∙_}
 use mathlib.Core.Bool.{Bool, true, false, _&&_}
 use mathlib.Core.List.{List, [], _∷_, _++_, append-assoc, append-nil}
-use mathlib.Core.Option.{Option, none, some}
+use mathlib.Core.Option.{none, some}
 use native.Mathlib.Omega.{arith}
 use native.Mathlib.Decide.{decLt}
 use borrow.Author.Tests.{eqb-true, eq-eqb, ne-eqb}
 use lib.Dec.{eqb}
-use lib.ListN.{length, getD, take, drop, set, replicate, length-append, length-take, length-drop, length-set, length-replicate, take-append-drop}
-use lib.Seq.{length-take-le, take-all, take-append-le, drop-append-le, take-at, drop-at, drop-drop, take-set-le, take-set-lt, drop-set-lt, drop-set-add, getD-drop, getD-take, getD-set-same, getD-set-other}
+use lib.ListN.{length, getD, take, drop, set, replicate, length-append, length-take, length-drop, length-replicate, take-append-drop}
+use lib.Seq.{length-take-le, take-all, take-append-le, drop-append-le, take-at, drop-at, drop-drop, take-set-le, take-set-lt, drop-set-lt, drop-set-add, getD-drop, getD-take}
 use Rattle.rules.specs.Answers.{littleEndian, bytesOf}
 use Rattle.laws_accepted.specs.Accepted.Named.{and-both}
 use Rattle.buffers.specs.Laws.Buffers.{bytes-back}
@@ -142,10 +142,6 @@ module _ (n : ℕ) (payload : List ℕ) (fits : length payload ≤ payloadSize) 
         bytes-cons n (edition ∷ rest) small (bytes-cons edition rest (omega arith)
         (bytes-append (bytesOf 2 (length payload)) (payload ++ zeros) (bytes-number 2 (length payload))
         (bytes-append payload zeros each (bytes-zeros (payloadSize - length payload)))))
-
-    pub bytes-block : Bytes (blockOf n payload)
-    unfolding blockOf
-    bytes-block = bytes-append (frontOf n payload) (bytesOf 4 (checkOf (frontOf n payload))) bytes-front (bytes-number 4 (checkOf (frontOf n payload)))
 
     checked-block : isChecked (blockOf n payload) ≡ true
     unfolding isChecked

@@ -7,7 +7,7 @@ use Rattle.rules.specs.Text.Tokens.{Info, tk, Const, RPar, RBra}
 use Rattle.rules.specs.Grammar.Trees.{Tokens, bitsTokens, Operand, constant, access, parens, negated, operandTokens, Tail, no-more, with-op, tailTokens, Subscript, no-subscript, subscript, subscriptTokens}
 use Rattle.rules.specs.Grammar.Precedence.{Expr, leaf, node, Factor, number, cell, group, inverse, Index, no-index, index, Link, insert-by, insert, inserts, arrange, tightness, factorOf, linksOf, indexOf, exprOf}
 use native.Mathlib.Decide.{decLt}
-use Rattle.laws_grammar.specs.Grammar.Positions.{Writes, operand-writes, tail-writes, ExpressionAt}
+use Rattle.laws_grammar.specs.Grammar.Positions.{Writes, operand-writes, tail-writes}
 use Rattle.laws_accepted.specs.Cited.Constants.{InBits}
 
 abbrev pub ConstantOk : Info → Type 0
@@ -102,7 +102,3 @@ drop-ok : (i : ℕ) (ts : Tokens) → ConstantsOk ts → ConstantsOk (drop i ts)
 drop-ok zero ts h = h
 drop-ok (suc i) [] h = h
 drop-ok (suc i) (t ∷ ts) h = drop-ok i ts (h .1)
-
--- an expression that stands among tokens
-pub standing-ok : (T : Tokens) (i : ℕ) (o : Operand) (t : Tail) (j : ℕ) → ConstantsOk T → ExpressionAt T i o t j → BitsOk (exprOf o t)
-standing-ok T i o t j h s = expression-ok o t (drop j T) (subst ConstantsOk (s .reads) (drop-ok i T h))

@@ -116,9 +116,5 @@ module _ {outer : Name} {ds : Table} (h : Declares outer ds) where
         let good = goodTarget (d .bits) (t .bits) (declaredAt ds (numberOf ds (t .name .word))) in
         not-false good (or-neither (sameBytes outer (t .name .word)) (not good) g .1)
 
-  -- "256 declarations, or 4,096 words in total"
-  pub few-declarations : length ds ≤ mostDeclarations
-  few-declarations = let r = total-from ds 0 0 (omega arith) (omega arith) (no-fault .1 .1 .0) in omega (arith, r .0)
-
   pub few-words : totalWords ds ≤ mostWords
   few-words = let r = total-from ds 0 0 (omega arith) (omega arith) (no-fault .1 .1 .0) in omega (arith, r .1)

@@ -1,20 +1,20 @@
 -- How many brackets are open, counted on the tokens; and that the stack has one state for each.
 use mathlib.Core.Path.{_≡_, refl, sym, ap, _∙_, subst}
-use mathlib.Core.Bool.{Bool, true, false, not, cond, _&&_}
+use mathlib.Core.Bool.{Bool, true, false, not, _&&_}
 use mathlib.Core.Logic.{_⊎_, inl, inr}
-use mathlib.Core.Option.{Option, none, some, Option·none-ne-some, Option·some-injective}
-use mathlib.Core.List.{List, [], _∷_, _++_}
-use Prim.Native.Nat.{ℕ, zero, suc, _-_, _≤_, _<_}
+use mathlib.Core.Option.{Option, some, Option·none-ne-some, Option·some-injective}
+use mathlib.Core.List.{[], _∷_, _++_}
+use Prim.Native.Nat.{ℕ, suc, _-_, _≤_}
 use native.Mathlib.Omega.{arith}
-use lib.Dec.{T, leb, leb→le, le→leb}
+use lib.Dec.{T, leb→le, le→leb}
 use lib.ListN.{length}
-use Rattle.rules.specs.Text.Tokens.{Kind, Token, same, BEGIN, END, LPar, RPar, LBra, RBra}
+use Rattle.rules.specs.Text.Tokens.{Kind, Token, same}
 use Rattle.laws_grammar.specs.Grammar.Kinds.{same-eq}
 use Rattle.rules.specs.Grammar.Trees.{Tokens}
 use Rattle.rules.specs.Grammar.Verdict.{opens, closes, down, counted-by, count, opened}
 use Rattle.laws_grammar.specs.Cited.Rows.{Rule, Row, row, lookup, first, too-deep}
-use Rattle.laws_grammar.specs.Cited.Rows.{Site, in-block, in-counted, in-selected, in-last, Use, test, choose, value, in-parens, in-subscript}
-use Rattle.laws_grammar.specs.Cited.Rows.{Part, of-expression, of-destination, of-mapping, Owner, of-words, of-name, of-main}
+use Rattle.laws_grammar.specs.Cited.Rows.{in-block, in-counted, in-selected, in-last, test, choose, value, in-parens, in-subscript}
+use Rattle.laws_grammar.specs.Cited.Rows.{of-expression, of-destination, of-mapping, of-words, of-name, of-main}
 use Rattle.laws_grammar.specs.Cited.Rows.{State, title, title-becomes, title-begin, declaration, heading-name, heading-close, declarator, declarator-rest}
 use Rattle.laws_grammar.specs.Cited.Rows.{first-word, word-colon, second-word, words-close, words-bits, own-bits, own-bits-more, own-bits-second, own-bits-close, own-bits-done}
 use Rattle.laws_grammar.specs.Cited.Rows.{body-or-mapping, body-begin, mapping-bits, main-name, main-rest, declaration-done}
@@ -233,10 +233,6 @@ not-both false t f = t
 outer-state : (s : State) (σ : Stack) → Outer (s ∷ σ) → T (not (inside s))
 outer-state s [] o = o
 outer-state s (t ∷ σ) o = absurd o
-
-outer-rest : (s : State) (σ : Stack) → Outer (s ∷ σ) → σ ≡ []
-outer-rest s [] o = refl
-outer-rest s (t ∷ σ) o = absurd o
 
 outer-go : (s a : State) (σ : Stack) → Outer (s ∷ σ) → T (not (inside a)) → Outer (a ∷ σ)
 outer-go s a [] o t = t

@@ -2,8 +2,8 @@
 use mathlib.Core.Bool.{true, false}
 use mathlib.Core.Path.{_≡_, refl}
 use mathlib.Core.List.{_∷_}
-use Rattle.rules.specs.Text.Tokens.{Kind, Info, tk, same, Name, LPar, RPar, LBra, Less, Semi, Becomes, Equals, Arrow, At, BEGIN, END, NEXT, IF, DECODE, REPEAT, LEAVE, RESTART, STOP}
-use Rattle.rules.specs.Grammar.Trees.{Tokens, Bits, all-bits, bits, bitsTokens, Operand, operandTokens, Tail, tailTokens, Subscript, no-subscript, subscript, subscriptTokens, Joined, alone, joined, joinedTokens, Action, block, labelled, if-then, decode, repeat, leave, restart, activate, stop, no-op, transfer, actionTokens, Members, end, also, next, membersTokens, Alternatives, alternativesTokens}
+use Rattle.rules.specs.Text.Tokens.{Kind, Info, tk, same, Name, LPar, RPar, LBra, Less, Becomes, Equals, Arrow, At, BEGIN, IF, DECODE, REPEAT, LEAVE, RESTART, STOP}
+use Rattle.rules.specs.Grammar.Trees.{Tokens, Bits, all-bits, bits, bitsTokens, Operand, operandTokens, Tail, tailTokens, Subscript, no-subscript, subscript, subscriptTokens, Joined, alone, joined, joinedTokens, Action, block, labelled, if-then, decode, repeat, leave, restart, activate, stop, no-op, transfer, actionTokens, Members, membersTokens, Alternatives, alternativesTokens}
 use Rattle.laws_grammar.specs.Cited.Heads.{headKind}
 
 abbrev pub headInfo : Action → Info
@@ -138,9 +138,3 @@ view (activate n l r) = (n, l, r, refl)
 view (stop i l r) = (i, l, r, refl)
 view (no-op i l r) = (i, l, r, refl)
 view (transfer n s b j e o t) = transfer-view n s b j e o t
-
--- members behind an action: END, or `;` or NEXT and another action
-abbrev pub memberKind : Members → Kind
-memberKind (end e) = END
-memberKind (also i a m) = Semi
-memberKind (next i a m) = NEXT

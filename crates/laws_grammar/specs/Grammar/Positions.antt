@@ -1,16 +1,16 @@
 -- Trees write their tokens and nothing else, so they stand at positions of a token list.
 use mathlib.Core.Path.{_≡_, refl, sym, ap, _∙_}
-use mathlib.Core.List.{[], _∷_, _++_}
+use mathlib.Core.List.{_∷_, _++_}
 use Prim.Native.Nat.{ℕ, suc, _+_, _<_}
 use native.Mathlib.Omega.{arith}
-use lib.ListN.{length, drop, getD, length-append}
-use lib.Seq.{drop-append-seam, drop-drop, drop-cons, drop-length}
+use lib.ListN.{length, drop, getD}
+use lib.Seq.{drop-cons, drop-length}
 use Rattle.rules.specs.Text.Tokens.{Kind, Info, Token, tk, opKind, Name, Const, Masked, LPar, RPar, LBra, RBra, Less, Greater, Comma, Semi, Colon, Becomes, Equals, Arrow, At, Stars, BEGIN, END, NEXT, IF, DECODE, OTHERWISE, REPEAT, LEAVE, RESTART, MAIN, STOP, NO-OP, NOT}
 use Rattle.rules.specs.Grammar.Trees.{Tokens, BitsEnd, bit, upto, bitsEndTokens, Bits, all-bits, bits, bitsTokens, Operand, constant, access, parens, negated, operandTokens, Tail, no-more, with-op, tailTokens, Subscript, no-subscript, subscript, subscriptTokens, Joined, alone, joined, joinedTokens, Literal, exact, masked, literalTokens, Range, single, to, rangeTokens, Items, close, item, itemsTokens, Selector, one-of, any-of, selectorTokens, Action, block, labelled, if-then, decode, repeat, leave, restart, activate, stop, no-op, transfer, actionTokens, Members, end, also, next, membersTokens, Alternatives, counted, selected, alternativesTokens, Counted, counted-end, counted-more, countedTokens, Selected, select, otherwise, selectedTokens, SelectedMore, selected-end, selected-more, selectedMoreTokens, OwnBits, unnamed, named, ownBitsTokens, Meaning, body, mapped, meaningTokens, Given, carrier, given, givenTokens, Form, words, with-bits, bare-body, formTokens, MainBits, bitless, main-bits, mainBitsTokens, Declaration, plain, main, declarationTokens, Heading, no-heading, heading, headingTokens, Declarations, declared-all, declared-also, declarationsTokens, Description, descriptionTokens}
 use Rattle.laws_grammar.specs.Cited.Rows.{recognise}
 use Rattle.laws_grammar.specs.Cited.Answer.{accepted}
 use Rattle.laws_grammar.specs.Grammar.Exact.{description-of-accepted}
-use Rattle.laws_grammar.specs.Cited.Positions.{Stands, ActionAt}
+use Rattle.laws_grammar.specs.Cited.Positions.{Stands}
 
 -- what follows stands untouched behind what f writes
 pub record Writes (f : Tokens → Tokens) : Type 0 where
@@ -139,39 +139,6 @@ pub declarations-writes : (d : Declarations) → Writes (declarationsTokens d)
 declarations-writes (declared-all e) = token END e nothing
 declarations-writes (declared-also c h d ds) = token Comma c (then (heading-writes h) (then (declaration-writes d) (declarations-writes ds)))
 
--- one behind the other
-pub stands-join : (f g : Tokens → Tokens) (T : Tokens) (i j k : ℕ) → Writes f → Stands f T i j → Stands g T j k → Stands (λ ts. f (g ts)) T i k
-stands-join f g T i j k w p q =
-    record {
-      size = let a = p .size in let b = q .size in omega (arith, ap length (w .grows [] (g [])), length-append (f []) (g []));
-      ends = q .ends;
-      reads = p .reads ∙ ap f (q .reads);
-    }
-
--- and apart again
-pub stands-split : (f g : Tokens → Tokens) (T : Tokens) (i k : ℕ) → Writes f → Writes g → Stands (λ ts. f (g ts)) T i k
-    → (j : ℕ) × Stands f T i j × Stands g T j k
-stands-split f g T i k w v p =
-    let j = i + length (f []) in
-    let s = p .size in
-    let e : length (f (g [])) ≡ length (f []) + length (g []) = ap length (w .grows [] (g [])) ∙ length-append (f []) (g []) in
-    let h : drop j T ≡ g (drop k T) = sym (drop-drop (length (f [])) i T) ∙ ap (drop (length (f []))) (p .reads ∙ w .grows [] (g (drop k T))) ∙ drop-append-seam (f []) (g (drop k T)) in
-    let l = p .ends in (
-      j,
-      record { size = refl; ends = omega arith; reads = p .reads ∙ ap f (sym h) },
-      record { size = omega arith; ends = p .ends; reads = h },
-    )
-
--- one token
-pub stands-token : (k : Kind) (x : Info) (g : Tokens → Tokens) (T : Tokens) (i j : ℕ) (d : Token) → Stands (λ ts. tk k x ∷ g ts) T i j
-    → (i < length T) × (getD T i d ≡ tk k x) × Stands g T (suc i) j
-stands-token k x g T i j d p =
-    let s = p .size in
-    let l = p .ends in
-    let b : i < length T = omega arith in
-    let c = sym (drop-cons T i d b) ∙ p .reads in
-    (b, ap (λ (ts : Tokens). getD ts 0 d) c, record { size = omega arith; ends = p .ends; reads = ap (drop 1) c })
-
 pub token-stands : (k : Kind) (x : Info) (g : Tokens → Tokens) (T : Tokens) (i j : ℕ) (d : Token) → i < length T → getD T i d ≡ tk k x → Stands g T (suc i) j
     → Stands (λ ts. tk k x ∷ g ts) T i j
 token-stands k x g T i j d b e p =
@@ -186,16 +153,6 @@ ExpressionAt T i o t j = Stands (λ ts. operandTokens o (tailTokens t ts)) T i j
 
 abbrev pub DescriptionAt : Tokens → ℕ → Description → ℕ → Type 0
 DescriptionAt T i d j = Stands (descriptionTokens d) T i j
-
--- an example of what a walk by index needs: `IF e => action` at i
-pub if-at : (T : Tokens) (i j : ℕ) (x w : Info) (o : Operand) (t : Tail) (a : Action) (d : Token) → ActionAt T i (if-then x o t w a) j
-    → (getD T i d ≡ tk IF x) × ((m : ℕ) × ExpressionAt T (suc i) o t m × (getD T m d ≡ tk Arrow w) × ActionAt T (suc m) a j)
-if-at T i j x w o t a d p =
-    let q = stands-token IF x (λ ts. operandTokens o (tailTokens t (tk Arrow w ∷ actionTokens a ts))) T i j d p in
-    let r = stands-split (λ ts. operandTokens o (tailTokens t ts)) (λ ts. tk Arrow w ∷ actionTokens a ts) T (suc i) j
-    (then (operand-writes o) (tail-writes t)) (token Arrow w (action-writes a)) (q .2) in
-    let s = stands-token Arrow w (actionTokens a) T (r .0) j d (r .2) in
-    (q .1, (r .0, r .1, s .1, s .2))
 
 -- an accepted text stands as a description, from its first token to its end
 pub accepted-at : (T : Tokens) → recognise T ≡ accepted → (d : Description) × DescriptionAt T 0 d (length T)

@@ -44,9 +44,6 @@ module _ (ds : Table) (C : Code) where
   pub place-stack : {n : ℕ} {σ : List ℕ} → Place n σ → length σ ≤ longestChain
   place-stack {n} {σ} h = omega (arith, stack-short ds C longestChain (h .rest) outer exit [] n σ (h .chained) (h .stands))
 
-  pub place-instruction : {n : ℕ} {σ : List ℕ} → Place n σ → Instruction n
-  place-instruction {n} {σ} h = instruction (h .rest) outer exit [] n σ (h .stands)
-
   said : (x : Sig) (m : At) (n : ℕ) (σ : List ℕ) → m ≡ pc n σ → ChainedS ds longestChain x → Says C outer exit [] x m → Place n σ
   unfolding leaveTo restartTo
   said ends m n σ e h q = impossible (cc)

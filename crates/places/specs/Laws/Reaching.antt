@@ -18,7 +18,7 @@ use Rattle.table.specs.declared.views.Names.{Names}
 use Rattle.table.specs.declared.views.Names.the-variants.{Missing, Unnamed, Span}
 use Rattle.promise.specs.Accesses.{leftName, rightName}
 use Rattle.places.specs.Scene.{tableOf}
-use Rattle.places.specs.Laws.Scene.{declared-here, listed-here, cell-room, view-here, numbered}
+use Rattle.places.specs.Laws.Scene.{declared-here, listed-here, view-here, numbered}
 use Rattle.places.specs.Spans.{LowIn}
 use Rattle.places.specs.Bases.{BaseShows, BaseAt, LowUnder, MappingAt, LiesShown}
 use Rattle.places.specs.Laws.Bases.{on-itself, on-another}
@@ -84,9 +84,6 @@ module _ {records values decls firsts : List ℕ} {m p t : ℕ} where
     no-number h v k d b q x y = absurd (omega (arith, same-number v k q .1))
 
     module _ (h : o < m) where
-      pub under-room : MappingAt records values decls firsts m p t → 2 * o + 2 ≤ length decls
-      under-room v = cell-room (v .scene) h
-
       pub first-room : MappingAt records values decls firsts m p t → 2 * o + 2 ≤ length firsts
       first-room v = omega (arith, v .hold .room)
 
@@ -107,12 +104,6 @@ module _ {records values decls firsts : List ℕ} {m p t : ℕ} where
 
 -- what a declaration reaches
 module _ {records values decls firsts : List ℕ} {m k : ℕ} where
-  pub here-room : BaseAt records values decls firsts m k → 2 * k + 2 ≤ length decls
-  here-room v = cell-room (v .scene) (v .below)
-
-  pub firsts-room : BaseAt records values decls firsts m k → 2 * k + 2 ≤ length firsts
-  firsts-room v = omega (arith, v .hold .room, v .below)
-
   module _ {p : ℕ} (e : p ≡ cell 2 decls k) where
     abbrev pub base-view : BaseAt records values decls firsts m k → View records values p
     base-view v = view-here (v .scene) (v .below) e

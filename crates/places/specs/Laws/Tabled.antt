@@ -20,9 +20,6 @@ module _ {records values : List ℕ} {n : ℕ} (v : Tabled records values n) whe
     pub record-there : 8 * i + 8 ≤ length records
     record-there = omega (arith, v .count, v .holds .record-room)
 
-    pub value-there : 8 * i + 8 ≤ length values
-    value-there = omega (arith, v .count, v .holds .value-room)
-
     pub kind-there : kindByte records i ≡ kindNo (tokenAt (v .tokens) i .kind)
     kind-there = v .holds .entry i (omega (arith, v .count)) .kind
 

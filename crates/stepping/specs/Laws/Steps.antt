@@ -95,9 +95,6 @@ module _ {records values decls carriers : List ℕ} {n : ℕ} (v : StepAt record
   abbrev stepI : List ℕ → Instr → Machine
   stepI σ i = putAfter words (nextM (v .code) i σ) (perform (v .scene .table) (workM i) words)
 
-  pub step-room : 8 * n + 8 ≤ length records
-  step-room = record-within (v .scene .holds) n (v .within)
-
   kind-of : kindByte records n ≡ kindNo (tokenAt ts n .kind)
   kind-of = v .scene .holds .entry n (v .within) .kind
 

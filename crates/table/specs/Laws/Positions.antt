@@ -49,10 +49,6 @@ stands-here f w ts i rest h e =
       reads = e ∙ ap f (sym behind);
     }
 
--- and the other way: its first token is where it begins
-pub stands-first : (f : Tokens → Tokens) (ts : Tokens) (i j : ℕ) (t : Token) (rest : Tokens) → Stands f ts i j → f (drop j ts) ≡ t ∷ rest → Here ts i t rest
-stands-first f ts i j t rest s e = here ts i t rest (s .reads ∙ e)
-
 module _ {text records values : List ℕ} {ts : Tokens} (h : Holds text records values ts) where
   pub record-within : (i : ℕ) → i < length ts → 8 * i + 8 ≤ length records
   record-within i l = omega (arith, h .record-room)

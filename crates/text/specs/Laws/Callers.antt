@@ -2,19 +2,19 @@
 use mathlib.Core.Path.{_≡_, refl, ap}
 use mathlib.Core.Bool.{Bool, true, false, _||_}
 use mathlib.Core.List.{List, [], _∷_}
-use Prim.Native.Nat.{ℕ, zero, suc, _+_, _-_, _*_, _/_, _%_, _^_, _<_, _≤_}
+use Prim.Native.Nat.{ℕ, zero, suc, _+_, _-_, _*_, _^_, _<_, _≤_}
 use native.Mathlib.Omega.{arith}
 use borrow.Author.Tests.{ltb-true}
 use lib.Dec.{eqb, ltb}
-use lib.ListN.{length, length-map, getD}
+use lib.ListN.{length, getD}
 use Rattle.cells.specs.Cells.{cells}
 use Rattle.rules.specs.Text.Tokens.{Token, kindNo}
 use Rattle.rules.specs.Text.Scan.{Scan, End, fine, refuse, scanEnd, followed, scanFrom, scan, Lexeme, lexeme, no-lexeme, token, bad-lexeme}
-use Rattle.rules.specs.Limits.{longestText, mostTokens}
+use Rattle.rules.specs.Limits.{mostTokens}
 use Rattle.lexemes.specs.Lexemes.{sizeOf}
 use Rattle.text.specs.Laws.Sound.{Sound, Placed, lexeme-sound}
-use Rattle.text.specs.Table.{recordOf, recordCells, valueBy, valueCells, writeCells}
-use Rattle.text.specs.Laws.Writes.{Fitting, written, past-written}
+use Rattle.text.specs.Table.{recordCells, valueBy, valueCells, writeCells}
+use Rattle.text.specs.Laws.Writes.{Fitting, written}
 
 -- a token that stands from `low` on, before `high`
 pub record Stands (low high : ℕ) (t : Token) : Type 0 where
@@ -88,17 +88,6 @@ rise low high (t ∷ ts) r d i zero h l = absurd (omega arith)
 rise low high (t ∷ ts) r d zero (suc j) h l = omega (arith, stands-at (t .info .place + 1) high ts (r .1) d j (omega arith) .from)
 rise low high (t ∷ ts) r d (suc i) (suc j) h l = rise (t .info .place + 1) high ts (r .1) d i j (omega arith) (omega arith)
 
--- a record's parts are read back
-module _ {low high : ℕ} (t : Token) (is : Stands low high t) where
-  pub read-kind : recordOf t % 256 ≡ kindNo (t .kind)
-  read-kind = omega (arith, is .kind, is .size)
-
-  pub read-size : recordOf t / 256 % 256 ≡ sizeOf t
-  read-size = omega (arith, is .kind, is .size)
-
-  pub read-place : recordOf t / 65536 ≡ t .info .place
-  read-place = omega (arith, is .kind, is .size)
-
 -- both lists of cells are as long as the tokens, and fit their cells
 pub length-values : (before : ℕ) (ts : List Token) → length (valueCells before ts) ≡ length ts
 unfolding valueCells
@@ -144,24 +133,12 @@ module _ (text : List ℕ) where
   pub places-rise : (d : Token) (i j : ℕ) → i < j → j < length tokens → getD tokens i d .info .place < getD tokens j d .info .place
   places-rise d i j h l = rise 0 (length text) tokens (whole .rising) d i j h l
 
-  -- what a scan leaves in a buffer of cells for all the tokens: the cells, and past them the bytes that were there
+  -- what a scan leaves in a buffer of cells for all the tokens: the cells
   module _ (b : List ℕ) (room : 65536 ≤ length b) where
-    pub records-held : length text ≤ longestText → cells 8 (length tokens) (writeCells 8 b 0 (recordCells tokens)) ≡ recordCells tokens
-    records-held short =
-        let size : length (recordCells tokens) ≡ length tokens = length-map tokens recordOf in
-        rw size at (written 8 b (recordCells tokens) (omega (arith, size, few-tokens)) (records-fit 0 (length text) tokens (whole .rising) short))
-
     pub values-held : cells 8 (length tokens) (writeCells 8 b 0 (valueCells 0 tokens)) ≡ valueCells 0 tokens
     values-held =
         let size : length (valueCells 0 tokens) ≡ length tokens = length-values 0 tokens in
         rw size at (written 8 b (valueCells 0 tokens) (omega (arith, size, few-tokens)) (values-fit 0 (length text) 0 tokens (whole .rising) (omega arith)))
-
-  module _ (b : List ℕ) (k : ℕ) (past : 8 * length tokens ≤ k) where
-    pub records-past : getD (writeCells 8 b 0 (recordCells tokens)) k 0 ≡ getD b k 0
-    records-past = past-written 8 b 0 (recordCells tokens) k (omega (arith, length-map tokens recordOf))
-
-    pub values-past : getD (writeCells 8 b 0 (valueCells 0 tokens)) k 0 ≡ getD b k 0
-    values-past = past-written 8 b 0 (valueCells 0 tokens) k (omega (arith, length-values 0 tokens))
 
 -- a refusal's place is inside the text
 refuse-step : (p k b : ℕ) (bs : List ℕ) (m q : ℕ) → ((j n : ℕ) → scanFrom (p + 1) j n bs .end ≡ refuse m q → q < p + 1 + length bs) → (l : Lexeme) → lexeme p b bs ≡ l
