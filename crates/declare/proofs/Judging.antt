@@ -16,8 +16,8 @@ use Rattle.table.specs.Views.{View, TargetAt}
 use Rattle.table.specs.declared.views.Names.{Names}
 use Rattle.declare.specs.Faults.{isLarge}
 use Rattle.declare.specs.Laws.Lawful.{both-false}
-use Rattle.declare.specs.Spans.{farShown, largeShown, missingShown, storageShown, fitsShown}
-use Rattle.declare.specs.Laws.Spans.{far-shown, large-shown, storage-shown, fits-shown}
+use Rattle.spans.specs.Spans.{farShown, largeShown, missingShown, storageShown, fitsShown}
+use Rattle.spans.specs.Laws.Spans.{far-shown, large-shown, storage-shown, fits-shown}
 use Rattle.declare.specs.Listed.{SmallView}
 
 -- 0 stands for no target

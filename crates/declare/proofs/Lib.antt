@@ -1,7 +1,6 @@
 pub mod Depth
 pub mod Starts
 pub mod Gathering
-pub mod Ranges
 pub mod Choosing
 pub mod Judging
 pub mod Targets

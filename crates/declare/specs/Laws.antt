@@ -2,6 +2,5 @@
 pub mod Skipping
 pub mod Faults
 pub mod Earliest
-pub mod Spans
 pub mod Lawful
 pub mod Small

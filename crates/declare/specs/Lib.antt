@@ -1,7 +1,6 @@
 pub mod Skipping
 pub mod Finding
 pub mod Faults
-pub mod Spans
 pub mod Listed
 pub mod Resolving
 pub mod Told

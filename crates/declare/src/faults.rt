@@ -1,12 +1,12 @@
 // The refusals 30 to 33. Declarations are judged in their order: their places increase, so the first with a fault has the least one.
-use crate::spans::far;
-use crate::spans::fits;
-use crate::spans::is_missing;
-use crate::spans::large_bits;
-use crate::spans::storage_words;
 use cells::get16;
 use rules::limits::MOST_DECLARATIONS;
 use rules::limits::MOST_WORDS;
+use spans::far;
+use spans::fits;
+use spans::is_missing;
+use spans::large_bits;
+use spans::storage_words;
 use table::keys::NO_KEY;
 use table::keys::fault_key;
 use table::records::inside_at;

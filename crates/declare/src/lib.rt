@@ -3,7 +3,6 @@ pub mod counting;
 pub mod faults;
 pub mod finding;
 pub mod resolving;
-pub mod spans;
 
 use crate::faults::fault30;
 use crate::finding::find;

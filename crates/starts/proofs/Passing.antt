@@ -11,7 +11,7 @@ use Rattle.cells.specs.Cells.{leAt, cellsFrom}
 use Rattle.rules.specs.Declarations.{Names as Span-of, BitNames, one-unnamed, these, bitCount, Target, storageWords, wordsOf, Declared, Table, totalWords}
 use Rattle.rules.specs.Answers.{lengthOf, wordLengths, longWord}
 use Rattle.table.specs.Shown.{shownBits}
-use Rattle.declare.specs.Spans.{countShown}
+use Rattle.spans.specs.Spans.{countShown}
 use Rattle.starts.specs.Sought.{Sought}
 
 -- the first word with a bit above its length, of those from o on

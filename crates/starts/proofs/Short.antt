@@ -20,8 +20,8 @@ use Rattle.table.specs.declared.views.Names.{Names}
 use Rattle.table.specs.declared.views.Names.the-variants.{Missing, Unnamed, Span}
 use Rattle.declare.specs.Laws.Lawful.{both-false}
 use Rattle.declare.specs.Laws.Small.{few-bits}
-use Rattle.declare.specs.Spans.{largeShown, countShown}
-use Rattle.declare.specs.Laws.Spans.{large-shown}
+use Rattle.spans.specs.Spans.{largeShown, countShown}
+use Rattle.spans.specs.Laws.Spans.{large-shown}
 
 -- "over 64 bits" is refused
 few-shown : (x : Names) → largeShown x ≡ false → countShown x ≤ mostBits

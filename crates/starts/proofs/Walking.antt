@@ -18,7 +18,7 @@ use Rattle.table.specs.Views.{View}
 use Rattle.table.specs.Ready.{Ready}
 use Rattle.table.specs.declared.views.Names.{Names}
 use Rattle.declare.specs.Laws.Lawful.{lawful-words}
-use Rattle.declare.specs.Spans.{countShown}
+use Rattle.spans.specs.Spans.{countShown}
 use Rattle.starts.specs.Starts.{Starts, begins, declines}
 use Rattle.starts.specs.declared.Started.the-variants.{Fine, Refused}
 use Rattle.starts.specs.Sought.{Sought}

@@ -3,7 +3,7 @@ use cells::get16;
 use cells::get64;
 use declare::counting::words;
 use declare::faults::words_in;
-use declare::spans::last_of;
+use spans::last_of;
 use table::views::bits_of;
 ghost use mathlib.Core.Path.{_≡_};
 ghost use mathlib.Core.List.{List};

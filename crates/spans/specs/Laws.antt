@@ -1,0 +1,2 @@
+-- The laws of names of words and bits.
+pub mod Spans
