@@ -16,7 +16,7 @@ use Rattle.table.specs.Holds.{kindByte, placeCell}
 use Rattle.table.specs.Keys.{noKey, leastKey}
 use Rattle.stacks.specs.Stacks.{Kept}
 use Rattle.stacks.specs.Laws.Kept.{kept-all, kept-then, kept-less}
-use Rattle.selectors.specs.Stands.{AlternativeView}
+use Rattle.patterns.specs.Stands.{AlternativeView}
 use Rattle.expressions.specs.Scene.{ExpressionAt, ExpressionAnswer}
 use Rattle.expressions.specs.declared.Judged.{Judged as Value}
 use Rattle.bodies.specs.declared.Walked.{Walked}

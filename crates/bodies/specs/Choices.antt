@@ -12,7 +12,7 @@ use Rattle.rules.specs.Selectors.{Item}
 use Rattle.rules.specs.Faults.Fault.{fault}
 use Rattle.table.specs.Holds.{placeCell, Holds}
 use Rattle.table.specs.Keys.{key, noKey}
-use Rattle.selectors.specs.Stands.{Held, ItemsAt}
+use Rattle.patterns.specs.Stands.{Held, ItemsAt}
 use Rattle.selectors.specs.Overlaps.{FirstOverlap}
 use Rattle.bodies.specs.Actions.{levelBase}
 

@@ -1,11 +1,11 @@
 // The alternatives of one DECODE, each by itself and against the others: 45.
 use cells::get16;
 use cells::put16;
+use patterns::items;
+use patterns::items::Item;
 use rules::limits::MOST_ALTERNATIVES;
 use selectors::alternatives;
 use selectors::alternatives::first_overlap;
-use selectors::items;
-use selectors::items::Item;
 use table::keys::NO_KEY;
 use table::keys::fault_key;
 use table::kinds::BECOMES;
@@ -23,7 +23,7 @@ ghost use Rattle.rules.specs.Selectors.{between};
 ghost use Rattle.rules.specs.Faults.Fault.{when};
 ghost use Rattle.rules.specs.Faults.Bodies as rules;
 ghost use Rattle.rules.specs.Limits.{mostAlternatives};
-ghost use Rattle.selectors.specs.Stands.{AlternativeView};
+ghost use Rattle.patterns.specs.Stands.{AlternativeView};
 ghost use Rattle.table.specs.Holds.{placeCell};
 ghost use Rattle.table.specs.Keys.{leastKey};
 ghost use Rattle.bodies.specs.Actions.{levelBase};

@@ -10,7 +10,7 @@ use Rattle.rules.specs.Selectors.{Item}
 use Rattle.rules.specs.Faults.Bodies.{someMeet}
 use Rattle.selectors.specs.declared.alternatives.Items.{Items}
 use Rattle.selectors.specs.declared.alternatives.Items.the-variants.{From, Nothing}
-use Rattle.selectors.specs.Stands.{Held, ItemsFrom, ItemsAt}
+use Rattle.patterns.specs.Stands.{Held, ItemsFrom, ItemsAt}
 
 -- where the items of an alternative begin
 abbrev pub Begin : Tokens → List Item → Items → Type 0

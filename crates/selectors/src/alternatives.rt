@@ -1,11 +1,11 @@
 // The alternatives of one DECODE, by the tokens at which they begin.
 use crate::lists::past_length;
 use crate::lists::some_meet;
-use crate::summaries::Summary;
-use crate::summaries::apart;
-use crate::summaries::of_items;
-use crate::summaries::open;
 use cells::get16;
+use summaries::Summary;
+use summaries::apart;
+use summaries::of_items;
+use summaries::open;
 use table::kinds::LBRA;
 use table::kinds::OTHERWISE;
 use table::records::kind_at;
@@ -13,9 +13,9 @@ ghost use mathlib.Core.Path.{_≡_};
 ghost use mathlib.Core.List.{List};
 ghost use Prim.Native.Nat.{ℕ, _≤_};
 ghost use Rattle.rules.specs.Faults.Bodies as rules;
-ghost use Rattle.selectors.specs.Stands.{AlternativeView, TwoAlternatives};
+ghost use Rattle.patterns.specs.Stands.{AlternativeView, TwoAlternatives};
 ghost use Rattle.selectors.specs.Overlaps.{Begin, AlternativesView, FirstOverlap};
-ghost use Rattle.selectors.specs.Summaries.{Tells};
+ghost use Rattle.summaries.specs.Summaries.{Tells};
 
 // Where the items of an alternative begin; OTHERWISE has none.
 pub enum Items {

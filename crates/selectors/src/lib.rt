@@ -1,7 +1,3 @@
-// The selectors of alternatives: their items, which values these match, and which of them have a value in common.
+// The selectors of alternatives: which go past the tested length, and which have a value in common.
 pub mod alternatives;
-pub mod items;
 pub mod lists;
-pub mod meets;
-pub mod read;
-pub mod summaries;

@@ -1,15 +1,15 @@
 // Items split by commas, from the token q on.
-use crate::items::Item;
-use crate::items::past;
-use crate::meets::items_meet;
-use crate::read::item_at;
+use patterns::items::Item;
+use patterns::items::past;
+use patterns::meets::items_meet;
+use patterns::read::item_at;
 use table::kinds::COMMA;
 use table::records::kind_at;
 ghost use mathlib.Core.Path.{_≡_};
 ghost use Prim.Native.Nat.{_≤_};
 ghost use Rattle.rules.specs.Faults.Bodies as rules;
-ghost use Rattle.selectors.specs.Items.{meant};
-ghost use Rattle.selectors.specs.Stands.{ItemsView, TwoLists};
+ghost use Rattle.patterns.specs.Items.{meant};
+ghost use Rattle.patterns.specs.Stands.{ItemsView, TwoLists};
 
 // Whether the item has a value in common with one of those from q on.
 fn meets_any(records: &[u8], values: &[u8], item: Item, q: usize) -> bool

@@ -7,7 +7,7 @@ use Rattle.rules.specs.Grammar.Trees.{Tokens}
 use Rattle.rules.specs.Selectors.{Case}
 use Rattle.laws_orders.specs.Cited.Flat.{Entries}
 use Rattle.promise.specs.Instructions.{CaseStands, Numbered, Counted, EntriesStand}
-use Rattle.selectors.specs.Stands.{Held}
+use Rattle.patterns.specs.Stands.{Held}
 
 -- no instruction stands at token 0
 abbrev pub placeNo : Option ℕ → ℕ

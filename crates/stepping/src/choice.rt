@@ -1,6 +1,6 @@
 // The alternative of a DECODE that takes a value.
-use selectors::items::matches;
-use selectors::read::item_at;
+use patterns::items::matches;
+use patterns::read::item_at;
 use table::kinds::COMMA;
 use table::kinds::END;
 use table::kinds::LBRA;
@@ -13,7 +13,7 @@ use table::records::link_at;
 ghost use mathlib.Core.Path.{_≡_};
 ghost use Rattle.rules.specs.Selectors.{anyMatches, takes};
 ghost use Rattle.laws_orders.specs.Cited.Flat.{find};
-ghost use Rattle.selectors.specs.Stands.{ItemsView};
+ghost use Rattle.patterns.specs.Stands.{ItemsView};
 ghost use Rattle.stepping.specs.Choice.{CaseView, ChoiceView, placeNo};
 
 // Whether one of the items from q on matches x.

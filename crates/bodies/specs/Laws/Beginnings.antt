@@ -14,7 +14,7 @@ use Rattle.rules.specs.Grammar.Trees.{Tokens}
 use Rattle.table.specs.Holds.{tokenAt}
 use Rattle.stacks.specs.Stacks.{Kept}
 use Rattle.stacks.specs.Laws.Kept.{kept-put, kept-all}
-use Rattle.selectors.specs.Stands.{ItemsAt}
+use Rattle.patterns.specs.Stands.{ItemsAt}
 use Rattle.bodies.specs.Actions.{levelBase}
 use Rattle.bodies.specs.Choices.{startCell, withStart, compared}
 use Rattle.bodies.specs.Laws.Compared.{alone}

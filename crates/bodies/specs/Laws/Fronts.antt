@@ -12,7 +12,7 @@ use Rattle.rules.specs.Selectors.{literalInfo, selectorItems}
 use Rattle.rules.specs.Faults.Bodies.{selectorPlace}
 use Rattle.laws_grammar.specs.Cited.Nesting.{actionNest, selectedNest}
 use Rattle.laws_grammar.specs.Grammar.Positions.{selector-writes}
-use Rattle.selectors.specs.Stands.{ItemsAt}
+use Rattle.patterns.specs.Stands.{ItemsAt}
 use Rattle.selectors.specs.Laws.Trees.{selector-at, otherwise-at}
 use Rattle.bodies.specs.Actions.{EndsAction, by-end, by-comma}
 use Rattle.bodies.specs.Choices.{NoBecomes}

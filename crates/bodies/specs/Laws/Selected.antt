@@ -20,7 +20,7 @@ use Rattle.table.specs.Laws.Keys.{least-append, least-bounded}
 use Rattle.table.specs.Laws.Positions.{here, kind-here, record-within}
 use Rattle.stacks.specs.Stacks.{stackedWords, Kept}
 use Rattle.stacks.specs.Laws.Kept.{kept-words, kept-stacked, kept-then, kept-less}
-use Rattle.selectors.specs.Stands.{ItemsAt, AlternativeView}
+use Rattle.patterns.specs.Stands.{ItemsAt, AlternativeView}
 use Rattle.selectors.specs.Overlaps.{earlierItems}
 use Rattle.selectors.specs.Laws.Alternatives.{items-within}
 use Rattle.bodies.specs.declared.Walked.{Walked}

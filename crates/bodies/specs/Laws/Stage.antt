@@ -4,7 +4,7 @@ use mathlib.Core.List.{List}
 use lib.ListN.{length}
 use Rattle.table.specs.Words.{NameAt}
 use Rattle.stacks.specs.Stacks.{indexEnd, Stacked, NameView}
-use Rattle.selectors.specs.Stands.{Held}
+use Rattle.patterns.specs.Stands.{Held}
 use Rattle.expressions.specs.Scene.{Scene}
 use Rattle.bodies.specs.Stage.{Stage}
 

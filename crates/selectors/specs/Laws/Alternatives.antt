@@ -17,10 +17,10 @@ use Rattle.table.specs.Holds.{kindByte}
 use Rattle.table.specs.Laws.Positions.{record-within, kind-here}
 use Rattle.selectors.specs.declared.alternatives.Items.{Items}
 use Rattle.selectors.specs.declared.alternatives.Items.the-variants.{From, Nothing}
-use Rattle.selectors.specs.Stands.{Held, ItemsFrom, ItemsView, TwoLists, ItemsAt, no-items, in-brackets, one-item, AlternativeView, TwoAlternatives}
+use Rattle.patterns.specs.Stands.{Held, ItemsFrom, ItemsView, TwoLists, ItemsAt, no-items, in-brackets, one-item, AlternativeView, TwoAlternatives}
 use Rattle.selectors.specs.Overlaps.{Begin, AlternativesView, earlierItems, overlaps, FirstOverlap}
-use Rattle.selectors.specs.Laws.Tokens.{item-first, literalToken, first-here}
-use Rattle.selectors.specs.Laws.Lists.{front}
+use Rattle.patterns.specs.Laws.Tokens.{item-first, literalToken, first-here}
+use Rattle.patterns.specs.Laws.Lists.{front}
 
 -- WHERE ITEMS BEGIN, by the kind of the alternative's first token
 pub data SeenItems (records : List ℕ) (ts : Tokens) (p : ℕ) (is : List Item) : Type 0 where

@@ -12,10 +12,10 @@ use Rattle.rules.specs.Text.Tokens.{RBra, Comma, Becomes, OTHERWISE, Info, Toke
 use Rattle.rules.specs.Grammar.Trees.{Tokens, Literal, literalTokens, Range, single, to, rangeTokens, Items, close, item, itemsTokens, Selector, one-of, any-of, selectorTokens}
 use Rattle.rules.specs.Selectors.{between, literalInfo, lowest, highestDigits, itemOf, itemsOf, selectorItems}
 use Rattle.table.specs.Laws.Positions.{here}
-use Rattle.selectors.specs.Stands.{by-comma, by-close, by-becomes, itemSize, ItemAt, ItemsFrom, last-item, more-items, ItemsAt, no-items, in-brackets, one-item}
-use Rattle.selectors.specs.Laws.Tokens.{item-behind}
-use Rattle.selectors.specs.Fits.{PatternFits, ItemFits}
-use Rattle.selectors.specs.Laws.Values.{sum-fits}
+use Rattle.patterns.specs.Stands.{by-comma, by-close, by-becomes, itemSize, ItemAt, ItemsFrom, last-item, more-items, ItemsAt, no-items, in-brackets, one-item}
+use Rattle.patterns.specs.Laws.Tokens.{item-behind}
+use Rattle.summaries.specs.Fits.{PatternFits, ItemFits}
+use Rattle.summaries.specs.Laws.Values.{sum-fits}
 
 list-from : (ts : Tokens) (q : ℕ) (l : Literal) (r : Range) (is : Items) (rest : Tokens) → drop q ts ≡ literalTokens l (rangeTokens r (itemsTokens is rest))
     → ItemsFrom ts q (itemOf l r ∷ itemsOf is)

@@ -18,8 +18,8 @@ use Rattle.laws_orders.specs.Cited.Flat.{Entries, no-entry, entry, find}
 use Rattle.table.specs.Holds.{kindByte, tokenAt, insideCell, linkCell}
 use Rattle.table.specs.Laws.Positions.{here, record-within, kind-here}
 use Rattle.promise.specs.Instructions.{CaseStands, Numbered, Counted, EntriesStand}
-use Rattle.selectors.specs.Stands.{Held, ItemsView, ItemsFrom}
-use Rattle.selectors.specs.Laws.Lists as lists
+use Rattle.patterns.specs.Stands.{Held, ItemsView, ItemsFrom}
+use Rattle.patterns.specs.Laws.Lists as lists
 use Rattle.selectors.specs.Laws.Alternatives.{SeenItems, otherwise-seen, brackets-seen, item-seen, see-items}
 use Rattle.selectors.specs.Laws.Trees.{selector-at}
 use Rattle.stepping.specs.Choice.{CaseView, ChoiceView, placeNo}

@@ -12,7 +12,7 @@ use Prim.Native.Nat.{ℕ, _-_, _≤_}
 use Rattle.rules.specs.Faults.Bodies.{someMeet}
 use Rattle.selectors.specs.Overlaps.{AlternativesView, earlierItems}
 use Rattle.selectors.specs.Laws.Alternatives.{NoneBefore, start-room, one-alternative, pair, overlap-found, no-overlap, one-more, no-pair, one-pair}
-use Rattle.selectors.specs.Laws.Summaries.{none-meet}
+use Rattle.summaries.specs.Laws.Summaries.{none-meet}
 use Rattle.selectors.proofs.alternatives.first_overlap.Statement.{statement}
 use Rattle.selectors.proofs.alternatives.first_overlap.Tie as tie
 

@@ -2,7 +2,7 @@
 -- Assumes nothing.
 use borrow.Author.Needs.{needs}
 use Rattle.selectors.specs.Laws.Alternatives.{items-from}
-use Rattle.selectors.specs.Laws.Summaries.{tells-nothing}
+use Rattle.summaries.specs.Laws.Summaries.{tells-nothing}
 use Rattle.selectors.proofs.alternatives.summary_of.Statement.{statement}
 use Rattle.selectors.proofs.alternatives.summary_of.Tie as tie
 

@@ -6,9 +6,9 @@ use mathlib.Core.Path.{_∙_}
 use Prim.Native.Nat.{_-_}
 use lib.ListN.{length}
 use Rattle.rules.specs.Faults.Bodies.{itemsMeet}
-use Rattle.selectors.specs.Items.{meant}
-use Rattle.selectors.specs.Stands.{ItemsView}
-use Rattle.selectors.specs.Laws.Lists.{some-meets, Left, walk-starts, item-view, next-room, walks-on, walk-finds, walk-ends, walk-goes-on}
+use Rattle.patterns.specs.Items.{meant}
+use Rattle.patterns.specs.Stands.{ItemsView}
+use Rattle.patterns.specs.Laws.Lists.{some-meets, Left, walk-starts, item-view, next-room, walks-on, walk-finds, walk-ends, walk-goes-on}
 use Rattle.selectors.proofs.lists.meets_any.Statement.{statement}
 use Rattle.selectors.proofs.lists.meets_any.Tie as tie
 

@@ -6,8 +6,8 @@ use Prim.Native.Nat.{_-_, _^_}
 use lib.Dec.{leb}
 use lib.ListN.{length}
 use Rattle.rules.specs.Selectors.{highest}
-use Rattle.selectors.specs.Stands.{ItemsView}
-use Rattle.selectors.specs.Laws.Lists.{some-past, Left, walk-starts, item-view, next-room, item-fits, walks-on, walk-finds, walk-ends, walk-goes-on}
+use Rattle.patterns.specs.Stands.{ItemsView}
+use Rattle.patterns.specs.Laws.Lists.{some-past, Left, walk-starts, item-view, next-room, item-fits, walks-on, walk-finds, walk-ends, walk-goes-on}
 use Rattle.selectors.proofs.lists.past_length.Statement.{statement}
 use Rattle.selectors.proofs.lists.past_length.Tie as tie
 

@@ -6,8 +6,8 @@ use mathlib.Core.Path.{_∙_}
 use Prim.Native.Nat.{_-_}
 use lib.ListN.{length}
 use Rattle.rules.specs.Faults.Bodies.{meetsAny}
-use Rattle.selectors.specs.Stands.{TwoLists}
-use Rattle.selectors.specs.Laws.Lists.{some-meet, Left, walk-starts, item-view, next-room, walks-on, walk-finds, walk-ends, walk-goes-on, first-list, second-list}
+use Rattle.patterns.specs.Stands.{TwoLists}
+use Rattle.patterns.specs.Laws.Lists.{some-meet, Left, walk-starts, item-view, next-room, walks-on, walk-finds, walk-ends, walk-goes-on, first-list, second-list}
 use Rattle.selectors.proofs.lists.some_meet.Statement.{statement}
 use Rattle.selectors.proofs.lists.some_meet.Tie as tie
 

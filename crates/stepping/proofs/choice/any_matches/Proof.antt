@@ -6,8 +6,8 @@ use mathlib.Core.Path.{_∙_}
 use Prim.Native.Nat.{_-_}
 use lib.ListN.{length}
 use Rattle.rules.specs.Selectors.{matches}
-use Rattle.selectors.specs.Stands.{ItemsView}
-use Rattle.selectors.specs.Laws.Lists.{Left, walk-starts, item-view, next-room, walks-on, walk-finds, walk-ends, walk-goes-on}
+use Rattle.patterns.specs.Stands.{ItemsView}
+use Rattle.patterns.specs.Laws.Lists.{Left, walk-starts, item-view, next-room, walks-on, walk-finds, walk-ends, walk-goes-on}
 use Rattle.stepping.specs.Laws.Choice.{some-matches}
 use Rattle.stepping.proofs.choice.any_matches.Statement.{statement}
 use Rattle.stepping.proofs.choice.any_matches.Tie as tie

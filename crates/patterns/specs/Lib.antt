@@ -1,0 +1,4 @@
+pub mod Items
+pub mod Stands
+pub mod Reaches
+pub mod Laws

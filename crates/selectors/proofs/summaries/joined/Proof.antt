@@ -1,9 +1,0 @@
--- `selectors::summaries::joined` meets its contract.
--- Assumes nothing.
-use borrow.Author.Needs.{needs}
-use Rattle.selectors.specs.Laws.Summaries.{join-summaries}
-use Rattle.selectors.proofs.summaries.joined.Statement.{statement}
-use Rattle.selectors.proofs.summaries.joined.Tie as tie
-
-pub joined-spec : {M : Type 1} → statement M
-joined-spec = tie.close (tie.spec (λ c κs. search needs) (λ c κs. search needs) (λ c. search (needs, join-summaries)))
