@@ -21,8 +21,9 @@ use Rattle.expressions.specs.Scene.{ExpressionAt, ExpressionAnswer}
 use Rattle.expressions.specs.declared.Judged.{Judged as Value}
 use Rattle.bodies.specs.declared.Walked.{Walked}
 use Rattle.bodies.specs.declared.prefixes.Prefixed.{Prefixed}
-use Rattle.bodies.specs.Actions.{labelCells, levelBase, ActionView, ActionAnswer, Simple, IsBlock, IsDecode}
-use Rattle.bodies.specs.Choices.{withStart, StartsView, OverlapAnswer, BehindView, BehindAnswer}
+use Rattle.bodies.specs.Actions.{ActionView, ActionAnswer, Simple, IsBlock, IsDecode}
+use Rattle.choices.specs.Room.{labelCells, levelBase}
+use Rattle.choices.specs.Choices.{withStart, StartsView, OverlapAnswer, BehindView, BehindAnswer}
 use Rattle.bodies.specs.Alternatives.{isSelector, IsCounted, IsSelected, ChoicesView, ChoicesAnswer}
 use Rattle.bodies.specs.Prefixes.{PrefixAnswer}
 use Rattle.bodies.specs.Laws.Forms.{action-inside}

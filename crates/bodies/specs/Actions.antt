@@ -1,5 +1,5 @@
 -- An action in the tables, under the names around it: what is judged, and the answer.
-use Prim.Native.Nat.{ℕ, _+_, _*_, _<_, _≤_}
+use Prim.Native.Nat.{ℕ, _*_, _<_, _≤_}
 use mathlib.Core.Path.{_≡_}
 use mathlib.Core.List.{List, _∷_}
 use lib.ListN.{length, drop}
@@ -14,13 +14,6 @@ use Rattle.table.specs.Keys.{leastKey}
 use Rattle.stacks.specs.Stacks.{stackedWords, indexEnd, Stacked}
 use Rattle.bodies.specs.declared.Walked.{Walked}
 use Rattle.bodies.specs.Stage.{Stage, outerOf, tableOf}
-
--- the cells behind the labels have the beginnings of alternatives, 64 for each level of nesting
-abbrev pub labelCells : ℕ
-labelCells = 8192
-
-abbrev pub levelBase : ℕ → ℕ
-levelBase depth = labelCells + 64 * depth
 
 -- what follows an action
 pub data EndsAction : Kind → Type 0 where

@@ -5,7 +5,6 @@ pub mod Passes
 pub mod Simple
 pub mod Forms
 pub mod Prefixes
-pub mod Starts
 pub mod Members
 pub mod Ranges
 pub mod Compared

@@ -3,7 +3,6 @@ pub mod Labels
 pub mod Actions
 pub mod Jumps
 pub mod Prefixes
-pub mod Choices
 pub mod Alternatives
 pub mod Bodies
 pub mod Laws

@@ -1,12 +1,12 @@
 // Actions. Only BEGIN nests, and `depth` falls with each: a block holds actions, a DECODE alternatives, and these hold actions again.
 use crate::Walked;
-use crate::choices::behind_selector;
-use crate::choices::counted_fault;
-use crate::choices::keep_start;
-use crate::choices::overlap_fault;
-use crate::choices::selected_fault;
 use crate::prefixes::prefixes;
 use crate::simple::simple;
+use choices::behind_selector;
+use choices::counted_fault;
+use choices::keep_start;
+use choices::overlap_fault;
+use choices::selected_fault;
 use expressions::judge::expression;
 use table::keys::NO_KEY;
 use table::keys::earlier;
@@ -22,7 +22,8 @@ ghost use mathlib.Core.Path.{_≡_};
 ghost use mathlib.Core.List.{List};
 ghost use Prim.Native.Nat.{ℕ, _+_};
 ghost use Rattle.stacks.specs.Stacks.{Kept};
-ghost use Rattle.bodies.specs.Actions.{levelBase, ActionView, ActionAnswer, IsBlock, IsDecode};
+ghost use Rattle.bodies.specs.Actions.{ActionView, ActionAnswer, IsBlock, IsDecode};
+ghost use Rattle.choices.specs.Room.{levelBase};
 ghost use Rattle.bodies.specs.Alternatives.{isSelector, ChoicesView, ChoicesAnswer, IsCounted, IsSelected};
 
 // Whether a token of this kind begins a selector: a constant, `[` or OTHERWISE.

@@ -1,7 +1,6 @@
 // The bodies of a description: labels, targets of jumps, alternatives, and all refusals of the 40s.
 pub mod actions;
 pub mod all;
-pub mod choices;
 pub mod labels;
 pub mod prefixes;
 pub mod simple;

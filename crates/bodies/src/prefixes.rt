@@ -10,7 +10,8 @@ use table::records::kind_at;
 ghost use mathlib.Core.List.{List};
 ghost use Prim.Native.Nat.{ℕ};
 ghost use Rattle.stacks.specs.Stacks.{Kept};
-ghost use Rattle.bodies.specs.Actions.{labelCells, ActionView};
+ghost use Rattle.bodies.specs.Actions.{ActionView};
+ghost use Rattle.choices.specs.Room.{labelCells};
 ghost use Rattle.bodies.specs.Prefixes.{PrefixAnswer};
 
 // The key of the least fault in front of an action, where the action begins, and how many names stand around it.

@@ -15,7 +15,8 @@ use Rattle.stacks.specs.Stacks.{Kept}
 use Rattle.stacks.specs.Laws.Kept.{kept-then, kept-less}
 use Rattle.bodies.specs.declared.Walked.{Walked}
 use Rattle.bodies.specs.declared.prefixes.Prefixed.{Prefixed}
-use Rattle.bodies.specs.Actions.{labelCells, levelBase, ActionView, ActionAnswer, Simple, IsBlock, IsDecode}
+use Rattle.bodies.specs.Actions.{ActionView, ActionAnswer, Simple, IsBlock, IsDecode}
+use Rattle.choices.specs.Room.{labelCells, levelBase}
 use Rattle.bodies.specs.Prefixes.{Bare, PrefixAnswer}
 use Rattle.bodies.specs.Laws.Forms.{first-room}
 

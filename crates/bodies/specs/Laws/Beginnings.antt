@@ -15,9 +15,8 @@ use Rattle.table.specs.Holds.{tokenAt}
 use Rattle.stacks.specs.Stacks.{Kept}
 use Rattle.stacks.specs.Laws.Kept.{kept-put, kept-all}
 use Rattle.patterns.specs.Stands.{ItemsAt}
-use Rattle.bodies.specs.Actions.{levelBase}
-use Rattle.bodies.specs.Choices.{startCell, withStart, compared}
-use Rattle.bodies.specs.Laws.Compared.{alone}
+use Rattle.choices.specs.Room.{levelBase}
+use Rattle.choices.specs.Choices.{startCell, withStart, compared}
 use Rattle.bodies.specs.Laws.Choices.{Choice, itemsIn, placeIn}
 
 -- WHERE THE ALTERNATIVES BEGIN

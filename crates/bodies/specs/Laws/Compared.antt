@@ -15,7 +15,7 @@ use Rattle.rules.specs.Faults.Bodies.{past, alternative}
 use Rattle.table.specs.Keys.{key, noKey, leastKey}
 use Rattle.table.specs.Laws.Keys.{least-bounded}
 use Rattle.selectors.specs.Overlaps.{earlierItems, overlaps, FirstOverlap}
-use Rattle.bodies.specs.Laws.Known.{fault-key, no-fault-key}
+use Rattle.choices.specs.Laws.Keys.{fault-key, no-fault-key}
 use Rattle.bodies.specs.Laws.Ranges.{rangeFaults, leastIn, least-at, least-both, least-bound, when-or}
 
 -- a fault or none is no less than the fault

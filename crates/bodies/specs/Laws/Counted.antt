@@ -24,7 +24,8 @@ use Rattle.stacks.specs.Stacks.{stackedWords, Kept}
 use Rattle.stacks.specs.Laws.Kept.{kept-words, kept-stacked}
 use Rattle.bodies.specs.declared.Walked.{Walked}
 use Rattle.bodies.specs.Stage.{outerOf, tableOf}
-use Rattle.bodies.specs.Actions.{EndsAction, by-end, by-comma, levelBase, ActionView, ActionAnswer}
+use Rattle.bodies.specs.Actions.{EndsAction, by-end, by-comma, ActionView, ActionAnswer}
+use Rattle.choices.specs.Room.{levelBase}
 use Rattle.bodies.specs.Alternatives.{IsCounted, ChoicesView, choicesFaults, ChoicesAnswer}
 use Rattle.bodies.specs.Laws.Known.{token-room, token-place, place-small}
 use Rattle.bodies.specs.Laws.Ranges.{rangeFaults, leastIn, next-of-both, last-of-both}

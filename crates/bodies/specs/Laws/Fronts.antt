@@ -15,7 +15,7 @@ use Rattle.laws_grammar.specs.Grammar.Positions.{selector-writes}
 use Rattle.patterns.specs.Stands.{ItemsAt}
 use Rattle.selectors.specs.Laws.Trees.{selector-at, otherwise-at}
 use Rattle.bodies.specs.Actions.{EndsAction, by-end, by-comma}
-use Rattle.bodies.specs.Choices.{NoBecomes}
+use Rattle.choices.specs.Choices.{NoBecomes}
 use Rattle.bodies.specs.Laws.Choices.{Choice, choice, choicesOf, moreChoices}
 
 -- no `:=` stands in a selector

@@ -17,13 +17,13 @@ use Rattle.rules.specs.Faults.Fault.{fault, when}
 use Rattle.rules.specs.Faults.Declared.{isKnown}
 use Rattle.rules.specs.Faults.Bodies.{declaredNames}
 use Rattle.table.specs.Holds.{tokenAt, placeCell, insideCell}
-use Rattle.table.specs.Keys.{key, noKey, leastBy, leastKey}
-use Rattle.table.specs.Laws.Keys.{by-place, least-one}
+use Rattle.table.specs.Keys.{key, noKey, leastKey}
 use Rattle.table.specs.Meaning.{outerOnly, unknownName}
 use Rattle.table.specs.Laws.Positions.{record-within}
 use Rattle.table.specs.Words.{NameAt, wordAt}
 use Rattle.stacks.specs.Stacks.{stackedWords, NameView}
 use Rattle.expressions.specs.Laws.Lookups.{undeclared, declared}
+use Rattle.choices.specs.Laws.Keys.{fault-key, no-fault-key}
 use Rattle.bodies.specs.Stage.{Stage, outerOf, tableOf}
 use Rattle.bodies.specs.Laws.Stage.{sceneOf, name-view}
 use Rattle.bodies.specs.Labels.{knownNames, LabelView, labelFault}
@@ -46,14 +46,6 @@ unfolding isKnown declaredNames numberFrom
 known-declared outer all w i [] = or-false (sameBytes outer w)
 known-declared outer all w i (d ∷ ds) =
     ap (_||_ (sameBytes (d .name .word) w)) (known-declared outer all w (suc i) ds) ∙ has-if (sameBytes (d .name .word) w) i (numberFrom (suc i) w ds) (sameBytes outer w)
-
--- a fault, or none
-pub fault-key : (n p : ℕ) → n < 128 → p ≤ longestText → leastKey (when true n p) ≡ key (fault n p)
-fault-key n p h l = least-one by-place (fault n p) (record { number = h; place = l })
-
-pub no-fault-key : (n p : ℕ) → leastKey (when false n p) ≡ noKey
-unfolding leastBy
-no-fault-key n p = refl
 
 -- where a token stands
 module _ {text records values decls : List ℕ} (s : Stage text records values decls) {i : ℕ} (l : i < length (s .tokens)) where

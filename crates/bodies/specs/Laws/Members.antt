@@ -6,7 +6,7 @@ use mathlib.Core.List.{List, _∷_, _++_}
 use native.Mathlib.Omega.{arith}
 use lib.ListN.{length, drop}
 use Rattle.rules.specs.Text.Tokens.{Semi, NEXT, END, Token, tk, kindNo}
-use Rattle.rules.specs.Grammar.Trees.{Tokens, Action, block, actionTokens, Members, end, also, next, membersTokens}
+use Rattle.rules.specs.Grammar.Trees.{Tokens, Action, actionTokens, Members, end, also, next, membersTokens}
 use Rattle.rules.specs.Faults.Fault.{Fault}
 use Rattle.rules.specs.Faults.Bodies.{actionFaults, membersFaults}
 use Rattle.laws_grammar.specs.Cited.Nesting.{actionNest, membersNest}
@@ -18,7 +18,8 @@ use Rattle.stacks.specs.Stacks.{stackedWords, Kept}
 use Rattle.stacks.specs.Laws.Kept.{kept-words, kept-stacked}
 use Rattle.bodies.specs.declared.Walked.{Walked}
 use Rattle.bodies.specs.Stage.{Stage, outerOf, tableOf}
-use Rattle.bodies.specs.Actions.{EndsAction, by-semi, by-next, by-end, levelBase, ActionView, faultsUnder, ActionAnswer, IsBlock}
+use Rattle.bodies.specs.Actions.{EndsAction, by-semi, by-next, by-end, ActionView, faultsUnder, ActionAnswer, IsBlock}
+use Rattle.choices.specs.Room.{levelBase}
 
 module _ {text records values decls : List ℕ} (s : Stage text records values decls) (ws : List (List ℕ)) where
   -- the faults of members, the first of which is an action

@@ -26,8 +26,9 @@ use Rattle.selectors.specs.Laws.Alternatives.{items-within}
 use Rattle.bodies.specs.declared.Walked.{Walked}
 use Rattle.bodies.specs.Stage.{outerOf, tableOf}
 use Rattle.bodies.specs.Laws.Stage.{heldOf}
-use Rattle.bodies.specs.Actions.{levelBase, ActionView, ActionAnswer}
-use Rattle.bodies.specs.Choices.{startCell, withStart, compared, StartsView, OverlapAnswer, BehindView, BehindAnswer}
+use Rattle.bodies.specs.Actions.{ActionView, ActionAnswer}
+use Rattle.choices.specs.Room.{levelBase}
+use Rattle.choices.specs.Choices.{startCell, withStart, compared, StartsView, OverlapAnswer, BehindView, BehindAnswer}
 use Rattle.bodies.specs.Alternatives.{IsSelected, ChoicesView, choicesFaults, ChoicesAnswer}
 use Rattle.bodies.specs.Laws.Known.{token-room, token-place, place-small}
 use Rattle.bodies.specs.Laws.Ranges.{rangeFaults, leastIn, next-of-both, last-of-both}

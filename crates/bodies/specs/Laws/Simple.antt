@@ -35,7 +35,8 @@ use Rattle.bodies.specs.Stage.{outerOf, tableOf}
 use Rattle.bodies.specs.Laws.Stage.{sceneOf, name-view}
 use Rattle.bodies.specs.Actions.{EndsAction, by-semi, by-next, by-end, by-comma}
 use Rattle.bodies.specs.Jumps.{JumpView, jumpFaults, CallView, callFaults, TransferView, TransferAnswer}
-use Rattle.bodies.specs.Laws.Known.{fault-key, no-fault-key, token-room, token-place, place-small, name-here}
+use Rattle.bodies.specs.Laws.Known.{token-room, token-place, place-small, name-here}
+use Rattle.choices.specs.Laws.Keys.{fault-key, no-fault-key}
 
 -- LEAVE AND RESTART
 module _ {records room : List ℕ} {i count : ℕ} (v : JumpView records room i count) where

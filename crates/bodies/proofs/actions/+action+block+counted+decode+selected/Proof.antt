@@ -25,11 +25,11 @@ use Rattle.bodies.proofs.actions.selected.Reads as selected
 use Rattle.bodies.proofs.actions.selected.Kinds as selected-kinds
 use Rattle.bodies.proofs.actions.+action+block+counted+decode+selected.Lts-selected as selected-lts
 use Rattle.bodies.proofs.actions.has_selector.Reads as has-selector-reads
-use Rattle.bodies.proofs.choices.behind_selector.Reads as behind-selector-reads
-use Rattle.bodies.proofs.choices.counted_fault.Reads as counted-fault-reads
-use Rattle.bodies.proofs.choices.keep_start.Reads as keep-start-reads
-use Rattle.bodies.proofs.choices.overlap_fault.Reads as overlap-fault-reads
-use Rattle.bodies.proofs.choices.selected_fault.Reads as selected-fault-reads
+use Rattle.choices.proofs.behind_selector.Reads as behind-selector-reads
+use Rattle.choices.proofs.counted_fault.Reads as counted-fault-reads
+use Rattle.choices.proofs.keep_start.Reads as keep-start-reads
+use Rattle.choices.proofs.overlap_fault.Reads as overlap-fault-reads
+use Rattle.choices.proofs.selected_fault.Reads as selected-fault-reads
 use Rattle.bodies.proofs.prefixes.prefixes.Reads as prefixes-reads
 use Rattle.bodies.proofs.simple.simple.Reads as simple-reads
 use Rattle.expressions.proofs.judge.expression.Reads as expression-reads

@@ -7,7 +7,8 @@ use mathlib.Core.List.{List}
 use Prim.Native.Nat.{ℕ, _-_, _≤_}
 use Rattle.stacks.specs.Stacks.{Kept}
 use Rattle.stacks.specs.Laws.Kept.{kept-all, kept-then, kept-less}
-use Rattle.bodies.specs.Actions.{labelCells, ActionView}
+use Rattle.bodies.specs.Actions.{ActionView}
+use Rattle.choices.specs.Room.{labelCells}
 use Rattle.bodies.specs.Prefixes.{Ahead}
 use Rattle.bodies.specs.Laws.Prefixes.{ahead-starts, ahead-inside, ahead-first, ahead-second, ahead-loop, ahead-test, ahead-push, ahead-label, ahead-bare}
 use Rattle.bodies.proofs.prefixes.prefixes.Statement.{statement}

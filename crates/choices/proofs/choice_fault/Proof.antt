@@ -1,4 +1,4 @@
--- `bodies::choices::choice_fault` meets its contract.
+-- `choices::choice_fault` meets its contract.
 -- Assumes nothing.
 use borrow.Author.Needs.{needs}
 use native.Mathlib.Omega.{arith}
@@ -7,9 +7,9 @@ use mathlib.Core.Bool.{Bool, true, false}
 use Prim.Native.Nat.{ℕ, _≤_}
 use Rattle.rules.specs.Faults.Fault.{fault, when}
 use Rattle.table.specs.Keys.{key, noKey, leastKey}
-use Rattle.bodies.specs.Laws.Known.{fault-key, no-fault-key}
-use Rattle.bodies.proofs.choices.choice_fault.Statement.{statement}
-use Rattle.bodies.proofs.choices.choice_fault.Tie as tie
+use Rattle.choices.specs.Laws.Keys.{fault-key, no-fault-key}
+use Rattle.choices.proofs.choice_fault.Statement.{statement}
+use Rattle.choices.proofs.choice_fault.Tie as tie
 
 faulty : (b : Bool) (p q r : ℕ) → b ≡ true → p ≡ q → q ≤ 32768 → r ≡ key (fault 45 p) → r ≡ leastKey (when b 45 q)
 faulty b p q r t e l f = f ∙ ap (λ (x : ℕ). key (fault 45 x)) e ∙ sym (ap (λ (x : Bool). leastKey (when x 45 q)) t ∙ fault-key 45 q (omega arith) l)

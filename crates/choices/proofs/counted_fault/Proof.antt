@@ -1,4 +1,4 @@
--- `bodies::choices::counted_fault` meets its contract: the number is the item from it to itself.
+-- `choices::counted_fault` meets its contract: the number is the item from it to itself.
 -- Assumes nothing.
 use borrow.Author.Needs.{needs}
 use mathlib.Core.Path.{_≡_, sym}
@@ -8,8 +8,8 @@ use Prim.Native.Nat.{ℕ, _^_, _<_, _≤_}
 use lib.Dec.{leb}
 use Rattle.rules.specs.Selectors.{between, highest}
 use Rattle.rules.specs.Faults.Bodies.{past}
-use Rattle.bodies.proofs.choices.counted_fault.Statement.{statement}
-use Rattle.bodies.proofs.choices.counted_fault.Tie as tie
+use Rattle.choices.proofs.counted_fault.Statement.{statement}
+use Rattle.choices.proofs.counted_fault.Tie as tie
 
 own-highest : (k n : ℕ) → n ≤ 64 → k < 2 ^ 64 → (n ≤ 64) × (highest (between k k) < 2 ^ 64)
 unfolding highest

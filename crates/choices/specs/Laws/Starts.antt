@@ -17,8 +17,8 @@ use Rattle.table.specs.Keys.{key, noKey}
 use Rattle.table.specs.Laws.Positions.{here, kind-here, record-within}
 use Rattle.selectors.specs.Overlaps.{AlternativesView, FirstOverlap}
 use Rattle.selectors.specs.Laws.Alternatives.{items-within}
-use Rattle.bodies.specs.Actions.{levelBase}
-use Rattle.bodies.specs.Choices.{startCell, compared, StartsView, OverlapAnswer, NoBecomes, BehindView, BehindAnswer}
+use Rattle.choices.specs.Room.{levelBase}
+use Rattle.choices.specs.Choices.{startCell, compared, StartsView, OverlapAnswer, NoBecomes, BehindView, BehindAnswer}
 
 -- A PART OF THE ROOM
 le-drop : (w a : ℕ) (b : List ℕ) (o : ℕ) → leAt w (drop a b) o ≡ leAt w b (a + o)

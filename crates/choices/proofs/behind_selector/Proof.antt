@@ -1,12 +1,12 @@
--- `bodies::choices::behind_selector` meets its contract: no token passed is `:=`.
+-- `choices::behind_selector` meets its contract: no token passed is `:=`.
 -- Assumes nothing.
 use native.Mathlib.Omega.{arith}
 use Prim.Native.Nat.{_-_}
 use lib.ListN.{length}
-use Rattle.bodies.specs.Choices.{BehindView}
-use Rattle.bodies.specs.Laws.Starts.{Behind, behind-starts, see-behind, behind-room, behind-found, behind-on}
-use Rattle.bodies.proofs.choices.behind_selector.Statement.{statement}
-use Rattle.bodies.proofs.choices.behind_selector.Tie as tie
+use Rattle.choices.specs.Choices.{BehindView}
+use Rattle.choices.specs.Laws.Starts.{Behind, behind-starts, see-behind, behind-room, behind-found, behind-on}
+use Rattle.choices.proofs.behind_selector.Statement.{statement}
+use Rattle.choices.proofs.behind_selector.Tie as tie
 
 abbrev Inv-loop : tie.InvT-loop
 Inv-loop records at i₀ i = (v : BehindView records at) → Behind v i

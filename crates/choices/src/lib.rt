@@ -26,8 +26,8 @@ ghost use Rattle.rules.specs.Limits.{mostAlternatives};
 ghost use Rattle.patterns.specs.Stands.{AlternativeView};
 ghost use Rattle.table.specs.Holds.{placeCell};
 ghost use Rattle.table.specs.Keys.{leastKey};
-ghost use Rattle.bodies.specs.Actions.{levelBase};
-ghost use Rattle.bodies.specs.Choices.{withStart, StartsView, OverlapAnswer, BehindView, BehindAnswer};
+ghost use Rattle.choices.specs.Room.{levelBase};
+ghost use Rattle.choices.specs.Choices.{withStart, StartsView, OverlapAnswer, BehindView, BehindAnswer};
 
 // 45 for an alternative behind `number` others, where it is the 65th or a later one, or past the tested length.
 fn choice_fault(records: &[u8], at: usize, number: usize, past: bool) -> u32

@@ -1,10 +1,10 @@
--- `bodies::choices::overlap_fault` meets its contract: the cells of the level are a table of their own.
+-- `choices::overlap_fault` meets its contract: the cells of the level are a table of their own.
 -- Assumes nothing.
 use borrow.Author.Needs.{needs}
 use native.Mathlib.Omega.{arith}
-use Rattle.bodies.specs.Laws.Starts.{starts-part, starts-room, start-room, start-place, no-overlap, later-less, an-overlap}
-use Rattle.bodies.proofs.choices.overlap_fault.Statement.{statement}
-use Rattle.bodies.proofs.choices.overlap_fault.Tie as tie
+use Rattle.choices.specs.Laws.Starts.{starts-part, starts-room, start-room, start-place, no-overlap, later-less, an-overlap}
+use Rattle.choices.proofs.overlap_fault.Statement.{statement}
+use Rattle.choices.proofs.overlap_fault.Tie as tie
 
 pub overlap-fault-spec : {M : Type 1} → statement M
 overlap-fault-spec =

@@ -1,4 +1,4 @@
--- `bodies::choices::keep_start` meets its contract.
+-- `choices::keep_start` meets its contract.
 -- Assumes nothing.
 use borrow.Author.Needs.{needs}
 use borrow.Author.Tests.{lt-ltb, le-ltb}
@@ -6,9 +6,9 @@ use mathlib.Core.Path.{_≡_}
 use mathlib.Core.List.{List}
 use Prim.Native.Nat.{ℕ, _<_, _≤_}
 use Rattle.cells.specs.Cells.{putCell}
-use Rattle.bodies.specs.Choices.{startCell, withStart}
-use Rattle.bodies.proofs.choices.keep_start.Statement.{statement}
-use Rattle.bodies.proofs.choices.keep_start.Tie as tie
+use Rattle.choices.specs.Choices.{startCell, withStart}
+use Rattle.choices.proofs.keep_start.Statement.{statement}
+use Rattle.choices.proofs.keep_start.Tie as tie
 
 kept : (room after : List ℕ) (depth number at : ℕ) → number < 64 → after ≡ putCell 2 room (startCell depth number) at → after ≡ withStart room depth number at
 kept room after depth number at l e = rw (withStart, lt-ltb number 64 l) e

@@ -1,8 +1,8 @@
--- `bodies::choices::selected_fault` meets its contract.
+-- `choices::selected_fault` meets its contract.
 -- Assumes nothing.
 use borrow.Author.Needs.{needs}
-use Rattle.bodies.proofs.choices.selected_fault.Statement.{statement}
-use Rattle.bodies.proofs.choices.selected_fault.Tie as tie
+use Rattle.choices.proofs.selected_fault.Statement.{statement}
+use Rattle.choices.proofs.selected_fault.Tie as tie
 
 pub selected-fault-spec : {M : Type 1} → statement M
 selected-fault-spec =

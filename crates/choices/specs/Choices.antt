@@ -14,7 +14,7 @@ use Rattle.table.specs.Holds.{placeCell, Holds}
 use Rattle.table.specs.Keys.{key, noKey}
 use Rattle.patterns.specs.Stands.{Held, ItemsAt}
 use Rattle.selectors.specs.Overlaps.{FirstOverlap}
-use Rattle.bodies.specs.Actions.{levelBase}
+use Rattle.choices.specs.Room.{levelBase}
 
 -- the cell of an alternative
 abbrev pub startCell : ℕ → ℕ → ℕ

@@ -1,0 +1,3 @@
+-- The laws of alternatives.
+pub mod Keys
+pub mod Starts
