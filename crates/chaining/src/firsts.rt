@@ -1,10 +1,10 @@
 // The first activation of a level in the text of a body, and the body that is refused.
 use chains::chains::in_level;
-use racing::carriers::name_place;
 use reading::bits::Set;
 use reading::bits::has;
 use reading::bodies::body_at;
 use reading::calls::next_call;
+use sharing::name_place;
 use table::records::inside_at;
 ghost use mathlib.Core.Bool.{false};
 ghost use Prim.Native.Nat.{_<_};

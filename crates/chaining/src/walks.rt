@@ -2,13 +2,13 @@
 use crate::firsts::first_of;
 use crate::firsts::refused_body;
 use chains::chains::next_level;
-use racing::carriers::name_place;
 use reading::bits::Set;
 use reading::bits::empty;
 use reading::bits::has;
 use reading::bits::only;
 use reading::bits::union;
 use rules::limits::LONGEST_CHAIN;
+use sharing::name_place;
 ghost use mathlib.Core.Path.{_≡_};
 ghost use mathlib.Core.Bool.{true, false};
 ghost use mathlib.Core.List.{List, [], _∷_, _++_};

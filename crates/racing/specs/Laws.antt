@@ -2,5 +2,4 @@ pub mod Alike
 pub mod Bridge
 pub mod Groups
 pub mod Members
-pub mod Shared
 pub mod Told

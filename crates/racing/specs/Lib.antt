@@ -1,5 +1,4 @@
 pub mod Found
 pub mod Groups
 pub mod Laws
-pub mod Shared
 pub mod Told

@@ -1,5 +1,4 @@
 // The race that 53 stands for: two members, and what they share.
-pub mod carriers;
 pub mod groups;
 pub mod members;
 pub mod telling;

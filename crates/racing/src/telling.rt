@@ -1,10 +1,10 @@
 // The reason of a refusal 53.
-use crate::carriers::first_conflict;
-use crate::carriers::name_place;
-use crate::carriers::writers;
 use crate::groups::race;
 use crate::members::place_of;
 use gathering::touches::touched;
+use sharing::first_conflict;
+use sharing::name_place;
+use sharing::writers;
 ghost use mathlib.Core.Path.{_≡_};
 ghost use mathlib.Core.Option.{some};
 ghost use Prim.Native.Nat.{_*_, _≤_};

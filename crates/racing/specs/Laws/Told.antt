@@ -21,10 +21,10 @@ use Rattle.rules.specs.Reasons.{conflict, raceAmong, firstConflict, writers, no
 use Rattle.rules.specs.Reasons.{Reason as Said}
 use Rattle.racing.specs.Groups.{memberHere, groupsHere, raceHere}
 use Rattle.racing.specs.Found.{memberAt, raceOf, InTokens}
-use Rattle.racing.specs.Shared.{Shared}
+use Rattle.sharing.specs.Shared.{Shared}
 use Rattle.racing.specs.Laws.Alike.{Matches, matched-races, alike-reason}
 use Rattle.racing.specs.Laws.Bridge.{all-match}
-use Rattle.racing.specs.Laws.Shared.{first-none, first-one}
+use Rattle.sharing.specs.Laws.Shared.{first-none, first-one}
 
 module _ {records decls : List ℕ} {m n : ℕ} (v : Reading records decls m n) where
   -- the race in the tokens gives the reason

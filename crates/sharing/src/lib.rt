@@ -12,7 +12,7 @@ ghost use Rattle.rules.specs.Whole.Sets.{Sets};
 ghost use Rattle.reading.specs.Reading.{Reading, tableOf};
 ghost use Rattle.whole.specs.GroupKeys.{Holding};
 ghost use Rattle.rules.specs.Reasons.{conflict, writers};
-ghost use Rattle.racing.specs.Shared.{Shared};
+ghost use Rattle.sharing.specs.Shared.{Shared};
 
 // Whether both touch the carrier k and one of them writes it.
 fn conflicts(u: Touched, t: Touched, k: usize) -> bool

@@ -1,9 +1,9 @@
--- `racing::carriers::writers` meets its contract.
+-- `sharing::writers` meets its contract.
 use borrow.Author.Needs.{needs}
 use mathlib.Core.Bool.{true, false}
-use Rattle.racing.specs.Laws.Shared.{writers-are}
-use Rattle.racing.proofs.carriers.writers.Statement.{statement}
-use Rattle.racing.proofs.carriers.writers.Tie as tie
+use Rattle.sharing.specs.Laws.Shared.{writers-are}
+use Rattle.sharing.proofs.writers.Statement.{statement}
+use Rattle.sharing.proofs.writers.Tie as tie
 
 pub writers-spec : {M : Type 1} → statement M
 writers-spec =

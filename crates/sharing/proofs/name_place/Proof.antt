@@ -1,8 +1,8 @@
--- `racing::carriers::name_place` meets its contract.
+-- `sharing::name_place` meets its contract.
 use borrow.Author.Needs.{needs}
 use Rattle.chains.specs.Laws.Least.{name-room, place-small, place-is}
-use Rattle.racing.proofs.carriers.name_place.Statement.{statement}
-use Rattle.racing.proofs.carriers.name_place.Tie as tie
+use Rattle.sharing.proofs.name_place.Statement.{statement}
+use Rattle.sharing.proofs.name_place.Tie as tie
 
 pub name-place-spec : {M : Type 1} → statement M
 name-place-spec =

@@ -13,7 +13,7 @@ use Rattle.laws_orders.specs.Orders.Tests.{member-append}
 use Rattle.reading.specs.Bits.{holds}
 use Rattle.whole.specs.GroupKeys.{Holding}
 use Rattle.rules.specs.Reasons.{conflict, firstConflict, writers, writersBy}
-use Rattle.racing.specs.Shared.{Shared}
+use Rattle.sharing.specs.Shared.{Shared}
 
 -- the test in the order of the code: the first writes, the second reads, the second writes, the first reads
 conflictBy : Bool → Bool → Bool → Bool → Bool

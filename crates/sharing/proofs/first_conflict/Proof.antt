@@ -1,9 +1,9 @@
--- `racing::carriers::first_conflict` meets its contract.
+-- `sharing::first_conflict` meets its contract.
 use borrow.Author.Needs.{needs}
 use Prim.Native.Nat.{_-_}
-use Rattle.racing.specs.Laws.Shared.{Sharing, share-starts, share-over, share-found, share-on}
-use Rattle.racing.proofs.carriers.first_conflict.Statement.{statement}
-use Rattle.racing.proofs.carriers.first_conflict.Tie as tie
+use Rattle.sharing.specs.Laws.Shared.{Sharing, share-starts, share-over, share-found, share-on}
+use Rattle.sharing.proofs.first_conflict.Statement.{statement}
+use Rattle.sharing.proofs.first_conflict.Tie as tie
 
 abbrev Inv-loop : tie.InvT-loop
 Inv-loop u t m k₀ k = Sharing (u .reads .w) (u .writes .w) (t .reads .w) (t .writes .w) m k

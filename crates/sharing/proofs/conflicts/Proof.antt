@@ -1,8 +1,8 @@
--- `racing::carriers::conflicts` meets its contract.
+-- `sharing::conflicts` meets its contract.
 use borrow.Author.Needs.{needs}
-use Rattle.racing.specs.Laws.Shared.{both-touch, second-writes, first-reads, none-writes}
-use Rattle.racing.proofs.carriers.conflicts.Statement.{statement}
-use Rattle.racing.proofs.carriers.conflicts.Tie as tie
+use Rattle.sharing.specs.Laws.Shared.{both-touch, second-writes, first-reads, none-writes}
+use Rattle.sharing.proofs.conflicts.Statement.{statement}
+use Rattle.sharing.proofs.conflicts.Tie as tie
 
 pub conflicts-spec : {M : Type 1} → statement M
 conflicts-spec =

@@ -1,0 +1,2 @@
+-- The laws of what two members share.
+pub mod Shared
