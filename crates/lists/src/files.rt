@@ -1,10 +1,10 @@
 // The designer's list as a file has it: an entry to a line, `PLACE WORD VALUE` in decimals with blanks between them. Lines without an entry are skipped, and `!`
 // begins a comment.
-use crate::decimals::Decimal;
-use crate::decimals::behind_digits;
-use crate::decimals::decimal_in;
-use crate::entries::ENTRY_ROOM;
-use crate::entries::put_entry;
+use decimals::Decimal;
+use decimals::behind_digits;
+use decimals::decimal_in;
+use entries::ENTRY_ROOM;
+use entries::put_entry;
 use listed::entries::Entry;
 ghost use Prim.Native.Nat.{_<_, _≤_};
 ghost use lib.ListN.{length};

@@ -1,6 +1,2 @@
-// A designer's list of stores as people write and read it: the entries that a file has, and what is said of them.
-pub mod decimals;
-pub mod entries;
+// A designer's list of stores as people write it: the entries that a file has.
 pub mod files;
-pub mod named;
-pub mod reports;

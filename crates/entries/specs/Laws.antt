@@ -1,0 +1,3 @@
+-- The laws of entries that are written.
+pub mod Entries
+pub mod Read

@@ -1,4 +1,0 @@
-pub mod Entries
-pub mod Named
-pub mod Reports
-pub mod Laws
