@@ -1,3 +1,4 @@
 pub mod Filling
 pub mod Memory
 pub mod Shown
+pub mod Steps

@@ -2,3 +2,4 @@ pub mod Filling
 pub mod Laws
 pub mod Memory
 pub mod Shown
+pub mod Steps

@@ -2,12 +2,11 @@
 use crate::memory::Touched;
 use crate::memory::nothing;
 use crate::memory::recalled;
+use crate::steps::step;
 use reading::bits::Set;
 use reading::bits::only;
 use reading::bits::union;
-use reading::kinds::closes;
 use reading::kinds::kind_of;
-use reading::kinds::mode;
 use reading::kinds::stores;
 use reading::names::carrier;
 use table::kinds::LPAR;
@@ -15,9 +14,6 @@ use table::kinds::NAME;
 use table::kinds::STOP;
 use table::records::inside_at;
 use table::records::kind_at;
-use table::scans::SEPARATOR;
-use table::scans::deeper;
-use table::scans::halts;
 ghost use mathlib.Core.Path.{_≡_};
 ghost use mathlib.Core.Bool.{_||_, true};
 ghost use mathlib.Core.List.{List};
@@ -105,27 +101,20 @@ fn called(records: &[u8], decls: &[u8], memo: &[u8], m: usize, n: usize, i: usiz
     recalled(memo, k)
 }
 
-// What is gathered with the token i, whose kind this is.
-fn heard(
+// What is gathered with the name i.
+fn named(
     records: &[u8],
     decls: &[u8],
     memo: &[u8],
     m: usize,
     n: usize,
     i: usize,
-    kind: u8,
     mode: usize,
     t: Touched,
 ) -> Touched
-    requires { ⌜ Reading (now records) (now decls) m n × ((i < n) × ((kind ≡ kindByte (now records) i) × (72 * m ≤ length (now memo)))) ⌝ }
+    requires { ⌜ Reading (now records) (now decls) m n × ((i < n) × ((kindByte (now records) i ≡ 0) × (72 * m ≤ length (now memo)))) ⌝ }
     ensures { λ r. ⌜ Hears (now (records .entry)) (now (decls .entry)) (now (memo .entry)) m n mode i (t .reads .w) (t .writes .w) (t .stops) (r .reads .w) (r .writes .w) (r .stops) ⌝ }
 {
-    if kind == STOP {
-        return halted(t);
-    }
-    if kind != NAME {
-        return t;
-    }
     if mode != 0 {
         return reading(t, carrier(records, decls, m, n, i));
     }
@@ -158,19 +147,24 @@ pub fn passed(records: &[u8], decls: &[u8], memo: &[u8], m: usize, n: usize, fro
     while i < n {
         let at = i;
         let kind = kind_at(records, at);
-        if halts(SEPARATOR, d, kind) {
+        i += 1;
+        if kind == NAME {
+            t = named(records, decls, memo, m, n, at, at_mode, t);
+            continue;
+        }
+        if kind == STOP {
+            t = halted(t);
+            continue;
+        }
+        let next = step(d, at_mode, kind);
+        if next.ends {
             return Extent { touched: t, at };
         }
-        t = heard(records, decls, memo, m, n, at, kind, at_mode, t);
-        if closes(d, kind) {
-            return Extent {
-                touched: t,
-                at: at + 1,
-            };
+        if next.closes {
+            return Extent { touched: t, at: i };
         }
-        d = deeper(d, kind);
-        at_mode = mode(at_mode, kind);
-        i += 1;
+        d = next.depth;
+        at_mode = next.mode;
     }
     Extent { touched: t, at: i }
 }

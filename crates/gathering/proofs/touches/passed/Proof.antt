@@ -2,14 +2,14 @@
 use borrow.Author.Needs.{needs}
 use Prim.Native.Nat.{_-_}
 use Rattle.reading.specs.Laws.Reading.{kinded}
-use Rattle.reading.specs.Laws.Ends.{Seeking, seek-from, seek-on, comes-here, comes-behind, comes-to-nothing}
-use Rattle.gathering.specs.Laws.Shown.{Listening, listen, heard-all, heard-end, heard-last, hear-on}
+use Rattle.reading.specs.Laws.Ends.{seek-from, comes-to-nothing}
+use Rattle.gathering.specs.Laws.Shown.{listen, heard-all}
+use Rattle.gathering.specs.Laws.Steps.{Passing, is-name, pass-name, pass-stop, pass-mark, heard-before, comes-before, heard-with, comes-with}
 use Rattle.gathering.proofs.touches.passed.Statement.{statement}
 use Rattle.gathering.proofs.touches.passed.Tie as tie
 
 abbrev Inv-loop : tie.InvT-loop
-Inv-loop records decls memo m n from t₀ d₀ mode₀ i₀ t d mode i =
-    Listening records decls memo m n from (t .reads .w) (t .writes .w) (t .stops) d mode i × Seeking records n from d i
+Inv-loop records decls memo m n from t₀ d₀ mode₀ i₀ t d mode i = Passing records decls memo m n from (t .reads .w) (t .writes .w) (t .stops) d mode i
 
 abbrev μ-loop : tie.MeasureT-loop
 μ-loop records decls memo m n from t₀ d₀ mode₀ i₀ t d mode i = n - i
@@ -23,15 +23,16 @@ passed-spec =
     (λ c κs. search needs)
     (λ c. search (needs, listen, seek-from, kinded))
     (λ c κs. search needs)
-    (λ c κs. search needs)
-    (λ c. search (needs, heard-end, comes-here))
-    (λ c κs. search needs)
+    (λ c. search needs)
+    (λ c κs. search (needs, is-name))
+    (λ c. search needs)
+    (λ c. search (needs, pass-name))
     (λ c κs. search needs)
     (λ c. search needs)
-    (λ c. search (needs, heard-last, comes-behind))
+    (λ c. search (needs, pass-stop))
     (λ c κs. search needs)
-    (λ c κs. search needs)
+    (λ c. search (needs, heard-before, comes-before))
+    (λ c. search (needs, heard-with, comes-with))
     (λ c. search needs)
-    (λ c. search needs)
-    (λ c. search (needs, hear-on, seek-on))
+    (λ c. search (needs, pass-mark))
     (λ c. search (needs, heard-all, comes-to-nothing)))
