@@ -11,7 +11,7 @@ use Rattle.rules.specs.Faults.Whole.{Scope}
 use Rattle.table.specs.Holds.{kindByte, tokenAt}
 use Rattle.reading.specs.Reading.{Kinded}
 use Rattle.reading.specs.Groups.{more}
-use Rattle.scopes.specs.Walks.{walk, faultsAt}
+use Rattle.scopes.specs.Walks.{opens, walk, faultsAt}
 use Rattle.scopes.specs.Labels.{Worded, Labelled, Scoped}
 
 -- the cell of the base of the block that is the depth-th from outside; that of its top is the next
@@ -47,8 +47,12 @@ pub record Surrounding (labels : List ℕ) (depth limit base top : ℕ) : Type 0
   pub outermost : depth ≡ 0 → (base ≡ limit + 1) × (top ≡ limit)
   pub inside : (depth ≡ 0 → ⊥) → (base ≡ cell 2 labels (frameAt depth)) × (top ≡ cell 2 labels (frameAt depth + 1))
 
+-- whether the group that begins behind the token i, of this kind, has two members or more
+pub record Told (records : List ℕ) (n i kind : ℕ) (several : Bool) : Type 0 where
+  pub tells : (v : Kinded records n) → opens kind ≡ true → several ≡ more (drop (i + 1) (v .tokens))
+
 -- what a turn starts from: the token i, of this kind
-pub record Turning (text records labels : List ℕ) (n i kind depth base top : ℕ) : Type 0 where
+pub record Turning (text records labels : List ℕ) (n i kind : ℕ) (several : Bool) (depth base top : ℕ) : Type 0 where
   pub worded : Worded text records n
   pub scopes : List Scope
   pub scope : Scope
@@ -59,6 +63,7 @@ pub record Turning (text records labels : List ℕ) (n i kind depth base top : �
   pub few : top + depth < 8192
   pub kind-is : kind ≡ kindByte records i
   pub inner : kind ≡ 20 → 2 ≤ depth
+  pub told : Told records n i kind several
 
 -- where a walk goes on behind the token i
 pub record Onward (ds : Table) (ts : Tokens) (labels : List ℕ) (i depth base top : ℕ) (σ : List Scope) (s : Scope) : Type 0 where
@@ -79,17 +84,17 @@ abbrev pub GroupBase : Bool → ℕ → ℕ → ℕ → Type 0
 GroupBase true base top r = r ≡ top
 GroupBase false base top r = r ≡ base
 
-pub record Opened (records old new : List ℕ) (n i depth base top depth₁ base₁ top₁ : ℕ) : Type 0 where
+pub record Opened (several : Bool) (old new : List ℕ) (depth base top depth₁ base₁ top₁ : ℕ) : Type 0 where
   pub pushed : FramePushed old new depth base top
   pub deeper : depth₁ ≡ depth + 1
   pub same : top₁ ≡ top
-  pub scope : (v : Kinded records n) → GroupBase (more (drop (i + 1) (v .tokens))) base top base₁
+  pub scope : GroupBase several base top base₁
 
 -- a group begins behind NEXT
 abbrev pub NextGroup : Bool → List ℕ → ℕ → ℕ → ℕ → ℕ → Type 0
 NextGroup true labels depth limit base top = (base ≡ limit) × (top ≡ limit)
 NextGroup false labels depth limit base top = Surrounding labels depth limit base top
 
-pub record Followed (records labels : List ℕ) (n i depth limit depth₁ base₁ top₁ : ℕ) : Type 0 where
+pub record Followed (several : Bool) (labels : List ℕ) (depth limit depth₁ base₁ top₁ : ℕ) : Type 0 where
   pub same : depth₁ ≡ depth
-  pub group : (v : Kinded records n) → NextGroup (more (drop (i + 1) (v .tokens))) labels depth limit base₁ top₁
+  pub group : NextGroup several labels depth limit base₁ top₁

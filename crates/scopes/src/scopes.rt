@@ -2,7 +2,6 @@
 use crate::labels::push_label;
 use cells::get16;
 use cells::put16;
-use reading::kinds::more;
 use table::kinds::BECOMES;
 use table::kinds::BEGIN;
 use table::kinds::COMMA;
@@ -14,7 +13,6 @@ use table::room::SCOPES_END;
 ghost use mathlib.Core.Path.{_≡_};
 ghost use Prim.Native.Nat.{_<_, _≤_};
 ghost use lib.ListN.{length};
-ghost use Rattle.reading.specs.Reading.{Kinded};
 ghost use Rattle.scopes.specs.Frames.{FramePushed, Surrounding, Opened, Followed, Turning, Turned};
 
 // How many blocks are open, and where the labels of the scope begin and end; where they end before they begin there is no scope.
@@ -34,21 +32,13 @@ fn push_frame(labels: &mut [u8], depth: usize, base: usize, top: usize)
     put16(labels, at + 1, top as u16);
 }
 
-// Behind the BEGIN at i.
-fn opened(
-    records: &[u8],
-    labels: &mut [u8],
-    n: usize,
-    i: usize,
-    depth: usize,
-    base: usize,
-    top: usize,
-) -> Nest
-    requires { ⌜ Kinded (now records) n × ((i < n) × ((32768 ≤ length (now labels)) × ((depth < 8192) × ((base < 65536) × (top < 65536))))) ⌝ }
-    ensures { λ r. ⌜ Opened (now (records .entry)) (now (labels .entry)) (now (labels .exit)) n i depth base top (r .depth) (r .base) (r .top) ⌝ }
+// Behind a BEGIN.
+fn opened(labels: &mut [u8], several: bool, depth: usize, base: usize, top: usize) -> Nest
+    requires { ⌜ (32768 ≤ length (now labels)) × ((depth < 8192) × ((base < 65536) × (top < 65536))) ⌝ }
+    ensures { λ r. ⌜ Opened several (now (labels .entry)) (now (labels .exit)) depth base top (r .depth) (r .base) (r .top) ⌝ }
 {
     push_frame(labels, depth, base, top);
-    if more(records, n, i + 1) {
+    if several {
         return Nest {
             depth: depth + 1,
             base: top,
@@ -82,12 +72,12 @@ fn surrounding(labels: &[u8], depth: usize, top: usize) -> Nest
     }
 }
 
-// Behind the NEXT at i.
-fn next_group(records: &[u8], labels: &[u8], n: usize, i: usize, depth: usize, top: usize) -> Nest
-    requires { ⌜ Kinded (now records) n × ((i < n) × ((32768 ≤ length (now labels)) × ((depth < 8192) × (top < 65536)))) ⌝ }
-    ensures { λ r. ⌜ Followed (now (records .entry)) (now (labels .entry)) n i depth top (r .depth) (r .base) (r .top) ⌝ }
+// Behind a NEXT.
+fn next_group(labels: &[u8], several: bool, depth: usize, top: usize) -> Nest
+    requires { ⌜ (32768 ≤ length (now labels)) × ((depth < 8192) × (top < 65536)) ⌝ }
+    ensures { λ r. ⌜ Followed several (now (labels .entry)) depth top (r .depth) (r .base) (r .top) ⌝ }
 {
-    if more(records, n, i + 1) {
+    if several {
         return Nest {
             depth,
             base: top,
@@ -97,7 +87,7 @@ fn next_group(records: &[u8], labels: &[u8], n: usize, i: usize, depth: usize, t
     surrounding(labels, depth, top)
 }
 
-// Behind the token i, whose kind this is.
+// Behind the token i, whose kind this is. Where a group begins behind it, `several` tells whether it has two members or more.
 pub fn turn(
     text: &[u8],
     records: &[u8],
@@ -105,15 +95,16 @@ pub fn turn(
     n: usize,
     i: usize,
     kind: u8,
+    several: bool,
     depth: usize,
     base: usize,
     top: usize,
 ) -> Nest
-    requires { ⌜ Turning (now text) (now records) (now labels) n i kind depth base top ⌝ }
+    requires { ⌜ Turning (now text) (now records) (now labels) n i kind several depth base top ⌝ }
     ensures { λ r. ⌜ Turned (now (text .entry)) (now (records .entry)) (now (labels .entry)) (now (labels .exit)) n i depth base top (r .depth) (r .base) (r .top) ⌝ }
 {
     if kind == BEGIN {
-        return opened(records, labels, n, i, depth, base, top);
+        return opened(labels, several, depth, base, top);
     }
     if kind == END {
         let around = surrounding(labels, depth, top);
@@ -131,7 +122,7 @@ pub fn turn(
         };
     }
     if kind == NEXT {
-        return next_group(records, labels, n, i, depth, top);
+        return next_group(labels, several, depth, top);
     }
     if kind == COMMA {
         return surrounding(labels, depth, top);

@@ -13,15 +13,15 @@ use table::keys::number_key;
 use table::kinds::SEMI;
 use table::records::place_at;
 ghost use mathlib.Core.Path.{_≡_};
-ghost use mathlib.Core.List.{_++_, []};
+ghost use mathlib.Core.List.{_++_};
 ghost use Prim.Native.Nat.{_*_, _≤_};
 ghost use lib.ListN.{length, drop};
-ghost use Rattle.rules.specs.Whole.Sets.{Sets, sets, race};
+ghost use Rattle.rules.specs.Whole.Sets.{Sets, race};
 ghost use Rattle.rules.specs.Faults.Fault.{when};
 ghost use Rattle.table.specs.Keys.{leastNumberKey};
-ghost use Rattle.reading.specs.Reading.{Reading, tableOf};
+ghost use Rattle.reading.specs.Reading.{Reading, Kinded, tableOf};
 ghost use Rattle.gathering.specs.Filling.{Complete};
-ghost use Rattle.reading.specs.Groups.{placeOf, membersAt};
+ghost use Rattle.reading.specs.Groups.{placeOf, more, groupAt};
 ghost use Rattle.whole.specs.GroupKeys.{Holding};
 
 // Whether two actions race: one writes what the other reads or writes.
@@ -65,10 +65,17 @@ fn place_of(records: &[u8], decls: &[u8], m: usize, n: usize, i: usize) -> usize
     0
 }
 
-// The least key of the members of the group at from.
-pub fn group_key(records: &[u8], decls: &[u8], memo: &[u8], m: usize, n: usize, from: usize) -> u32
+// The least key of a group, and whether it has two members or more: one member alone has none.
+pub struct Group {
+    pub key: u32,
+    pub several: bool,
+}
+
+// The group at from. Where its first member is also its last, no key of it counts.
+pub fn group_at(records: &[u8], decls: &[u8], memo: &[u8], m: usize, n: usize, from: usize) -> Group
     requires { ⌜ Reading (now records) (now decls) m n × ((72 * m ≤ length (now memo)) × Complete (now records) (now decls) (now memo) m n) ⌝ }
-    ensures { λ r. ⌜ ((v : Reading (now (records .entry)) (now (decls .entry)) m n) → r ≡ leastNumberKey (membersAt (tableOf v) (sets [] []) (drop from (v .tokens)))) ⌝ }
+    ensures { λ r. ⌜ ((v : Reading (now (records .entry)) (now (decls .entry)) m n) → r .key ≡ leastNumberKey (groupAt (tableOf v) (drop from (v .tokens))))
+        × ((v : Kinded (now (records .entry)) n) → r .several ≡ more (drop from (v .tokens))) ⌝ }
 {
     let mut key = NO_KEY;
     let mut before = nothing();
@@ -80,7 +87,13 @@ pub fn group_key(records: &[u8], decls: &[u8], memo: &[u8], m: usize, n: usize, 
         key = earlier(key, member_key(before, own, place));
         let end = end_of(records, n, member.at);
         if kind_of(records, n, end) != SEMI {
-            return key;
+            if i == from {
+                return Group {
+                    key: NO_KEY,
+                    several: false,
+                };
+            }
+            return Group { key, several: true };
         }
         before = joined(before, own);
         i = end + 1;

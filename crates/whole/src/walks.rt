@@ -1,8 +1,8 @@
 // The bodies, each from its first token to its last: the least key of its groups and of its jumps.
-use crate::groups::group_key;
+use crate::groups::Group;
+use crate::groups::group_at;
 use reading::bodies::body_at;
 use reading::kinds::closes;
-use reading::kinds::more;
 use scopes::labels::jump_key;
 use scopes::scopes::Nest;
 use scopes::scopes::turn;
@@ -13,15 +13,12 @@ use table::kinds::NEXT;
 use table::records::kind_at;
 use table::room::LABELS;
 ghost use mathlib.Core.Path.{_≡_};
-ghost use Prim.Native.Nat.{_+_, _*_, _<_, _≤_};
-ghost use lib.ListN.{length, drop};
+ghost use Prim.Native.Nat.{_<_, _≤_};
+ghost use lib.ListN.{length};
 ghost use Rattle.rules.specs.Faults.Whole.{groupsFaults};
 ghost use Rattle.table.specs.Keys.{leastNumberKey};
-ghost use Rattle.reading.specs.Reading.{Reading, tableOf};
-ghost use Rattle.gathering.specs.Filling.{Complete};
-ghost use Rattle.reading.specs.Groups.{groupAt};
 ghost use Rattle.scopes.specs.Walks.{opens};
-ghost use Rattle.scopes.specs.Frames.{Turning};
+ghost use Rattle.scopes.specs.Frames.{Told, Turning};
 ghost use Rattle.whole.specs.Written.{Written, whole};
 ghost use Rattle.whole.specs.WalkKeys.{labelsOf, Roomy, Faulty, FaultKey, TurnedIn, Walked, BodyKey};
 
@@ -36,18 +33,7 @@ fn opens(kind: u8) -> bool
     }
 }
 
-// The least key of the members of the group at from, if they are two or more.
-fn group_at(records: &[u8], decls: &[u8], memo: &[u8], m: usize, n: usize, from: usize) -> u32
-    requires { ⌜ Reading (now records) (now decls) m n × ((72 * m ≤ length (now memo)) × Complete (now records) (now decls) (now memo) m n) ⌝ }
-    ensures { λ r. ⌜ ((v : Reading (now (records .entry)) (now (decls .entry)) m n) → r ≡ leastNumberKey (groupAt (tableOf v) (drop from (v .tokens)))) ⌝ }
-{
-    if more(records, n, from) {
-        return group_key(records, decls, memo, m, n, from);
-    }
-    NO_KEY
-}
-
-// The least key at the token i, whose kind this is.
+// The least key at the token i, whose kind this is, with what is told of the group that begins behind it.
 fn fault_at(
     text: &[u8],
     records: &[u8],
@@ -59,14 +45,18 @@ fn fault_at(
     kind: u8,
     base: usize,
     top: usize,
-) -> u32
+) -> Group
     requires { ⌜ Faulty (now text) (now records) (now decls) (now room) m n i kind top ⌝ }
-    ensures { λ r. ⌜ FaultKey (now (text .entry)) (now (records .entry)) (now (decls .entry)) (now (room .entry)) m n i base top r ⌝ }
+    ensures { λ r. ⌜ FaultKey (now (text .entry)) (now (records .entry)) (now (decls .entry)) (now (room .entry)) m n i base top (r .key)
+        × Told (now (records .entry)) n i kind (r .several) ⌝ }
 {
     if opens(kind) {
         return group_at(records, decls, &room[..LABELS], m, n, i + 1);
     }
-    jump_key(text, records, &room[LABELS..], n, i, kind, base, top)
+    Group {
+        key: jump_key(text, records, &room[LABELS..], n, i, kind, base, top),
+        several: false,
+    }
 }
 
 // Behind the token i, with the labels in the room.
@@ -77,11 +67,12 @@ fn turn_in(
     n: usize,
     i: usize,
     kind: u8,
+    several: bool,
     depth: usize,
     base: usize,
     top: usize,
 ) -> Nest
-    requires { ⌜ Turning (now text) (now records) (labelsOf (now room)) n i kind depth base top × (51200 ≤ length (now room)) ⌝ }
+    requires { ⌜ Turning (now text) (now records) (labelsOf (now room)) n i kind several depth base top × (51200 ≤ length (now room)) ⌝ }
     ensures { λ r. ⌜ TurnedIn (now (text .entry)) (now (records .entry)) (now (room .entry)) (now (room .exit)) n i depth base top (r .depth) (r .base) (r .top) ⌝ }
 {
     turn(
@@ -91,6 +82,7 @@ fn turn_in(
         n,
         i,
         kind,
+        several,
         depth,
         base,
         top,
@@ -121,11 +113,10 @@ fn walk_key(
         if closes(depth, kind) {
             return key;
         }
-        key = earlier(
-            key,
-            fault_at(text, records, decls, room, m, n, at, kind, base, top),
-        );
-        let next = turn_in(text, records, room, n, at, kind, depth, base, top);
+        let here = fault_at(text, records, decls, room, m, n, at, kind, base, top);
+        key = earlier(key, here.key);
+        let several = here.several;
+        let next = turn_in(text, records, room, n, at, kind, several, depth, base, top);
         depth = next.depth;
         base = next.base;
         top = next.top;

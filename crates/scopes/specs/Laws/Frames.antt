@@ -11,13 +11,13 @@ use Rattle.cells.specs.Cells.{cell, putCell}
 use Rattle.cells.specs.Laws.{length-put, le-put-same}
 use Rattle.rules.specs.Grammar.Trees.{Tokens}
 use Rattle.rules.specs.Declarations.{Table}
+use Rattle.rules.specs.Whole.Sets.{member}
 use Rattle.rules.specs.Faults.Whole.{Scope, memberScope}
 use Rattle.table.specs.Holds.{tokenAt}
 use Rattle.table.specs.Scans.{no as number}
-use Rattle.reading.specs.Reading.{Kinded}
 use Rattle.reading.specs.Laws.Reading.{next-token}
 use Rattle.reading.specs.Groups.{more}
-use Rattle.scopes.specs.Walks.{around, outside, lastOpen, labelling, walk, faultsAt}
+use Rattle.scopes.specs.Walks.{opens, around, outside, lastOpen, labelling, walk, faultsAt}
 use Rattle.scopes.specs.Laws.Walks.{walk-begin, walk-end, walk-semi, walk-next, walk-comma, walk-becomes, walk-other}
 use Rattle.scopes.specs.Hints.{scopesEnd}
 use Rattle.scopes.specs.Labels.{Worded, Labelled, Scoped, namesFrom, Pushed}
@@ -93,56 +93,49 @@ surrounded {ts} {labels} {base = base} {top = top} x (frame {depth} {base = base
     rw (eb, et) (record { scoped = r; lower = l; edge = e; same = frame {limit = top₀} p q (omega arith) e r f; outer = rw less f })
 
 -- what the steps of a turn ask
-module _ {text records labels : List ℕ} {n i kind depth base top : ℕ} (x : Turning text records labels n i kind depth base top) where
+module _ {text records labels : List ℕ} {n i kind : ℕ} {several : Bool} {depth base top : ℕ} (x : Turning text records labels n i kind several depth base top) where
   pub to-read : (32768 ≤ length labels) × ((depth < 8192) × (top < 65536))
   to-read = (x .stack .space, (omega (arith, x .few), omega (arith, x .few)))
 
-  pub to-follow : Kinded records n × ((i < n) × ((32768 ≤ length labels) × ((depth < 8192) × (top < 65536))))
-  to-follow = (by-kinds (x .worded), (x .within, to-read))
-
-  pub to-open : Kinded records n × ((i < n) × ((32768 ≤ length labels) × ((depth < 8192) × ((base < 65536) × (top < 65536)))))
-  to-open = (by-kinds (x .worded), (x .within, (x .stack .space, (omega (arith, x .few), (omega (arith, x .few, x .stack .edge), omega (arith, x .few))))))
+  pub to-open : (32768 ≤ length labels) × ((depth < 8192) × ((base < 65536) × (top < 65536)))
+  to-open = (x .stack .space, (omega (arith, x .few), (omega (arith, x .few, x .stack .edge), omega (arith, x .few))))
 
   pub to-push : Worded text records n × ((i < n) × ((1 ≤ i) × ((top < scopesEnd) × (2 * top + 2 ≤ length labels))))
   to-push = (x .worded, (x .within, (x .later, (omega (arith, x .few), omega (arith, x .stack .space, x .few)))))
 
-module _ {records : List ℕ} {n i : ℕ} {b : Bool} (tells : (v : Kinded records n) → b ≡ more (drop (i + 1) (v .tokens))) where
-  pub opened-more : {old new : List ℕ} {depth base top : ℕ} → FramePushed old new depth base top → b ≡ true → Opened records old new n i depth base top
-      (depth + 1) top top
-  opened-more {base = base} {top = top} p e = record {
-    pushed = p;
-    deeper = refl;
-    same = refl;
-    scope = λ v. subst (λ (c : Bool). GroupBase c base top top)
-        (sym e ∙ tells v) refl;
-  }
+module _ {several : Bool} {old new : List ℕ} {depth base top : ℕ} (p : FramePushed old new depth base top) where
+  pub opened-more : several ≡ true → Opened several old new depth base top (depth + 1) top top
+  opened-more e = record { pushed = p; deeper = refl; same = refl; scope = subst (λ (c : Bool). GroupBase c base top top) (sym e) refl }
 
-  pub opened-one : {old new : List ℕ} {depth base top : ℕ} → FramePushed old new depth base top → b ≡ false → Opened records old new n i depth base top
-      (depth + 1) base top
-  opened-one {base = base} {top = top} p e = record {
-    pushed = p;
-    deeper = refl;
-    same = refl;
-    scope = λ v. subst (λ (c : Bool). GroupBase c base top base)
-        (sym e ∙ tells v) refl;
-  }
+  pub opened-one : several ≡ false → Opened several old new depth base top (depth + 1) base top
+  opened-one e = record { pushed = p; deeper = refl; same = refl; scope = subst (λ (c : Bool). GroupBase c base top base) (sym e) refl }
 
-module _ {records : List ℕ} {n i : ℕ} {b : Bool} (tells : (v : Kinded records n) → b ≡ more (drop (i + 1) (v .tokens))) where
-  pub followed-more : {labels : List ℕ} {depth limit : ℕ} → b ≡ true → Followed records labels n i depth limit depth limit limit
-  followed-more {labels} {depth} {limit} e =
-      record { same = refl; group = λ v. subst (λ (c : Bool). NextGroup c labels depth limit limit limit) (sym e ∙ tells v) (refl, refl) }
+module _ {several : Bool} (labels : List ℕ) {depth limit : ℕ} where
+  pub followed-more : several ≡ true → Followed several labels depth limit depth limit limit
+  followed-more e = record { same = refl; group = subst (λ (c : Bool). NextGroup c labels depth limit limit limit) (sym e) (refl, refl) }
 
-  pub followed-one : {labels : List ℕ} {depth limit depth₁ base₁ top₁ : ℕ} → b ≡ false → depth₁ ≡ depth → Surrounding labels depth limit base₁ top₁
-      → Followed records labels n i depth limit depth₁ base₁ top₁
-  followed-one {labels} {depth} {limit} {depth₁} {base₁} {top₁} e d x =
-      record { same = d; group = λ v. subst (λ (c : Bool). NextGroup c labels depth limit base₁ top₁) (sym e ∙ tells v) x }
+  pub followed-one : {depth₁ base₁ top₁ : ℕ} → several ≡ false → depth₁ ≡ depth → Surrounding labels depth limit base₁ top₁
+      → Followed several labels depth limit depth₁ base₁ top₁
+  followed-one {base₁ = base₁} {top₁} e d x = record { same = d; group = subst (λ (c : Bool). NextGroup c labels depth limit base₁ top₁) (sym e) x }
 
-module _ {text records old : List ℕ} {n i kind depth base top : ℕ} (x : Turning text records old n i kind depth base top) where
+begin-opens : opens 19 ≡ true
+unfolding opens member
+begin-opens = refl
+
+next-opens : opens 21 ≡ true
+unfolding opens member
+next-opens = refl
+
+module _ {text records old : List ℕ} {n i kind : ℕ} {several : Bool} {depth base top : ℕ} (x : Turning text records old n i kind several depth base top) where
   here : (v : Worded text records n) → drop i (v .tokens) ≡ tokenAt (v .tokens) i ∷ drop (i + 1) (v .tokens)
   here v = next-token (by-kinds v) i (x .within)
 
   kind-here : {k : ℕ} (v : Worded text records n) → kind ≡ k → number (tokenAt (v .tokens) i) ≡ k
   kind-here v e = sym (x .kind-is ∙ by-kinds v .kind i (x .within)) ∙ e
+
+  -- a group that begins behind BEGIN or NEXT
+  more-here : (k : ℕ) → opens k ≡ true → kind ≡ k → (v : Worded text records n) → more (drop (i + 1) (v .tokens)) ≡ several
+  more-here k o e v = sym (x .told .tells (by-kinds v) (ap opens e ∙ o))
 
   -- the walk from the token i on
   from-here : (ds : Table) (v : Worded text records n) (σ : List Scope) (s : Scope)
@@ -214,12 +207,12 @@ module _ {text records old : List ℕ} {n i kind depth base top : ℕ} (x : Turn
     };
   }
 
-  pub turned-next : {depth₁ base₁ top₁ : ℕ} → kind ≡ 21 → Followed records old n i depth top depth₁ base₁ top₁
+  pub turned-next : {depth₁ base₁ top₁ : ℕ} → kind ≡ 21 → Followed several old depth top depth₁ base₁ top₁
       → Turned text records old old n i depth base top depth₁ base₁ top₁
   turned-next {depth₁} {base₁} {top₁} e f = rw (f .same) (record {
-    stack = stack-by (more (drop (i + 1) (x .worded .tokens))) (f .group (by-kinds (x .worded)));
-    grown = grown-by (more (drop (i + 1) (x .worded .tokens))) (f .group (by-kinds (x .worded)));
-    on = λ ds v σ s z. on-by ds v σ s z (more (drop (i + 1) (v .tokens))) refl (f .group (by-kinds v));
+    stack = stack-by several (f .group);
+    grown = grown-by several (f .group);
+    on = λ ds v σ s z. on-by ds v σ s z several (more-here 21 next-opens e v) (f .group);
   })
     where
       stack-by : (b : Bool) → NextGroup b old depth top base₁ top₁ → Stack records old n base₁ top₁
@@ -252,16 +245,16 @@ module _ {text records old : List ℕ} {n i kind depth base top : ℕ} (x : Turn
                 (tokenAt (v .tokens) i) (drop (i + 1) (v .tokens))) q);
           }
 
-  pub turned-begin : {new : List ℕ} {depth₁ base₁ top₁ : ℕ} → kind ≡ 19 → Opened records old new n i depth base top depth₁ base₁ top₁
+  pub turned-begin : {new : List ℕ} {depth₁ base₁ top₁ : ℕ} → kind ≡ 19 → Opened several old new depth base top depth₁ base₁ top₁
       → Turned text records old new n i depth base top depth₁ base₁ top₁
   turned-begin {new} {depth₁} {base₁} {top₁} e o = rw (o .deeper ∙ add-one depth, o .same) (record {
     stack = record {
       labelled = labelled-under (omega arith) below (o .pushed .size);
-      edge = edge-by (more (drop (i + 1) (x .worded .tokens))) (o .scope (by-kinds (x .worded)));
+      edge = edge-by several (o .scope);
       space = omega (arith, x .stack .space, o .pushed .size);
     };
     grown = omega arith;
-    on = λ ds v σ s z. on-by ds v σ s z (more (drop (i + 1) (v .tokens))) refl (o .scope (by-kinds v));
+    on = λ ds v σ s z. on-by ds v σ s z several (more-here 19 begin-opens e v) (o .scope);
   })
     where
       below : (j : ℕ) → j < top → cell 2 new j ≡ cell 2 old j

@@ -6,6 +6,7 @@ use mathlib.Core.List.{List, [], _∷_, _++_}
 use native.Mathlib.Omega.{arith}
 use native.Mathlib.Decide.{decLt}
 use borrow.Author.Tests.{eq-eqb, ne-eqb}
+use lib.Dec.{eqb}
 use lib.ListN.{drop}
 use Rattle.rules.specs.Text.Tokens.{Token, Semi, kindNo}
 use Rattle.rules.specs.Declarations.{Name as Word, Table}
@@ -29,7 +30,7 @@ use Rattle.gathering.specs.Shown.{Shown, AllRecalled, Gathers}
 use Rattle.gathering.specs.Filling.{Complete}
 use Rattle.reading.specs.Behind.{behind}
 use Rattle.scopes.specs.Laws.Walks.{min-assoc}
-use Rattle.reading.specs.Groups.{placeOf, touchAt, stopsAt, memberAt, alsoAt, membersAt}
+use Rattle.reading.specs.Groups.{placeOf, more, touchAt, stopsAt, memberAt, alsoAt, membersAt, groupAt}
 use Rattle.reading.specs.Laws.Groups.{onward, also-onward}
 use Rattle.table.specs.Scans.{no as number}
 use Rattle.whole.specs.GroupKeys.{Holding}
@@ -135,6 +136,7 @@ pub record Comparing (records decls memo : List ℕ) (m n from : ℕ) (r w : Lis
   pub small : key ≤ noKey
   pub so-far : (v : Reading records decls m n) → (u : Sets) × Holding r w u
       × (min key (leastNumberKey (membersAt (tableOf v) u (drop i (v .tokens)))) ≡ leastNumberKey (membersAt (tableOf v) (sets [] []) (drop from (v .tokens))))
+  pub later : (i ≡ from → ⊥) → (v : Kinded records n) → more (drop from (v .tokens)) ≡ true
 
 pub compare-none : {records decls memo : List ℕ} {m n : ℕ} (from : ℕ) {r w : List ℕ} → Reading records decls m n → Complete records decls memo m n
     → ((k : ℕ) → holds r k ≡ false)
@@ -144,6 +146,7 @@ compare-none from x c a b = record {
   complete = c;
   small = omega arith;
   so-far = λ v. (sets [] [], holding-none a b, omega (arith, least-bounded numberKey (membersAt (tableOf v) (sets [] []) (drop from (v .tokens)))));
+  later = λ ne. absurd (ne refl);
 }
 
 -- `;` is a token
@@ -153,6 +156,17 @@ end-inside {n = n} e v kind h = by (decLt e n)
     by : Dec (e < n) → e < n
     by (yes l) = l
     by (no l) = absurd (let past : n ≤ e = omega arith in omega (arith, kind v, ap nextNo (no-more v e past)))
+
+-- the faults of a group, if it has two or more members
+module _ {records decls : List ℕ} {m n : ℕ} (from : ℕ) {b : Bool} (tells : (v : Kinded records n) → b ≡ more (drop from (v .tokens))) where
+  group-some : {r : ℕ} → b ≡ true → ((v : Reading records decls m n) → r ≡ leastNumberKey (membersAt (tableOf v) (sets [] []) (drop from (v .tokens))))
+      → (v : Reading records decls m n) → r ≡ leastNumberKey (groupAt (tableOf v) (drop from (v .tokens)))
+  unfolding groupAt
+  group-some e h v = h v ∙ sym (rw (sym (tells (kinded v)) ∙ e, groupAt))
+
+  group-none : b ≡ false → (v : Reading records decls m n) → noKey ≡ leastNumberKey (groupAt (tableOf v) (drop from (v .tokens)))
+  unfolding groupAt
+  group-none e v = sym (rw (sym (tells (kinded v)) ∙ e, groupAt) (least-none numberKey))
 
 -- a turn: what is gathered of the member at i, its key, and where it ends
 pub record Turn (records decls memo : List ℕ) (m n : ℕ) (r w : List ℕ) (key i : ℕ) (r₁ w₁ : List ℕ) (s : Bool) (next e k : ℕ) : Type 0 where
@@ -189,7 +203,12 @@ module _ {records decls memo : List ℕ} {m n from : ℕ} {r w : List ℕ} {key 
       ap (λ (z : ℕ). min z (leastNumberKey (onward (tableOf v) (union u t) (drop e (v .tokens))))) (x .least)
       ∙ (min-assoc key (x .own) (leastNumberKey (onward (tableOf v) (union u t) (drop e (v .tokens)))) ∙ (ap (min key) (sym both) ∙ y .2))
 
-  pub last-member : (k ≡ kindNo Semi → ⊥) → (v : Reading records decls m n) → next ≡ leastNumberKey (membersAt (tableOf v) (sets [] []) (drop from (v .tokens)))
+  -- whether the member at i is followed by another
+  followed : (v : Kinded records n) → more (drop i (v .tokens)) ≡ eqb k (kindNo Semi)
+  unfolding more
+  followed v = ap (λ (ts : Tokens). eqb (nextNo ts) (kindNo Semi)) (sym (x .ends v)) ∙ ap (λ (y : ℕ). eqb y (kindNo Semi)) (sym (x .kind v))
+
+  last-member : (k ≡ kindNo Semi → ⊥) → (v : Reading records decls m n) → next ≡ leastNumberKey (membersAt (tableOf v) (sets [] []) (drop from (v .tokens)))
   last-member h v =
       let u = union (inv .so-far v .0) (touchAt (tableOf v) (drop i (v .tokens))) in
       let none-left : leastNumberKey (onward (tableOf v) u (drop e (v .tokens))) ≡ noKey =
@@ -197,7 +216,29 @@ module _ {records decls memo : List ℕ} {m n from : ℕ} {r w : List ℕ} {key 
       let small : next ≤ noKey = omega (arith, inv .small, x .least) in
       sym (ap (min next) none-left ∙ omega arith) ∙ with-member v
 
+  -- the first member is the last
+  pub one-member : (k ≡ kindNo Semi → ⊥) → i ≡ from → (v : Kinded records n) → false ≡ more (drop from (v .tokens))
+  one-member h e v = sym (ap (λ (y : ℕ). more (drop y (v .tokens))) (sym e) ∙ (followed v ∙ ne-eqb k (kindNo Semi) h))
+
+  pub one-key : (k ≡ kindNo Semi → ⊥) → i ≡ from → (v : Reading records decls m n) → noKey ≡ leastNumberKey (groupAt (tableOf v) (drop from (v .tokens)))
+  one-key h e = group-none from (one-member h e) refl
+
+  -- or a later one
+  pub several-members : (i ≡ from → ⊥) → (v : Kinded records n) → true ≡ more (drop from (v .tokens))
+  several-members ne v = sym (inv .later ne v)
+
+  pub several-key : (k ≡ kindNo Semi → ⊥) → (i ≡ from → ⊥) → (v : Reading records decls m n)
+      → next ≡ leastNumberKey (groupAt (tableOf v) (drop from (v .tokens)))
+  several-key h ne = group-some from (several-members ne) refl (last-member h)
+
   module _ (h : k ≡ kindNo Semi) where
+    more-behind : Dec (i < from) → Dec (from < i) → (v : Kinded records n) → more (drop from (v .tokens)) ≡ true
+    more-behind (yes l) _ v = inv .later (λ e. omega arith) v
+    more-behind (no _) (yes l) v = inv .later (λ e. omega arith) v
+    more-behind (no p) (no q) v =
+        let e : from ≡ i = omega arith in
+        ap (λ (y : ℕ). more (drop y (v .tokens))) e ∙ (followed v ∙ eq-eqb k (kindNo Semi) h)
+
     pub next-member : {r₂ w₂ : List ℕ} → ((j : ℕ) → holds r₂ j ≡ (holds r j || holds r₁ j)) → ((j : ℕ) → holds w₂ j ≡ (holds w j || holds w₁ j))
         → Comparing records decls memo m n from r₂ w₂ next (e + 1)
     next-member a b = record {
@@ -212,4 +253,5 @@ module _ {records decls memo : List ℕ} {m n from : ℕ} {r w : List ℕ} {key 
           ap leastNumberKey (ap (onward (tableOf v) (union u t)) here ∙ onward-semi (tableOf v) (union u t) _ _
           (sym (ap nextNo here) ∙ (sym (x .kind (kinded v)) ∙ h))) in
           (union u t, holding-union (inv .so-far v .1) (action-held i r₁ w₁ s (inv .complete) (x .gathered) v) a b, ap (min next) (sym q) ∙ with-member v);
+      later = λ ne. more-behind (decLt i from) (decLt from i);
     }

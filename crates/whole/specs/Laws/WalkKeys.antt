@@ -14,7 +14,6 @@ use Rattle.table.specs.Room.{labelsFrom}
 use Rattle.rules.specs.Text.Tokens.{END, kindNo}
 use Rattle.rules.specs.Grammar.Trees.{Tokens, Action, actionTokens}
 use Rattle.rules.specs.Declarations.{Declared, Table, bodyNumber}
-use Rattle.rules.specs.Whole.Sets.{sets}
 use Rattle.rules.specs.Faults.Fault.{Fault}
 use Rattle.rules.specs.Faults.Whole.{Scope, groupFaults, bodyGroups, groupsFaults}
 use Rattle.laws_accepted.specs.Accepted.Named.{and-both}
@@ -23,14 +22,14 @@ use Rattle.table.specs.Keys.{noKey, numberKey, leastNumberKey}
 use Rattle.table.specs.Laws.Keys.{least-append, least-bounded, least-none}
 use Rattle.reading.specs.Kinds.{closes}
 use Rattle.reading.specs.Reading.{Reading, tableOf, Kinded}
-use Rattle.reading.specs.Laws.Reading.{kinded, next-token, no-more}
+use Rattle.reading.specs.Laws.Reading.{next-token, no-more}
 use Rattle.gathering.specs.Filling.{Complete}
-use Rattle.reading.specs.Groups.{more, groupAt, membersAt}
+use Rattle.reading.specs.Groups.{more, groupAt}
 use Rattle.scopes.specs.Walks.{opens, walk, faultsAt}
 use Rattle.scopes.specs.Laws.Walks.{walk-done, walk-last, walk-body}
 use Rattle.scopes.specs.Laws.Labels.{by-kinds}
 use Rattle.scopes.specs.Labels.{JumpKey}
-use Rattle.scopes.specs.Frames.{no-frames, Standing, Stack, Turning, Turned}
+use Rattle.scopes.specs.Frames.{no-frames, Standing, Stack, Told, Turning, Turned}
 use Rattle.scopes.specs.Laws.Frames.{last-open, scoped-none}
 use Rattle.reading.specs.Bodies.{Body}
 use Rattle.chains.specs.Laws.Least.{Gathered, gather-none, gather-more, gathered-all}
@@ -46,17 +45,6 @@ roomy-kept {records} {decls} {m = m} {n = n} s r =
 pub memo-room : {text records decls room : List ℕ} {m n : ℕ} → Written text records decls m n → Roomy records decls room m n → 72 * m ≤ length (memoOf room)
 memo-room {room = room} v r = omega (arith, length-take labelsFrom room, v .ready .few, r .size)
 
--- the faults of a group, if it has two or more members
-module _ {records decls : List ℕ} {m n : ℕ} (from : ℕ) {b : Bool} (tells : (v : Kinded records n) → b ≡ more (drop from (v .tokens))) where
-  pub group-some : {r : ℕ} → b ≡ true → ((v : Reading records decls m n) → r ≡ leastNumberKey (membersAt (tableOf v) (sets [] []) (drop from (v .tokens))))
-      → (v : Reading records decls m n) → r ≡ leastNumberKey (groupAt (tableOf v) (drop from (v .tokens)))
-  unfolding groupAt
-  group-some e h v = h v ∙ sym (rw (sym (tells (kinded v)) ∙ e, groupAt))
-
-  pub group-none : b ≡ false → (v : Reading records decls m n) → noKey ≡ leastNumberKey (groupAt (tableOf v) (drop from (v .tokens)))
-  unfolding groupAt
-  group-none e v = sym (rw (sym (tells (kinded v)) ∙ e, groupAt) (least-none numberKey))
-
 module _ {text records decls room : List ℕ} {m n i kind top : ℕ} (x : Faulty text records decls room m n i kind top) {b : Bool} (e : b ≡ opens kind) where
   opens-here : {c : Bool} (v : Written text records decls m n) → b ≡ c → opens (number (tokenAt (v .tokens) i)) ≡ c
   opens-here v t = ap opens (sym (x .kind-is ∙ by-kinds (worded v) .kind i (x .within))) ∙ (sym e ∙ t)
@@ -65,6 +53,12 @@ module _ {text records decls room : List ℕ} {m n i kind top : ℕ} (x : Faulty
       → FaultKey text records decls room m n i base top r
   unfolding faultsAt
   fault-group t h = record { key = λ v s y. h (reading v) ∙ sym (rw (opens-here v t, faultsAt)) }
+
+  pub told-group : {several : Bool} → ((v : Kinded records n) → several ≡ more (drop (i + 1) (v .tokens))) → Told records n i kind several
+  told-group h = record { tells = λ v o. h v }
+
+  pub told-nothing : b ≡ false → (several : Bool) → Told records n i kind several
+  told-nothing t several = record { tells = λ v o. absurd (false≢true (sym t ∙ (e ∙ o))) }
 
   pub fault-jump : {base r : ℕ} → b ≡ false → JumpKey text records (labelsOf room) n i base top r → FaultKey text records decls room m n i base top r
   unfolding faultsAt
@@ -181,8 +175,8 @@ module _ {text records decls first room : List ℕ} {m n from key depth base top
           ∙ walk-last (whole v) (y .scopes) (y .scope) (tokenAt (v .tokens) (i - 1)) (tokenAt (v .tokens) i) (drop (i + 1) (v .tokens)) (sym (kind-no v) ∙ x .0)
           (last-open (x .1) (y .standing .frames)))
 
-      pub walk-turning : c ≡ false → Turning text records (labelsOf room) n i kind depth base top
-      walk-turning f =
+      pub walk-turning : {several : Bool} → Told records n i kind several → c ≡ false → Turning text records (labelsOf room) n i kind several depth base top
+      walk-turning told f =
           let y = inv .so-far (inv .written) in
           record {
             worded = worded (inv .written);
@@ -195,6 +189,7 @@ module _ {text records decls first room : List ℕ} {m n from key depth base top
             few = omega (arith, inv .past, inv .few, inv .written .count, inv .written .ready .holds .few);
             kind-is = k;
             inner = not-closing depth kind (sym e ∙ f);
+            told = told;
           }
 
     pub walk-on : {new : List ℕ} {r next depth₁ base₁ top₁ : ℕ} → FaultKey text records decls room m n i base top r → next ≡ min key r

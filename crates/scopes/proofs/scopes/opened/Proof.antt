@@ -10,8 +10,6 @@ opened-spec =
     (tie.spec
     (λ c κs. search needs)
     (λ c. search needs)
-    (λ c κs. search needs)
-    (λ c. search needs)
     (λ c. search needs)
     (λ c. search (needs, opened-more))
     (λ c. search needs)

@@ -1,7 +1,7 @@
 -- `scopes::scopes::turn` meets its contract.
 use borrow.Author.Needs.{needs}
 use native.Mathlib.Omega.{arith}
-use Rattle.scopes.specs.Laws.Frames.{to-read, to-follow, to-open, to-push, turned-begin, turned-end, turned-semi, turned-next, turned-comma, turned-becomes, turned-other}
+use Rattle.scopes.specs.Laws.Frames.{to-read, to-open, to-push, turned-begin, turned-end, turned-semi, turned-next, turned-comma, turned-becomes, turned-other}
 use Rattle.scopes.proofs.scopes.turn.Statement.{statement}
 use Rattle.scopes.proofs.scopes.turn.Tie as tie
 
@@ -17,7 +17,7 @@ turn-spec =
     (λ c. search needs)
     (λ c. turned-end (c .before .before .before .before .before .before .before .pre) (c .surrounding .ensures .1) (c .before .before .if2 .taken))
     (λ c. turned-semi (c .before .before .before .before .before .before .pre) (c .if3 .taken))
-    (λ c κs. to-follow (c .before .before .before .before .before .before .before .before .pre))
+    (λ c κs. to-read (c .before .before .before .before .before .before .before .before .pre))
     (λ c. search needs)
     (λ c. turned-next (c .before .before .before .before .before .before .before .before .before .pre) (c .before .before .if4 .taken) (c .next-group .ensures))
     (λ c κs. to-read (c .before .before .before .before .before .before .before .before .before .pre))

@@ -5,7 +5,7 @@ use native.Mathlib.Omega.{arith}
 use lib.Seq.{length-take-le}
 use Rattle.table.specs.Room.{labelsFrom}
 use Rattle.whole.specs.Laws.Written.{reading, worded}
-use Rattle.whole.specs.Laws.WalkKeys.{memo-room, all-labels, fault-group, fault-jump}
+use Rattle.whole.specs.Laws.WalkKeys.{memo-room, all-labels, fault-group, told-group, fault-jump, told-nothing}
 use Rattle.whole.proofs.walks.fault_at.Statement.{statement}
 use Rattle.whole.proofs.walks.fault_at.Tie as tie
 
@@ -25,8 +25,11 @@ fault-at-spec =
         c .before .before .before .before .before .before .before .pre .roomy .complete,
       ),
     ))
-    (λ c. fault-group (c .before .before .before .before .before .before .before .before .pre) (c .before .before .before .opens .ensures)
-    (c .before .before .if1 .taken) (c .group-at .ensures))
+    (λ c. (
+      fault-group (c .before .before .before .before .before .before .before .before .pre) (c .before .before .before .opens .ensures)
+          (c .before .before .if1 .taken) (c .group-at .ensures .0),
+      told-group (c .before .before .before .before .before .before .before .before .pre) (c .before .before .before .opens .ensures) (c .group-at .ensures .1),
+    ))
     (λ c. search needs)
     (λ c. search needs)
     (λ c. search needs)
@@ -38,6 +41,9 @@ fault-at-spec =
         (c .before .before .before .before .before .before .before .pre .within, c .before .before .before .before .before .before .before .pre .kind-is),
       ),
     ))
-    (λ c. fault-jump (c .before .before .before .before .before .before .before .before .pre) (c .before .before .before .opens .ensures)
-    (c .before .before .if1 .left) (rw (all-labels (c .before .before .before .before .before .before .before .before .args .room .now)) at
-    (c .jump-key .ensures))))
+    (λ c. (
+      fault-jump (c .before .before .before .before .before .before .before .before .pre) (c .before .before .before .opens .ensures)
+          (c .before .before .if1 .left) (rw (all-labels (c .before .before .before .before .before .before .before .before .args .room .now)) at
+          (c .jump-key .ensures)),
+      told-nothing (c .before .before .before .before .before .before .before .before .pre) (c .before .before .before .opens .ensures) (c .before .before .if1 .left) _,
+    )))
