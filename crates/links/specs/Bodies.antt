@@ -7,7 +7,7 @@ use mathlib.Core.Option.{some}
 use lib.ListN.{length, drop, getElem?}
 use Rattle.rules.specs.Text.Tokens.{Token}
 use Rattle.rules.specs.Grammar.Trees.{Tokens, Action, actionTokens, Declaration, Description}
-use Rattle.rules.specs.Limits.{deepest, mostTokens}
+use Rattle.rules.specs.Limits.{deepest}
 use Rattle.laws_grammar.specs.Cited.Nesting.{actionNest}
 use Rattle.laws_orders.specs.Cited.Flat.{exit, outer, bind}
 use Rattle.laws_code.specs.Cited.Code.{actionSize, firstOf}
@@ -16,9 +16,11 @@ use Rattle.table.specs.Words.{NameAt, wordAt}
 use Rattle.table.specs.Declarations.{declarationList}
 use Rattle.table.specs.Ready.{Ready}
 use Rattle.table.specs.Scans.{no as kindOf, separates}
+use Rattle.spelling.specs.Spelled.{Spelled}
 use Rattle.ways.specs.Seeking.{Ground, Stands}
 use Rattle.table.specs.Kept.{Kept}
 use Rattle.ways.specs.Linked.{Linked}
+use Rattle.ways.specs.Stack.{hintsEnd}
 use Rattle.ways.specs.Standing.{Meant}
 use Rattle.links.specs.Layout.{ends}
 use Rattle.links.specs.Links.{DeclarationLinked}
@@ -27,7 +29,7 @@ use Rattle.links.specs.Links.{DeclarationLinked}
 pub record BodyIn (g : Ground) (text records labels : List ℕ) (name start : ℕ) : Type 0 where
   pub same-text : g .text ≡ text
   pub holds : Stands g records
-  pub room : 3 * length (g .tokens) ≤ length labels
+  pub room : 2 * hintsEnd ≤ length labels
   pub named : NameAt (g .tokens) name
   pub past : name < start
   pub far : 2 ≤ start
@@ -36,7 +38,7 @@ pub record BodyIn (g : Ground) (text records labels : List ℕ) (name start : �
   pub rest : Tokens
   pub reads : drop start (g .tokens) ≡ actionTokens action (next ∷ rest)
   pub ends : separates (kindOf next) ≡ true
-  pub means : Meant g records start
+  pub means : Meant g records name
   pub shallow : actionNest action ≤ deepest
 
 pub record BodyDone {g : Ground} {text records labels : List ℕ} {name start : ℕ} (v : BodyIn g text records labels name start) (now : List ℕ) : Type 0 where
@@ -56,6 +58,7 @@ pub record PartlyAt (text records decls labels : List ℕ) (k : ℕ) : Type 0 wh
   pub description : Description
   pub count : ℕ
   pub ready : Ready text before values decls tokens description count
+  pub spelled : Spelled before tokens
   pub so-far : Partly before records decls description k
   pub more : k < count
-  pub space : 3 * mostTokens ≤ length labels
+  pub space : 2 * hintsEnd ≤ length labels

@@ -6,14 +6,14 @@ use lib.ListN.{length}
 use Rattle.laws_orders.specs.Cited.Flat.{Link, Labels}
 use Rattle.promise.specs.Instructions.{linkNo}
 use Rattle.ways.specs.Seeking.{Ground, Stands}
-use Rattle.ways.specs.Stack.{LabelsHold}
+use Rattle.ways.specs.Stack.{hintsEnd, LabelsHold}
 use Rattle.ways.specs.Standing.{Meant}
 
 pub record Setting (g : Ground) (records labels : List ℕ) (at link count : ℕ) : Type 0 where
   pub holds : Stands g records
   pub around : Labels
-  pub held : LabelsHold labels (g .tokens) count around
-  pub room : 3 * length (g .tokens) ≤ length labels
+  pub held : LabelsHold labels g count around
+  pub room : 2 * hintsEnd ≤ length labels
   pub few : 2 * count ≤ at
   pub behind : Link
   pub link-is : link ≡ linkNo behind

@@ -10,10 +10,11 @@ use ways::scans::first_of;
 ghost use mathlib.Core.List.{List};
 ghost use Prim.Native.Nat.{ℕ, _+_, _*_, _≤_};
 ghost use lib.ListN.{length};
-ghost use Rattle.rules.specs.Limits.{mostTokens};
 ghost use Rattle.rules.specs.Grammar.Trees.{Tokens, Description};
 ghost use Rattle.table.specs.Ready.{Ready};
+ghost use Rattle.spelling.specs.Spelled.{Spelled};
 ghost use Rattle.ways.specs.Seeking.{Ground};
+ghost use Rattle.ways.specs.Stack.{hintsEnd};
 ghost use Rattle.links.specs.Links.{Links};
 ghost use Rattle.links.specs.Bodies.{BodyIn, BodyDone, PartlyAt, Partly};
 
@@ -23,7 +24,7 @@ fn body(text: &[u8], records: &mut [u8], labels: &mut [u8], name: usize, start: 
     ensures { λ _. ⌜ ((g : Ground) (v : BodyIn g (now (text .entry)) (now (records .entry)) (now (labels .entry)) name start) → BodyDone v (now (records .exit))) ⌝ }
 {
     let first = first_of(records, start);
-    push(labels, 0, name, first, 0);
+    push(records, labels, 0, name, first, 0);
     let whole = Spot {
         at: start,
         link: 0,
@@ -48,12 +49,12 @@ fn declaration(text: &[u8], records: &mut [u8], decls: &[u8], labels: &mut [u8],
     body(text, records, labels, name, start);
 }
 
-// All m declarations. The room takes the labels around an action; what it holds afterwards means nothing.
+// All m declarations, where names are spelled. The room takes the labels around an action; what it holds afterwards means nothing.
 pub fn link(text: &[u8], records: &mut [u8], decls: &[u8], room: &mut [u8], m: usize)
-    requires { ⌜ ((values : List ℕ) × (ts : Tokens) × (d : Description) × Ready (now text) (now records) values (now decls) ts d m)
-        × (3 * mostTokens ≤ length (now room)) ⌝ }
+    requires { ⌜ ((values : List ℕ) × (ts : Tokens) × (d : Description) × Ready (now text) (now records) values (now decls) ts d m × Spelled (now records) ts)
+        × (2 * hintsEnd ≤ length (now room)) ⌝ }
     ensures { λ _. ⌜ ((values : List ℕ) (ts : Tokens) (d : Description) → Ready (now (text .entry)) (now (records .entry)) values (now (decls .entry)) ts d m
-        → Links (now (records .entry)) (now (records .exit)) (now (decls .entry)) ts d) ⌝ }
+        → Spelled (now (records .entry)) ts → Links (now (records .entry)) (now (records .exit)) (now (decls .entry)) ts d) ⌝ }
 {
     let mut k: usize = 0;
     while k < m {

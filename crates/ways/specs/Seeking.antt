@@ -1,21 +1,26 @@
 -- What a search looks for, where a tree stands.
 use Prim.Native.Nat.{ℕ}
 use mathlib.Core.Path.{_≡_}
+use mathlib.Core.Bool.{true}
 use mathlib.Core.List.{List, _∷_}
 use lib.ListN.{drop}
 use Rattle.rules.specs.Text.Tokens.{Token}
+use Rattle.rules.specs.Text.Scan.{sameBytes}
 use Rattle.rules.specs.Grammar.Trees.{Tokens, Action, actionTokens}
 use Rattle.rules.specs.Declarations.{Name as Word, Table}
 use Rattle.table.specs.Holds.{Holds}
 use Rattle.table.specs.Scans.{scan}
+use Rattle.table.specs.Words.{NameAt, wordAt}
 
--- what stays as it is while links are written
+-- what stays as it is while links are written; names with the same word have the same spelling
 pub record Ground : Type 0 where
   pub text : List ℕ
   pub values : List ℕ
   pub tokens : Tokens
   pub outer : Word
   pub table : Table
+  pub spelling : ℕ → ℕ
+  pub alike : (i j : ℕ) → NameAt tokens i → NameAt tokens j → sameBytes (wordAt tokens i) (wordAt tokens j) ≡ true → spelling i ≡ spelling j
 
 abbrev pub Stands : Ground → List ℕ → Type 0
 Stands g records = Holds (g .text) records (g .values) (g .tokens)

@@ -9,7 +9,7 @@ use Rattle.rules.specs.Grammar.Trees.{Tokens, Action, actionTokens}
 use Rattle.laws_grammar.specs.Cited.Nesting.{actionNest}
 use Rattle.laws_orders.specs.Cited.Flat.{Link, Labels}
 use Rattle.laws_code.specs.Cited.Code.{actionSize, firstOf}
-use Rattle.table.specs.Holds.{tokenAt, insideCell}
+use Rattle.table.specs.Holds.{tokenAt, insideCell, linkCell}
 use Rattle.table.specs.Words.{wordAt}
 use Rattle.table.specs.Meaning.{meaningOf}
 use Rattle.promise.specs.Instructions.{linkNo}
@@ -17,18 +17,19 @@ use Rattle.table.specs.Scans.{no, separates}
 use Rattle.ways.specs.Seeking.{Ground, Stands}
 use Rattle.table.specs.Kept.{Kept}
 use Rattle.ways.specs.Linked.{Linked}
-use Rattle.ways.specs.Stack.{LabelsHold, LabelsKept}
+use Rattle.ways.specs.Stack.{hintsEnd, LabelsHold, LabelsKept}
 
--- the names from the token i on have their meanings
+-- the names from the token i on have their meanings and their spellings
 abbrev pub Meant : Ground → List ℕ → ℕ → Type 0
 Meant g records i =
-    (t : ℕ) → i ≤ t → t < length (g .tokens) → tokenAt (g .tokens) t .kind ≡ Name → insideCell records t ≡ meaningOf (g .outer) (g .table) (wordAt (g .tokens) t)
+    (t : ℕ) → i ≤ t → t < length (g .tokens) → tokenAt (g .tokens) t .kind ≡ Name
+    → (insideCell records t ≡ meaningOf (g .outer) (g .table) (wordAt (g .tokens) t)) × (linkCell records t ≡ g .spelling t)
 
 pub record ActionAt (g : Ground) (records labels : List ℕ) (at link count first depth : ℕ) : Type 0 where
   pub holds : Stands g records
   pub around : Labels
-  pub held : LabelsHold labels (g .tokens) count around
-  pub room : 3 * length (g .tokens) ≤ length labels
+  pub held : LabelsHold labels g count around
+  pub room : 2 * hintsEnd ≤ length labels
   pub few : 2 * count ≤ at
   pub behind : Link
   pub link-is : link ≡ linkNo behind

@@ -100,7 +100,7 @@ fn prefix(records: &mut [u8], labels: &mut [u8], s: Spot) -> Spot
             first: inner,
         };
     }
-    push(labels, count, at, first, link);
+    push(records, labels, count, at, first, link);
     Spot {
         at: at + 2,
         link,

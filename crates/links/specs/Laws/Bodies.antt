@@ -6,17 +6,18 @@ use mathlib.Core.List.{List, _∷_}
 use mathlib.Core.Option.{Option, none, some}
 use native.Mathlib.Omega.{arith}
 use native.Mathlib.Decide.{decLt}
+use borrow.Author.Tests.{eqb-true}
 use lib.ListN.{length, getElem?}
 use Rattle.cells.specs.Cells.{cell}
 use Rattle.rules.specs.Text.Tokens.{Token}
 use Rattle.rules.specs.Grammar.Trees.{Tokens, Action, Declaration, Description}
-use Rattle.rules.specs.Limits.{deepest, mostTokens}
+use Rattle.rules.specs.Limits.{deepest}
 use Rattle.rules.specs.Declarations.{Name as Word, Table, declaredOf, declarations, outerName}
 use Rattle.laws_grammar.specs.Grammar.Heads.{action-head}
 use Rattle.laws_orders.specs.Cited.Flat.{exit, outer, bind}
 use Rattle.laws_code.specs.Cited.Code.{actionSize, firstOf}
 use Rattle.laws_code.specs.Cited.Placed.{bodyStarts}
-use Rattle.table.specs.Holds.{Holds}
+use Rattle.table.specs.Holds.{linkCell, Holds}
 use Rattle.table.specs.Laws.Positions.{here}
 use Rattle.table.specs.Words.{NameAt, wordAt}
 use Rattle.table.specs.Declarations.{DeclaredAt, declarationList}
@@ -25,14 +26,15 @@ use Rattle.table.specs.Views.{View, BodyAt}
 use Rattle.table.specs.Laws.Views.{name-token}
 use Rattle.table.specs.Ready.{Ready}
 use Rattle.ways.specs.Seeking.{Ground, Starts}
-use Rattle.ways.specs.Laws.Forms.{action-within}
 use Rattle.table.specs.Kept.{Kept, LinkPut}
 use Rattle.table.specs.Laws.Kept.{kept-none, kept-then, kept-wide, holds-kept}
 use Rattle.ways.specs.Linked.{Linked, Same}
 use Rattle.links.specs.Laws.Linked.{linked-same}
-use Rattle.ways.specs.Stack.{Pushed}
+use Rattle.spelling.specs.Spelled.{Spelled}
+use Rattle.ways.specs.Stack.{hintsEnd, Pushed}
 use Rattle.ways.specs.Laws.Stack.{labelled-more}
 use Rattle.ways.specs.Standing.{ActionAt, Done}
+use Rattle.ways.specs.Laws.Standing.{meant-later}
 use Rattle.links.specs.Laws.Layout.{number-below, BodyStands, BodyLaid, Laid, laid, body-shallow, same-place, ends-rise, ends-within, ends-first}
 use Rattle.links.specs.Layout.{ends}
 use Rattle.links.specs.Links.{BodyLinked, DeclarationLinked, Links}
@@ -42,17 +44,16 @@ module _ {g : Ground} {text records labels : List ℕ} {name start : ℕ} (v : B
   abbrev pub body-starts : Starts g records start
   body-starts = record { holds = v .holds; action = v .action; rest = v .next ∷ v .rest; reads = v .reads }
 
-  pub body-within : (8 * name + 8 ≤ length records) × (name < 8192) × (6 ≤ length labels)
+  pub body-within : (8 * name + 8 ≤ length records) × (name < 8192)
   body-within =
-      let w = action-within (v .holds) start (v .action) _ (v .reads) in
-      (omega (arith, v .holds .record-room, v .named .within), omega (arith, v .holds .few, v .named .within), omega (arith, v .room, v .far))
+      (omega (arith, v .holds .record-room, v .named .within), omega (arith, v .holds .few, v .named .within))
 
-  module _ {first : ℕ} (is-first : first ≡ firstOf start (v .action)) {labels′ : List ℕ} (p : Pushed labels labels′ 0 name first 0) where
+  module _ {first : ℕ} (is-first : first ≡ firstOf start (v .action)) {labels′ : List ℕ} (p : Pushed records labels labels′ 0 name first 0) where
     pub body-action : ActionAt g records labels′ start 0 1 first deepest
     body-action = record {
       holds = v .holds;
       around = bind (wordAt (g .tokens) name) first exit outer;
-      held = labelled-more (g .tokens) outer (wordAt (g .tokens) name) exit p refl (v .named) refl refl;
+      held = labelled-more g outer (wordAt (g .tokens) name) exit p refl (v .named) refl (v .means name (omega arith) (v .named .within) (v .named .kind) .1) refl;
       room = omega (arith, v .room, p .kept .long);
       few = omega (arith, v .far);
       behind = exit;
@@ -64,7 +65,7 @@ module _ {g : Ground} {text records labels : List ℕ} {name start : ℕ} (v : B
       reads = v .reads;
       ends = v .ends;
       begins = is-first;
-      means = v .means;
+      means = meant-later g records name start (omega (arith, v .past)) (v .means);
       shallow = v .shallow;
     }
 
@@ -137,7 +138,15 @@ module _ {text records decls labels : List ℕ} {k : ℕ} (v : PartlyAt text rec
   d = v .description
 
   abbrev ground : Ground
-  ground = record { text = text; values = v .values; tokens = v .tokens; outer = outerName d .word; table = declarations d }
+  ground = record {
+    text = text;
+    values = v .values;
+    tokens = v .tokens;
+    outer = outerName d .word;
+    table = declarations d;
+    spelling = linkCell (v .before);
+    alike = λ i j m n e. eqb-true _ _ (v .spelled .same i j m n ∙ e);
+  }
 
   abbrev there : Nth (declarationList d) k
   there = nth (declarationList d) k (omega (arith, v .ready .count, v .more))
@@ -223,7 +232,7 @@ module _ {text records decls labels : List ℕ} {k : ℕ} (v : PartlyAt text rec
             record {
               same-text = refl;
               holds = now-holds;
-              room = omega (arith, v .space, v .ready .holds .few);
+              room = v .space;
               named = subst (NameAt (v .tokens)) (sym e) (name-there (v .ready) k x (there .found) .0);
               past = p .past;
               far = omega (arith, ends-rise 0 k d (omega arith), ends-first d);
@@ -232,7 +241,7 @@ module _ {text records decls labels : List ℕ} {k : ℕ} (v : PartlyAt text rec
               rest = p .rest;
               reads = p .reads;
               ends = p .ends;
-              means = λ t g h n. v .so-far .kept .inside t (λ f i. omega arith) ∙ v .ready .means .means t h n;
+              means = λ t g h n. (v .so-far .kept .inside t (λ f i. omega arith) ∙ v .ready .means .means t h n, v .so-far .kept .link t (λ f i. omega arith));
               shallow = omega (arith, body-shallow d k x a (there .found) q, v .ready .shallow);
             }
 
@@ -254,37 +263,38 @@ module _ {text records decls labels : List ℕ} {k : ℕ} (v : PartlyAt text rec
 -- the loop: whatever description it is
 pub record Going (text before decls : List ℕ) (m : ℕ) (now : List ℕ) (k : ℕ) : Type 0 where
   pub few : k ≤ m
-  pub so-far : (values : List ℕ) (ts : Tokens) (d : Description) → Ready text before values decls ts d m → Partly before now decls d k
+  pub so-far : (values : List ℕ) (ts : Tokens) (d : Description) → Ready text before values decls ts d m → Spelled before ts → Partly before now decls d k
 
 pub start-going : (text before decls : List ℕ) (m : ℕ) → Going text before decls m before 0
 start-going text before decls m = record {
   few = omega arith;
-  so-far = λ values ts d r. record { kept = kept-none before 0 (ends 0 d); each = λ j x h l. absurd (omega arith) };
+  so-far = λ values ts d r s. record { kept = kept-none before 0 (ends 0 d); each = λ j x h l. absurd (omega arith) };
 }
 
 module _ {text before decls now : List ℕ} {m k : ℕ} (g : Going text before decls m now k) where
-  abbrev pub partly-at : (labels : List ℕ) → 3 * mostTokens ≤ length labels → k < m → (values : List ℕ) (ts : Tokens) (d : Description)
-      → Ready text before values decls ts d m
+  abbrev pub partly-at : (labels : List ℕ) → 2 * hintsEnd ≤ length labels → k < m → (values : List ℕ) (ts : Tokens) (d : Description)
+      → Ready text before values decls ts d m → Spelled before ts
       → PartlyAt text now decls labels k
-  partly-at labels s l values ts d r = record {
+  partly-at labels s l values ts d r p = record {
     before = before;
     values = values;
     tokens = ts;
     description = d;
     count = m;
     ready = r;
-    so-far = g .so-far values ts d r;
+    spelled = p;
+    so-far = g .so-far values ts d r p;
     more = l;
     space = s;
   }
 
-  pub one-linked : (labels : List ℕ) → 3 * mostTokens ≤ length labels → k < m → {after : List ℕ}
+  pub one-linked : (labels : List ℕ) → 2 * hintsEnd ≤ length labels → k < m → {after : List ℕ}
       → ((v : PartlyAt text now decls labels k) → Partly (v .before) after decls (v .description) (k + 1)) → Going text before decls m after (k + 1)
-  one-linked labels s l f = record { few = omega arith; so-far = λ values ts d r. f (partly-at labels s l values ts d r) }
+  one-linked labels s l f = record { few = omega arith; so-far = λ values ts d r p. f (partly-at labels s l values ts d r p) }
 
-  pub all-linked : m ≤ k → (values : List ℕ) (ts : Tokens) (d : Description) → Ready text before values decls ts d m → Links before now decls ts d
-  all-linked l values ts d r =
-      let p = g .so-far values ts d r in
+  pub all-linked : m ≤ k → (values : List ℕ) (ts : Tokens) (d : Description) → Ready text before values decls ts d m → Spelled before ts → Links before now decls ts d
+  all-linked l values ts d r s =
+      let p = g .so-far values ts d r s in
       record {
         each = λ j x h. p .each j x h (omega (arith, number-below (declarationList d) j x h, r .count));
         kept = kept-wide 0 (length ts) (p .kept) (omega arith) (omega (arith, ends-within k d, ap length (r .stands)));

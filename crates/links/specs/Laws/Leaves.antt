@@ -12,7 +12,7 @@ use Rattle.laws_grammar.specs.Grammar.Positions.{Writes, subscript-writes, bits
 use Rattle.laws_grammar.specs.Cited.Heads.{headKind}
 use Rattle.laws_grammar.specs.Grammar.Heads.{secondKind}
 use Rattle.laws_code.specs.Cited.Code.{actionSize}
-use Rattle.table.specs.Holds.{kindByte}
+use Rattle.table.specs.Holds.{kindByte, linkCell}
 use Rattle.table.specs.Laws.Positions.{here}
 use Rattle.table.specs.Words.{NameAt, wordAt}
 use Rattle.table.specs.Laws.Scans.{equals, past-subscript, past-bits, past-joined}
@@ -24,7 +24,7 @@ use Rattle.table.specs.Kept.{Kept, LinkPut, InsidePut}
 use Rattle.table.specs.Laws.Kept.{kept-none, kept-then, kept-wide}
 use Rattle.ways.specs.Linked.{Linked}
 use Rattle.ways.specs.Laws.Stack.{labels-none, aims-behind, aims-start}
-use Rattle.ways.specs.Stack.{JumpAt, aims}
+use Rattle.ways.specs.Stack.{mostLabels, JumpAt, aims}
 use Rattle.ways.specs.Standing.{ActionAt, Done}
 use Rattle.ways.specs.Laws.Standing.{within}
 use Rattle.ways.specs.Prefixes.{prefixed}
@@ -60,8 +60,11 @@ module _ {g : Ground} {records labels : List ℕ} {i link count first depth : �
       let h = here (g .tokens) (i + 1) _ _ (here (g .tokens) i _ _ e .behind) in
       (record { within = h .within; kind = ap (λ (t : Token). t .kind) (h .token) }, ap (λ (t : Token). t .info .word) (h .token))
 
-  few-labels : 6 * count ≤ length labels
-  few-labels = let w = within v .0 in omega (arith, v .room, v .few)
+  few-labels : count ≤ mostLabels
+  few-labels = omega (arith, within v .2, v .few)
+
+  spelled-name : NameAt (g .tokens) (i + 1) → linkCell records (i + 1) ≡ g .spelling (i + 1)
+  spelled-name n = v .means (i + 1) (omega arith) (n .within) (n .kind) .1
 
   module _ (text : List ℕ) (same : g .text ≡ text) where
     module _ (e : headKind (v .action) ≡ LEAVE) where
@@ -69,7 +72,16 @@ module _ {g : Ground} {records labels : List ℕ} {i link count first depth : �
       leave-name = let x = leave-is (v .action) e in jump-name (x .1) _ (v .reads ∙ ap (λ (a : Action). actionTokens a (v .next ∷ v .rest)) (x .2))
 
       pub leave-at : JumpAt g text records labels count (i + 1)
-      leave-at = record { same-text = same; holds = v .holds; around = v .around; held = v .held; room = few-labels; name = leave-name .0 }
+      leave-at = record {
+        same-text = same;
+        holds = v .holds;
+        around = v .around;
+        held = v .held;
+        few = few-labels;
+        room = v .room;
+        name = leave-name .0;
+        spelled = spelled-name (leave-name .0);
+      }
 
       pub leave-done : {r : ℕ} {now : List ℕ} → r ≡ aims 2 (leave-at .around) (wordAt (g .tokens) (i + 1)) → LinkPut records now i r → Done v now labels
       unfolding leave-at
@@ -83,7 +95,16 @@ module _ {g : Ground} {records labels : List ℕ} {i link count first depth : �
       restart-name = let x = restart-is (v .action) e in jump-name (x .1) _ (v .reads ∙ ap (λ (a : Action). actionTokens a (v .next ∷ v .rest)) (x .2))
 
       pub restart-at : JumpAt g text records labels count (i + 1)
-      restart-at = record { same-text = same; holds = v .holds; around = v .around; held = v .held; room = few-labels; name = restart-name .0 }
+      restart-at = record {
+        same-text = same;
+        holds = v .holds;
+        around = v .around;
+        held = v .held;
+        few = few-labels;
+        room = v .room;
+        name = restart-name .0;
+        spelled = spelled-name (restart-name .0);
+      }
 
       pub restart-done : {r : ℕ} {now : List ℕ} → r ≡ aims 1 (restart-at .around) (wordAt (g .tokens) (i + 1)) → LinkPut records now i r → Done v now labels
       unfolding restart-at
@@ -103,7 +124,7 @@ module _ {g : Ground} {records labels : List ℕ} {i link count first depth : �
       activation-done e p =
           let x = activation-is (v .action) (named .0) (second-is (v .holds) i (v .action) (v .next ∷ v .rest) (v .reads) (named .0) 3 after e) in
           let h = here (g .tokens) i _ _ (v .reads ∙ ap (λ (a : Action). actionTokens a (v .next ∷ v .rest)) (x .3)) in
-          let means = v .means i (omega arith) (h .within) (ap (λ (t : Token). t .kind) (h .token)) in
+          let means = v .means i (omega arith) (h .within) (ap (λ (t : Token). t .kind) (h .token)) .0 in
           let word : wordAt (g .tokens) i ≡ x .0 .word = ap (λ (t : Token). t .info .word) (h .token) in
           linked-there (p .kept) (rw (x .3) (omega arith)) (rw (x .3) (p .link ∙ v .link-is, p .inside ∙ rw word at means))
 

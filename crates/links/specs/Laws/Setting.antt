@@ -29,7 +29,7 @@ abbrev pub moved : {g : Ground} {records labels : List ℕ} {at link count : ℕ
 moved {g} {records} {labels} {at} {link} {count} s to k h l q = record {
   holds = holds-kept k (s .holds);
   around = s .around;
-  held = labels-kept q (g .tokens) (s .around) count (omega arith) (s .held);
+  held = labels-kept q g (s .around) count (omega arith) (s .held);
   room = omega (arith, s .room, q .long);
   few = omega (arith, s .few);
   behind = s .behind;

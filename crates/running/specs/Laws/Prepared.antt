@@ -11,6 +11,7 @@ use Rattle.rules.specs.Declarations.{outerName}
 use Rattle.rules.specs.Faults.Whole.{mainName}
 use Rattle.laws_code.specs.Cited.Placed.{descriptionCode}
 use Rattle.table.specs.Ready.{Ready}
+use Rattle.spelling.specs.Spelled.{Spelled}
 use Rattle.places.specs.Placing.{Described, AllPlaced}
 use Rattle.links.specs.Links.{Links}
 use Rattle.links.specs.Mains.{MainIn, MainFound}
@@ -28,8 +29,8 @@ module _ {text records values decls : List ℕ} {m words n : ℕ} (v : Accepts t
   }
 
   module _ {values′ : List ℕ} (placed : AllPlaced to-place values′) where
-    pub to-link : (values : List ℕ) × (ts : Tokens) × (d : Description) × Ready text records values decls ts d m
-    to-link = (values′, scan text .tokens, described-by v, placed .ready)
+    pub to-link : (values : List ℕ) × (ts : Tokens) × (d : Description) × Ready text records values decls ts d m × Spelled records ts
+    to-link = (values′, scan text .tokens, described-by v, placed .ready, v .lawful .declares .spelled)
 
     module _ {records′ : List ℕ} (links : Links records records′ decls (scan text .tokens) (described-by v)) where
       abbrev pub to-start : MainIn records′ decls m

@@ -28,7 +28,7 @@ use Rattle.ways.specs.Laws.Forms.{test-is, loop-is, label-is, kind-of, a
 use Rattle.table.specs.Kept.{LinkPut, InsidePut}
 use Rattle.table.specs.Laws.Kept.{kept-none, kept-then, kept-wide, holds-kept}
 use Rattle.ways.specs.Laws.Stack.{labels-none, labels-then, labelled-more}
-use Rattle.ways.specs.Stack.{Pushed}
+use Rattle.ways.specs.Stack.{mostLabels, hintsEnd, Pushed}
 use Rattle.ways.specs.Standing.{ActionAt}
 use Rattle.ways.specs.Laws.Standing.{within, meant-kept, meant-later}
 use Rattle.ways.specs.Prefixes.{prefixed, TestAt, TestPut, TurnAt, TurnPut, Prefixed}
@@ -283,12 +283,12 @@ module _ {g : Ground} {records labels : List ℕ} {i link count first depth : �
         let x = label-is (v .action) e f in
         record { holds = v .holds; action = x .2; rest = v .next ∷ v .rest; reads = behind-far (g .tokens) i _ labelled-reads 2 }
 
-    pub label-room : 6 * count + 6 ≤ length labels
+    pub label-room : (count < mostLabels) × (2 * hintsEnd ≤ length labels)
     label-room =
         let w = action-within (label-starts .holds) (i + 2) (label-starts .action) (label-starts .rest) (label-starts .reads) in
-        omega (arith, v .room, v .few)
+        (omega (arith, v .holds .few, v .few), v .room)
 
-    pub past-label : {now : List ℕ} → Pushed labels now count i first link → Prefixed v records now (i + 2) link (count + 1) first
+    pub past-label : {now : List ℕ} → Pushed records labels now count i first link → Prefixed v records now (i + 2) link (count + 1) first
     unfolding firstOf
     past-label {now} p =
         let x = label-is (v .action) e f in
@@ -302,8 +302,9 @@ module _ {g : Ground} {records labels : List ℕ} {i link count first depth : �
             holds = v .holds;
             around = bind (x .0 .word) first (v .behind) (v .around);
             held =
-                rw add-one (labelled-more (g .tokens) (v .around) (x .0 .word) (v .behind) p (v .held)
-                (record { within = h .within; kind = ap (λ (t : Token). t .kind) (h .token) }) (ap (λ (t : Token). t .info .word) (h .token)) (v .link-is));
+                rw add-one (labelled-more g (v .around) (x .0 .word) (v .behind) p (v .held)
+                (record { within = h .within; kind = ap (λ (t : Token). t .kind) (h .token) }) (ap (λ (t : Token). t .info .word) (h .token))
+                (v .means i (omega arith) (h .within) (ap (λ (t : Token). t .kind) (h .token)) .1) (v .link-is));
             room = omega (arith, v .room, p .kept .long);
             few = omega (arith, v .few);
             behind = v .behind;

@@ -24,7 +24,7 @@ module _ {g : Ground} {records labels : List ℕ} {at link count first depth : �
   begins-fits = first-fits starts (v .begins) .1
 
 pub meant-kept : (g : Ground) {old now : List ℕ} {a b : ℕ} (i : ℕ) → Kept old now a b → b ≤ i → Meant g old i → Meant g now i
-meant-kept g i k h m t l w n = k .inside t (λ x y. omega arith) ∙ m t l w n
+meant-kept g i k h m t l w n = let z = m t l w n in (k .inside t (λ x y. omega arith) ∙ z .0, k .link t (λ x y. omega arith) ∙ z .1)
 
 pub meant-later : (g : Ground) (records : List ℕ) (i j : ℕ) → i ≤ j → Meant g records i → Meant g records j
 meant-later g records i j h m t l w n = m t (omega arith) w n

@@ -13,17 +13,17 @@ body-spec =
     (tie.spec
     (λ c κs. (c .before .before .before .before .pre .0, body-starts (c .before .before .before .before .pre .1)))
     (λ c κs.
-    let (g, v) = c .before .before .before .before .before .before .pre in
+    let (g, v) = c .before .before .before .before .before .before .before .pre in
     let s = body-starts v in
-    (omega (arith, body-within v .2), omega (arith, body-within v .1), omega (arith, first-fits s (c .before .first-of .ensures g s) .1), omega arith))
-    (λ c κs. let (g, v) = c .before .before .before .before .before .before .before .before .before .before .before .pre in (g, body-action v (c .before .before .before .before .before .before .first-of .ensures g (body-starts v)) (c .before .before .before .before .push .ensures), v .same-text))
+    (omega arith, v .room, body-within v .0, omega (arith, body-within v .1), omega (arith, first-fits s (c .before .before .first-of .ensures g s) .1), omega arith))
+    (λ c κs. let (g, v) = c .before .before .before .before .before .before .before .before .before .before .before .before .pre in (g, body-action v (c .before .before .before .before .before .before .before .first-of .ensures g (body-starts v)) (c .before .before .before .before .push .ensures), v .same-text))
     (λ c κs.
-    let (g, v) = c .before .before .before .before .before .before .before .before .before .before .before .before .before .before .before .before .before .pre in
+    let (g, v) = c .before .before .before .before .before .before .before .before .before .before .before .before .before .before .before .before .before .before .pre in
     let s = body-starts v in
-    let f = c .before .before .before .before .before .before .before .before .before .before .before .before .first-of .ensures g s in
+    let f = c .before .before .before .before .before .before .before .before .before .before .before .before .before .first-of .ensures g s in
     (omega (arith, body-within v .0, c .before .before .before .before .before .action .ensures g (body-action v f (c .before .before .before .before .before .before .before .before .before .before .push .ensures)) (v .same-text) .kept .long), omega (arith, first-fits s f .1)))
     (λ c. search needs)
     (λ c. search needs)
     (λ c g v.
-    let f = c .before .before .before .before .before .before .before .before .before .before .before .before .before .before .before .first-of .ensures g (body-starts v) in
+    let f = c .before .before .before .before .before .before .before .before .before .before .before .before .before .before .before .before .first-of .ensures g (body-starts v) in
     body-done v f (c .before .before .before .before .before .before .before .before .before .before .before .before .before .push .ensures) (c .before .before .before .before .before .before .before .before .action .ensures g (body-action v f (c .before .before .before .before .before .before .before .before .before .before .before .before .before .push .ensures)) (v .same-text)) (c .before .before .put-link .ensures)))

@@ -22,7 +22,7 @@ link-spec =
     Inv-loop
     μ-loop
     (λ c. (start-going _ _ _ _, refl, refl))
-    (λ c κs. let (values, ts, d, r) = c .before .before .before .before .before .before .before .before .pre .0 in partly-at (c .before .before .before .loop .inv .0) _ (omega (arith, c .before .before .before .before .before .before .before .before .pre .1, c .before .before .before .loop .inv .1)) (c .before .before .loop-test .taken) values ts d r)
+    (λ c κs. let (values, ts, d, r, s) = c .before .before .before .before .before .before .before .before .pre .0 in partly-at (c .before .before .before .loop .inv .0) _ (omega (arith, c .before .before .before .before .before .before .before .before .pre .1, c .before .before .before .loop .inv .1)) (c .before .before .loop-test .taken) values ts d r s)
     (λ c. search needs)
     (λ c. omega arith)
     (λ c. (one-linked (c .before .before .before .before .before .before .before .before .loop .inv .0) _ (omega (arith, c .before .before .before .before .before .before .before .before .before .before .before .before .before .pre .1, c .before .before .before .before .before .before .before .before .loop .inv .1)) (c .before .before .before .before .before .before .before .loop-test .taken) (c .before .before .before .before .declaration .ensures), search needs, search needs))

@@ -25,14 +25,14 @@ main-start-requires c κs =
     let l = k .before .before .before .before .before .before .before in
     let v = l .before .before .before .before .before .before .before .before .before .pre .0 .1 in
     let placed = l .place .ensures (to-place v) in
-    to-start v placed (k .link .ensures _ _ _ (placed .ready))
+    to-start v placed (k .link .ensures _ _ _ (placed .ready) (v .lawful .declares .spelled))
 
 returns : tie.Need-returns
 returns c words v =
     let k = c .before .before .before .before .before .before in
     let l = k .before .before .before .before .before .before .before in
     let placed = l .place .ensures (to-place v) in
-    let links = k .link .ensures _ _ _ (placed .ready) in
+    let links = k .link .ensures _ _ _ (placed .ready) (v .lawful .declares .spelled) in
     prepared v placed links (l .before .before .before .before .before .before .before .before .before .pre .1 .1) (c .main-start .ensures (to-start v placed links))
 
 pub prepare-spec : {M : Type 1} → statement M

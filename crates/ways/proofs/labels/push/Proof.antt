@@ -1,4 +1,4 @@
--- `ways::labels::push` meets its contract: three cells behind those of the labels before it.
+-- `ways::labels::push` meets its contract: an entry behind those of the labels before it, and its hint.
 -- Assumes nothing.
 use borrow.Author.Needs.{needs}
 use Rattle.ways.specs.Laws.Stack.{pushed}
@@ -9,14 +9,9 @@ pub push-spec : {M : Type 1} → statement M
 push-spec =
     tie.close
     (tie.spec
-    (λ c. search needs)
+    (λ c κs. search needs)
+    (λ c κs. search needs)
     (λ c. search needs)
     (λ c κs. search needs)
     (λ c. search needs)
-    (λ c. search needs)
-    (λ c κs. search needs)
-    (λ c. search needs)
-    (λ c. search needs)
-    (λ c κs. search needs)
-    (λ c. search needs)
-    (λ c. pushed _ _ _ _ _ _ _ _ (c .before .before .before .before .before .before .before .before .before .before .before .before .before .pre .0) (c .before .before .before .before .before .before .before .before .before .before .before .before .before .pre .1) (c .before .before .before .before .before .before .before .before .before .before .before .before .before .pre .2) (c .before .before .before .before .before .before .before .before .before .before .before .before .before .pre .3) (c .before .before .before .before .before .before .before .before .before .before .put16 .ensures) (c .before .before .before .before .before .before .put162 .ensures) (c .before .before .put163 .ensures)))
+    (λ c. search (needs, pushed)))

@@ -20,13 +20,14 @@ prefix-spec =
     (λ c. search needs)
     (λ c g depth v e. let h = heads v (c .before .before .before .before .before .before .kind-at .ensures) 25 (c .before .before .before .before .if2 .taken) in (past-turn v h (c .before .before .turn .ensures g (turn-at v h)), omega arith))
     (λ c κs.
-    let v = c .before .before .before .before .before .before .before .pre .2 in
-    let h = labels-here v (c .before .before .before .kind-at .ensures) (c .before .before .before .before .before .before .before .pre .3) (c .before .before .if1 .left) (c .before .if2 .left) in
-    (label-room v (h .0) (h .1), omega (arith, within v .2), omega (arith, begins-fits v), v .link-fits))
-    (λ c. omega (arith, within (c .before .before .before .before .before .before .before .before .before .before .pre .2) .2))
+    let v = c .before .before .before .before .before .before .before .before .pre .2 in
+    let h = labels-here v (c .before .before .before .before .kind-at .ensures) (c .before .before .before .before .before .before .before .before .pre .3) (c .before .before .before .if1 .left) (c .before .before .if2 .left) in
+    let room = label-room v (h .0) (h .1) in
+    (room .0, room .1, within v .1, omega (arith, within v .2), omega (arith, begins-fits v), v .link-fits))
+    (λ c. omega (arith, within (c .before .before .before .before .before .before .before .before .before .before .before .pre .2) .2))
     (λ c. search needs)
     (λ c. search needs)
     (λ c. search needs)
     (λ c g depth v e.
-    let h = labels-here v (c .before .before .before .before .before .before .kind-at .ensures) e (c .before .before .before .before .before .if1 .left) (c .before .before .before .before .if2 .left) in
+    let h = labels-here v (c .before .before .before .before .before .before .before .kind-at .ensures) e (c .before .before .before .before .before .before .if1 .left) (c .before .before .before .before .before .if2 .left) in
     (past-label v (h .0) (h .1) (c .before .before .push .ensures), omega arith)))
