@@ -7,37 +7,37 @@ use Rattle.rules.specs.Text.Tokens.{Name, kindNo}
 use Rattle.paths.specs.Walk.{Slot, flagOf}
 use Rattle.table.specs.Holds.{kindByte}
 use Rattle.table.specs.Words.{wordAt}
-use Rattle.scopes.specs.Labels.{Worded}
+use Rattle.profiling.specs.Spelt.{Spelt}
 use Rattle.profiling.specs.Machine.{State, left}
 use Rattle.profiling.specs.Holding.{enough, Linked, Shows}
 use Rattle.profiling.specs.declared.nests.Nest.{Nest}
 
-pub record Sought (text records room : List ℕ) (n label name : ℕ) : Type 0 where
-  pub worded : Worded text records n
+pub record Sought (records room : List ℕ) (n label name : ℕ) : Type 0 where
+  pub spelt : Spelt records n
   pub below : ℕ
   pub few : below ≤ 8192
   pub labels : List Slot
-  pub linked : Linked (worded .tokens) room below label labels
+  pub linked : Linked (spelt .tokens) room below label labels
   pub name-in : name < n
   pub is-name : kindByte records name ≡ kindNo Name
   pub space : enough ≤ length room
 
 -- the search has come to the label p
-pub record Seeking (text records room : List ℕ) (n label name p : ℕ) : Type 0 where
-  pub sought : Sought text records room n label name
+pub record Seeking (records room : List ℕ) (n label name p : ℕ) : Type 0 where
+  pub sought : Sought records room n label name
   pub small : p < 8192
   pub space : enough ≤ length room
-  pub left : (w : Worded text records n) (i : ℕ) (ls : List Slot) → Linked (w .tokens) room i label ls
+  pub left : (w : Spelt records n) (i : ℕ) (ls : List Slot) → Linked (w .tokens) room i label ls
       → (j : ℕ) × (rest : List Slot) × (j ≤ i) × Linked (w .tokens) room j p rest × (flagOf ls (wordAt (w .tokens) name) ≡ flagOf rest (wordAt (w .tokens) name))
 
-pub record Jumping (text records room : List ℕ) (n name : ℕ) (s : Nest) : Type 0 where
-  pub worded : Worded text records n
+pub record Jumping (records room : List ℕ) (n name : ℕ) (s : Nest) : Type 0 where
+  pub spelt : Spelt records n
   pub below : ℕ
   pub state : State
-  pub shows : Shows (worded .tokens) room below s state
+  pub shows : Shows (spelt .tokens) room below s state
   pub name-in : name < n
   pub is-name : kindByte records name ≡ kindNo Name
 
-abbrev pub Left : List ℕ → List ℕ → List ℕ → List ℕ → ℕ → ℕ → Nest → Nest → Type 0
-Left text records old new n name s r =
-    (w : Worded text records n) (i : ℕ) (z : State) → Shows (w .tokens) old i s z → Shows (w .tokens) new i r (left (wordAt (w .tokens) name) z)
+abbrev pub Left : List ℕ → List ℕ → List ℕ → ℕ → ℕ → Nest → Nest → Type 0
+Left records old new n name s r =
+    (w : Spelt records n) (i : ℕ) (z : State) → Shows (w .tokens) old i s z → Shows (w .tokens) new i r (left (wordAt (w .tokens) name) z)

@@ -15,7 +15,7 @@ use Rattle.rules.specs.Limits.{longestChain}
 use Rattle.paths.specs.Early.{bodyEarly}
 use Rattle.table.specs.Scans.{no}
 use Rattle.reading.specs.Reading.{Kinded}
-use Rattle.whole.specs.Written.{Written, whole}
+use Rattle.profiling.specs.Spelt.{SpeltDescription, whole}
 use Rattle.profiling.specs.Holding.{bit, unseen, enough}
 use Rattle.profiling.specs.Walking.{indexOf, Known}
 use Rattle.profiling.specs.declared.tasks.Task.{Task}
@@ -32,11 +32,11 @@ pub record BeginBehind (records : List ℕ) (n name r : ℕ) : Type 0 where
   pub reads : (v : Kinded records n) → drop r (v .tokens) ≡ toBegin (drop (name + 1) (v .tokens))
 
 -- the test is what has the index aim
-abbrev pub Aimed : {text records decls : List ℕ} {m n : ℕ} → Written text records decls m n → Word → ℕ → Type 0
+abbrev pub Aimed : {records decls : List ℕ} {m n : ℕ} → SpeltDescription records decls m n → Word → ℕ → Type 0
 Aimed v test aim = (w : Word) → sameBytes w test ≡ eqb (indexOf (whole v) w) aim
 
 -- the table has what is known down chains of k bodies
-abbrev pub Level : {text records decls : List ℕ} {m n : ℕ} → Written text records decls m n → Word → ℕ → ℕ → List ℕ → Type 0
+abbrev pub Level : {records decls : List ℕ} {m n : ℕ} → SpeltDescription records decls m n → Word → ℕ → ℕ → List ℕ → Type 0
 Level v test out k table = (w : Word) → Known table (indexOf (whole v) w) (bodyEarly (whole v) test out k w)
 
 -- two cells of a table are put
@@ -52,8 +52,8 @@ pub record Blank (old new : List ℕ) (k : ℕ) : Type 0 where
   pub ends : (j : ℕ) → j < k → cell 2 new (2 * j) ≡ 0
   pub low : (j : ℕ) → j < k → cell 2 new (2 * j + 1) ≡ unseen
 
-pub record Levelled (text records decls table next room : List ℕ) (t : Task) : Type 0 where
-  pub written : Written text records decls (t .m) (t .n)
+pub record Levelled (records decls table next room : List ℕ) (t : Task) : Type 0 where
+  pub written : SpeltDescription records decls (t .m) (t .n)
   pub test : Word
   pub aims : Aimed written test (t .aim)
   pub level : ℕ
@@ -64,31 +64,31 @@ pub record Levelled (text records decls table next room : List ℕ) (t : Task) :
   pub space : enough ≤ length room
 
 -- the declaration k is walked
-pub record PartAt (text records decls table next room : List ℕ) (t : Task) (k : ℕ) : Type 0 where
-  pub levelled : Levelled text records decls table next room t
+pub record PartAt (records decls table next room : List ℕ) (t : Task) (k : ℕ) : Type 0 where
+  pub levelled : Levelled records decls table next room t
   pub within : k < t .m
 
-pub record Part (text records decls table old new : List ℕ) (t : Task) (k : ℕ) : Type 0 where
+pub record Part (records decls table old new : List ℕ) (t : Task) (k : ℕ) : Type 0 where
   pub size : length new ≡ length old
   pub same : (j : ℕ) → (j ≡ 2 * k → ⊥) → (j ≡ 2 * k + 1 → ⊥) → cell 2 new j ≡ cell 2 old j
-  pub known : (v : Written text records decls (t .m) (t .n)) (test : Word) → Aimed v test (t .aim) → (l : ℕ) → Level v test (t .out) l table
+  pub known : (v : SpeltDescription records decls (t .m) (t .n)) (test : Word) → Aimed v test (t .aim) → (l : ℕ) → Level v test (t .out) l table
       → (w : Word) → numberOf (whole v) w ≡ some k → Known new k (bodyEarly (whole v) test (t .out) (suc l) w)
 
 -- the first k declarations are
-pub record Parts (text records decls table first room₀ new room : List ℕ) (t : Task) (k : ℕ) : Type 0 where
-  pub levelled : Levelled text records decls table new room t
+pub record Parts (records decls table first room₀ new room : List ℕ) (t : Task) (k : ℕ) : Type 0 where
+  pub levelled : Levelled records decls table new room t
   pub size : length new ≡ length first
   pub room-size : length room ≡ length room₀
-  pub known : (v : Written text records decls (t .m) (t .n)) (test : Word) → Aimed v test (t .aim) → (l : ℕ) → Level v test (t .out) l table
+  pub known : (v : SpeltDescription records decls (t .m) (t .n)) (test : Word) → Aimed v test (t .aim) → (l : ℕ) → Level v test (t .out) l table
       → (j : ℕ) → j < k → (w : Word) → numberOf (whole v) w ≡ some j → Known new j (bodyEarly (whole v) test (t .out) (suc l) w)
 
-pub record Rounded (text records decls table new : List ℕ) (t : Task) : Type 0 where
-  pub known : (v : Written text records decls (t .m) (t .n)) (test : Word) → Aimed v test (t .aim) → (l : ℕ) → Level v test (t .out) l table
+pub record Rounded (records decls table new : List ℕ) (t : Task) : Type 0 where
+  pub known : (v : SpeltDescription records decls (t .m) (t .n)) (test : Word) → Aimed v test (t .aim) → (l : ℕ) → Level v test (t .out) l table
       → Level v test (t .out) (suc l) new
 
 -- before the first round
-pub record Starting (text records decls table next room : List ℕ) (t : Task) : Type 0 where
-  pub written : Written text records decls (t .m) (t .n)
+pub record Starting (records decls table next room : List ℕ) (t : Task) : Type 0 where
+  pub written : SpeltDescription records decls (t .m) (t .n)
   pub test : Word
   pub aims : Aimed written test (t .aim)
   pub output : t .out < 256
@@ -97,12 +97,12 @@ pub record Starting (text records decls table next room : List ℕ) (t : Task) :
   pub space : enough ≤ length room
 
 -- k rounds are over
-pub record Turned (text records decls table next room : List ℕ) (t : Task) (k : ℕ) : Type 0 where
-  pub starting : Starting text records decls table next room t
+pub record Turned (records decls table next room : List ℕ) (t : Task) (k : ℕ) : Type 0 where
+  pub starting : Starting records decls table next room t
   pub even : ℕ
   pub is-even : k ≡ 2 * even
-  pub known : (v : Written text records decls (t .m) (t .n)) (test : Word) → Aimed v test (t .aim) → Level v test (t .out) k table
+  pub known : (v : SpeltDescription records decls (t .m) (t .n)) (test : Word) → Aimed v test (t .aim) → Level v test (t .out) k table
 
-abbrev pub Known16 : List ℕ → List ℕ → List ℕ → List ℕ → Task → Type 0
-Known16 text records decls table t =
-    (v : Written text records decls (t .m) (t .n)) (test : Word) → Aimed v test (t .aim) → Level v test (t .out) longestChain table
+abbrev pub Known16 : List ℕ → List ℕ → List ℕ → Task → Type 0
+Known16 records decls table t =
+    (v : SpeltDescription records decls (t .m) (t .n)) (test : Word) → Aimed v test (t .aim) → Level v test (t .out) longestChain table

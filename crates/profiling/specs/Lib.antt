@@ -1,3 +1,4 @@
+pub mod Spelt
 pub mod Machine
 pub mod Holding
 pub mod Grouping

@@ -17,7 +17,7 @@ use Rattle.table.specs.Holds.{kindByte, tokenAt}
 use Rattle.table.specs.Words.{NameAt, wordAt}
 use Rattle.reading.specs.Kinds.{nextNo}
 use Rattle.scopes.specs.Walks.{nextWord}
-use Rattle.whole.specs.Written.{Written, whole}
+use Rattle.profiling.specs.Spelt.{SpeltDescription, whole}
 use Rattle.profiling.specs.Machine.{State, acted, named, activated, aimed, run, outset, labelled}
 use Rattle.profiling.specs.Holding.{unseen, bit, Shows}
 use Rattle.profiling.specs.declared.nests.Nest.{Nest}
@@ -41,8 +41,8 @@ pub record Known (table : List ℕ) (k : ℕ) (x : Report) : Type 0 where
   pub low : cell 2 table (2 * k + 1) ≡ least unseen (x .places)
 
 -- a description with the names of a test and an output, and what is known of its bodies
-pub record Scene (text records decls table : List ℕ) (t : Task) : Type 0 where
-  pub written : Written text records decls (t .m) (t .n)
+pub record Scene (records decls table : List ℕ) (t : Task) : Type 0 where
+  pub written : SpeltDescription records decls (t .m) (t .n)
   pub test : Word
   pub known : Word → Report
   pub aims : (w : Word) → sameBytes w test ≡ eqb (indexOf (whole written) w) (t .aim)
@@ -51,8 +51,8 @@ pub record Scene (text records decls table : List ℕ) (t : Task) : Type 0 where
   pub output : t .out < 256
 
 -- the token i is next
-pub record Acting (text records decls table room : List ℕ) (t : Task) (i : ℕ) (s : Nest) : Type 0 where
-  pub scene : Scene text records decls table t
+pub record Acting (records decls table room : List ℕ) (t : Task) (i : ℕ) (s : Nest) : Type 0 where
+  pub scene : Scene records decls table t
   pub state : State
   pub shows : Shows (scene .written .tokens) room i s state
   pub past : 0 < i
@@ -61,27 +61,27 @@ pub record Acting (text records decls table room : List ℕ) (t : Task) (i : ℕ
   pub record-room : 8 * i + 8 ≤ length records
 
 -- what it did
-abbrev pub Acted : List ℕ → List ℕ → List ℕ → List ℕ → List ℕ → List ℕ → Task → ℕ → ℕ → Nest → Nest → Type 0
-Acted text records decls table old new t i mode s r =
-    (g : Scene text records decls table t) (z : State) → Shows (g .written .tokens) old i s z
+abbrev pub Acted : List ℕ → List ℕ → List ℕ → List ℕ → List ℕ → Task → ℕ → ℕ → Nest → Nest → Type 0
+Acted records decls table old new t i mode s r =
+    (g : Scene records decls table t) (z : State) → Shows (g .written .tokens) old i s z
     → Shows (g .written .tokens) new (i + 1) r
     (acted (whole (g .written)) (g .test) (t .out) (g .known) mode (kindByte records i) (tokenAt (g .written .tokens) i) (drop (i + 1) (g .written .tokens)) z)
 
 -- the name that is the token i, with what stands behind it
-abbrev pub Named : List ℕ → List ℕ → List ℕ → List ℕ → List ℕ → List ℕ → Task → ℕ → ℕ → Nest → Nest → Type 0
-Named text records decls table old new t i mode s r =
-    (g : Scene text records decls table t) (z : State) → Shows (g .written .tokens) old i s z
+abbrev pub Named : List ℕ → List ℕ → List ℕ → List ℕ → List ℕ → Task → ℕ → ℕ → Nest → Nest → Type 0
+Named records decls table old new t i mode s r =
+    (g : Scene records decls table t) (z : State) → Shows (g .written .tokens) old i s z
     → Shows (g .written .tokens) new (i + 1) r
     (named (whole (g .written)) (g .test) (t .out) (g .known) mode (tokenAt (g .written .tokens) i) (nextNo (drop (i + 1) (g .written .tokens))) z)
 
-abbrev pub Activates : List ℕ → List ℕ → List ℕ → List ℕ → List ℕ → List ℕ → Task → ℕ → Nest → Nest → Type 0
-Activates text records decls table old new t i s r =
-    (g : Scene text records decls table t) (z : State) (j : ℕ) → Shows (g .written .tokens) old j s z
+abbrev pub Activates : List ℕ → List ℕ → List ℕ → List ℕ → List ℕ → Task → ℕ → Nest → Nest → Type 0
+Activates records decls table old new t i s r =
+    (g : Scene records decls table t) (z : State) (j : ℕ) → Shows (g .written .tokens) old j s z
     → Shows (g .written .tokens) new j r (activated (whole (g .written)) (g .test) (t .out) (g .known) (wordAt (g .written .tokens) i) z)
 
-abbrev pub Aims : List ℕ → List ℕ → List ℕ → List ℕ → List ℕ → List ℕ → Task → ℕ → Nest → Nest → Type 0
-Aims text records decls table old new t i s r =
-    (g : Scene text records decls table t) (z : State) (j : ℕ) → Shows (g .written .tokens) old j s z
+abbrev pub Aims : List ℕ → List ℕ → List ℕ → List ℕ → List ℕ → Task → ℕ → Nest → Nest → Type 0
+Aims records decls table old new t i s r =
+    (g : Scene records decls table t) (z : State) (j : ℕ) → Shows (g .written .tokens) old j s z
     → Shows (g .written .tokens) new j r (aimed (eqb (nextNo (drop (i + 1) (g .written .tokens))) (kindNo Name)) (nextWord (drop (i + 1) (g .written .tokens))) z)
 
 -- the flag of the label that is found, or 64
@@ -94,10 +94,10 @@ abbrev pub Labels : List ℕ → List ℕ → ℕ → Nest → Nest → Type 0
 Labels old new i s r = (ts : Tokens) (z : State) → Shows ts old i s z → NameAt ts i → Shows ts new (i + 1) r (labelled (wordAt ts i) z)
 
 -- the body at `from` of the name that is the token `name`
-abbrev pub marksOf : {text records decls table : List ℕ} {t : Task} → Scene text records decls table t → ℕ → ℕ → Marks
+abbrev pub marksOf : {records decls table : List ℕ} {t : Task} → Scene records decls table t → ℕ → ℕ → Marks
 marksOf {t = t} g name from =
     run (whole (g .written)) (g .test) (t .out) (g .known) 0 (outset (wordAt (g .written .tokens) name)) (drop from (g .written .tokens))
 
-pub record Finds {text records decls table : List ℕ} {t : Task} (g : Scene text records decls table t) (name from : ℕ) (r : Found) : Type 0 where
+pub record Finds {records decls table : List ℕ} {t : Task} (g : Scene records decls table t) (name from : ℕ) (r : Found) : Type 0 where
   pub ends : r .ends ≡ marksOf g name from .flags 1
   pub low : r .low ≡ least unseen (marksOf g name from .places)

@@ -3,12 +3,12 @@ use crate::nests::Nest;
 use crate::nests::mark;
 use cells::get16;
 use cells::put16;
-use table::words::same_word;
+use spelling::words::same_spelling;
 ghost use mathlib.Core.List.{List};
 ghost use Prim.Native.Nat.{ℕ, _+_, _*_, _<_};
 ghost use Rattle.paths.specs.Walk.{Slot, flagOf};
 ghost use Rattle.table.specs.Words.{wordAt};
-ghost use Rattle.scopes.specs.Labels.{Worded};
+ghost use Rattle.profiling.specs.Spelt.{Spelt};
 ghost use Rattle.profiling.specs.Holding.{Linked, Standing};
 ghost use Rattle.profiling.specs.Walking.{Labels, FlagFound};
 ghost use Rattle.profiling.specs.Jumping.{Sought, Jumping, Left};
@@ -32,15 +32,15 @@ pub fn label(room: &mut [u8], i: usize, s: Nest) -> Nest
 }
 
 // The flag of the innermost label, from this one on, that has the word of the name.
-fn flag_of(text: &[u8], records: &[u8], room: &[u8], n: usize, label: usize, name: usize) -> usize
-    requires { ⌜ Sought (now text) (now records) (now room) n label name ⌝ }
-    ensures { λ r. ⌜ ((w : Worded (now (text .entry)) (now (records .entry)) n) (i : ℕ) (ls : List Slot) → Linked (w .tokens) (now (room .entry)) i label ls
+fn flag_of(records: &[u8], room: &[u8], n: usize, label: usize, name: usize) -> usize
+    requires { ⌜ Sought (now records) (now room) n label name ⌝ }
+    ensures { λ r. ⌜ ((w : Spelt (now (records .entry)) n) (i : ℕ) (ls : List Slot) → Linked (w .tokens) (now (room .entry)) i label ls
         → FlagFound (flagOf ls (wordAt (w .tokens) name)) r) ⌝ }
 {
     let mut p = label;
     while 0 < p {
         let at = p;
-        if same_word(text, records, name, at) {
+        if same_spelling(records, name, at) {
             return get16(room, 257 + 2 * at) as usize;
         }
         p = get16(room, 256 + 2 * at) as usize;
@@ -49,11 +49,11 @@ fn flag_of(text: &[u8], records: &[u8], room: &[u8], n: usize, label: usize, nam
 }
 
 // LEAVE of the name: control comes to the end of the label.
-pub fn leave(text: &[u8], records: &[u8], room: &mut [u8], n: usize, name: usize, s: Nest) -> Nest
-    requires { ⌜ Jumping (now text) (now records) (now room) n name s ⌝ }
-    ensures { λ r. ⌜ Left (now (text .entry)) (now (records .entry)) (now (room .entry)) (now (room .exit)) n name s r ⌝ }
+pub fn leave(records: &[u8], room: &mut [u8], n: usize, name: usize, s: Nest) -> Nest
+    requires { ⌜ Jumping (now records) (now room) n name s ⌝ }
+    ensures { λ r. ⌜ Left (now (records .entry)) (now (room .entry)) (now (room .exit)) n name s r ⌝ }
 {
-    let k = flag_of(text, records, room, n, s.label, name);
+    let k = flag_of(records, room, n, s.label, name);
     if k < NONE {
         mark(room, k, s.comes);
     }

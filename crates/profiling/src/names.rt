@@ -43,7 +43,6 @@ fn index_of(records: &[u8], m: usize, i: usize) -> usize
 
 // The activation of the name i: by what is known of its body. That of the test does not come back.
 fn activate(
-    text: &[u8],
     records: &[u8],
     decls: &[u8],
     table: &[u8],
@@ -52,8 +51,8 @@ fn activate(
     i: usize,
     s: Nest,
 ) -> Nest
-    requires { ⌜ Acting (now text) (now records) (now decls) (now table) (now room) t i s × (kindByte (now records) i ≡ 0) ⌝ }
-    ensures { λ r. ⌜ Activates (now (text .entry)) (now (records .entry)) (now (decls .entry)) (now (table .entry)) (now (room .entry)) (now (room .exit)) t i s r ⌝ }
+    requires { ⌜ Acting (now records) (now decls) (now table) (now room) t i s × (kindByte (now records) i ≡ 0) ⌝ }
+    ensures { λ r. ⌜ Activates (now (records .entry)) (now (decls .entry)) (now (table .entry)) (now (room .entry)) (now (room .exit)) t i s r ⌝ }
 {
     let aim = t.aim;
     let comes = s.comes;
@@ -88,7 +87,6 @@ fn hits(records: &[u8], decls: &[u8], t: Task, i: usize) -> bool
 
 // The name i.
 pub fn name(
-    text: &[u8],
     records: &[u8],
     decls: &[u8],
     table: &[u8],
@@ -98,8 +96,8 @@ pub fn name(
     mode: usize,
     s: Nest,
 ) -> Nest
-    requires { ⌜ Acting (now text) (now records) (now decls) (now table) (now room) t i s × (kindByte (now records) i ≡ 0) ⌝ }
-    ensures { λ r. ⌜ Named (now (text .entry)) (now (records .entry)) (now (decls .entry)) (now (table .entry)) (now (room .entry)) (now (room .exit)) t i mode s r ⌝ }
+    requires { ⌜ Acting (now records) (now decls) (now table) (now room) t i s × (kindByte (now records) i ≡ 0) ⌝ }
+    ensures { λ r. ⌜ Named (now (records .entry)) (now (decls .entry)) (now (table .entry)) (now (room .entry)) (now (room .exit)) t i mode s r ⌝ }
 {
     if mode != 0 {
         return s;
@@ -109,7 +107,7 @@ pub fn name(
         return label(room, i, s);
     }
     if next == LPAR {
-        return activate(text, records, decls, table, room, t, i, s);
+        return activate(records, decls, table, room, t, i, s);
     }
     if stores(next) {
         let place = place_at(records, i);

@@ -61,7 +61,6 @@ fn begin_behind(records: &[u8], n: usize, name: usize) -> usize
 
 // The declaration k, by the table of the round before.
 fn declaration(
-    text: &[u8],
     records: &[u8],
     decls: &[u8],
     table: &[u8],
@@ -70,8 +69,8 @@ fn declaration(
     t: Task,
     k: usize,
 )
-    requires { ⌜ PartAt (now text) (now records) (now decls) (now table) (now next) (now room) t k ⌝ }
-    ensures { λ _. ⌜ Part (now (text .entry)) (now (records .entry)) (now (decls .entry)) (now (table .entry)) (now (next .entry)) (now (next .exit)) t k ⌝ }
+    requires { ⌜ PartAt (now records) (now decls) (now table) (now next) (now room) t k ⌝ }
+    ensures { λ _. ⌜ Part (now (records .entry)) (now (decls .entry)) (now (table .entry)) (now (next .entry)) (now (next .exit)) t k ⌝ }
 {
     if body_at(records, decls, t.m, t.n, k) == 0 {
         put_known(next, k, true, UNSEEN);
@@ -79,36 +78,27 @@ fn declaration(
     }
     let name = get16(decls, k) as usize;
     let start = begin_behind(records, t.n, name);
-    let f = walk(text, records, decls, table, room, t, name, start);
+    let f = walk(records, decls, table, room, t, name, start);
     put_known(next, k, f.ends, f.low);
 }
 
 // One round.
-fn round(
-    text: &[u8],
-    records: &[u8],
-    decls: &[u8],
-    table: &[u8],
-    next: &mut [u8],
-    room: &mut [u8],
-    t: Task,
-)
-    requires { ⌜ Levelled (now text) (now records) (now decls) (now table) (now next) (now room) t ⌝ }
-    ensures { λ _. ⌜ Rounded (now (text .entry)) (now (records .entry)) (now (decls .entry)) (now (table .entry)) (now (next .exit)) t ⌝ }
+fn round(records: &[u8], decls: &[u8], table: &[u8], next: &mut [u8], room: &mut [u8], t: Task)
+    requires { ⌜ Levelled (now records) (now decls) (now table) (now next) (now room) t ⌝ }
+    ensures { λ _. ⌜ Rounded (now (records .entry)) (now (decls .entry)) (now (table .entry)) (now (next .exit)) t ⌝ }
 {
     let m = t.m;
     let mut k: usize = 0;
     while k < m {
         let at = k;
         k += 1;
-        declaration(text, records, decls, table, next, room, t, at);
+        declaration(records, decls, table, next, room, t, at);
     }
     put_known(next, UNDECLARED, true, UNSEEN);
 }
 
 // All rounds. The first table has at last what is known down the longest chains.
 pub fn rounds(
-    text: &[u8],
     records: &[u8],
     decls: &[u8],
     table: &mut [u8],
@@ -116,14 +106,14 @@ pub fn rounds(
     room: &mut [u8],
     t: Task,
 )
-    requires { ⌜ Starting (now text) (now records) (now decls) (now table) (now next) (now room) t ⌝ }
-    ensures { λ _. ⌜ Known16 (now (text .entry)) (now (records .entry)) (now (decls .entry)) (now (table .exit)) t ⌝ }
+    requires { ⌜ Starting (now records) (now decls) (now table) (now next) (now room) t ⌝ }
+    ensures { λ _. ⌜ Known16 (now (records .entry)) (now (decls .entry)) (now (table .exit)) t ⌝ }
 {
     blank(table);
     let mut k: usize = 0;
     while k < LONGEST_CHAIN {
-        round(text, records, decls, table, next, room, t);
-        round(text, records, decls, next, table, room, t);
+        round(records, decls, table, next, room, t);
+        round(records, decls, next, table, room, t);
         k += 2;
     }
 }

@@ -43,7 +43,6 @@ fn test(room: &mut [u8], s: Nest) -> Nest
 
 // LEAVE at i.
 fn jump(
-    text: &[u8],
     records: &[u8],
     decls: &[u8],
     table: &[u8],
@@ -52,19 +51,18 @@ fn jump(
     i: usize,
     s: Nest,
 ) -> Nest
-    requires { ⌜ Acting (now text) (now records) (now decls) (now table) (now room) t i s ⌝ }
-    ensures { λ r. ⌜ Aims (now (text .entry)) (now (records .entry)) (now (decls .entry)) (now (table .entry)) (now (room .entry)) (now (room .exit)) t i s r ⌝ }
+    requires { ⌜ Acting (now records) (now decls) (now table) (now room) t i s ⌝ }
+    ensures { λ r. ⌜ Aims (now (records .entry)) (now (decls .entry)) (now (table .entry)) (now (room .entry)) (now (room .exit)) t i s r ⌝ }
 {
     let n = t.n;
     if kind_of(records, n, i + 1) == NAME {
-        return leave(text, records, room, n, i + 1, s);
+        return leave(records, room, n, i + 1, s);
     }
     s
 }
 
 // The token i, of this kind.
 pub fn step(
-    text: &[u8],
     records: &[u8],
     decls: &[u8],
     table: &[u8],
@@ -75,11 +73,11 @@ pub fn step(
     mode: usize,
     s: Nest,
 ) -> Nest
-    requires { ⌜ Acting (now text) (now records) (now decls) (now table) (now room) t i s × (kind ≡ kindByte (now records) i) ⌝ }
-    ensures { λ r. ⌜ Acted (now (text .entry)) (now (records .entry)) (now (decls .entry)) (now (table .entry)) (now (room .entry)) (now (room .exit)) t i mode s r ⌝ }
+    requires { ⌜ Acting (now records) (now decls) (now table) (now room) t i s × (kind ≡ kindByte (now records) i) ⌝ }
+    ensures { λ r. ⌜ Acted (now (records .entry)) (now (decls .entry)) (now (table .entry)) (now (room .entry)) (now (room .exit)) t i mode s r ⌝ }
 {
     if kind == NAME {
-        return name(text, records, decls, table, room, t, i, mode, s);
+        return name(records, decls, table, room, t, i, mode, s);
     }
     if kind == BEGIN {
         return open(room, s);
@@ -109,7 +107,7 @@ pub fn step(
         return turning(s);
     }
     if kind == LEAVE {
-        return jump(text, records, decls, table, room, t, i, s);
+        return jump(records, decls, table, room, t, i, s);
     }
     if kind == NO_OP {
         return reach(room, s);

@@ -68,7 +68,6 @@ fn tell(room: &[u8], s: Nest) -> Found
 
 // The body at `from` of the declaration whose name is the token `name`.
 pub fn walk(
-    text: &[u8],
     records: &[u8],
     decls: &[u8],
     table: &[u8],
@@ -77,8 +76,8 @@ pub fn walk(
     name: usize,
     from: usize,
 ) -> Found
-    requires { ⌜ Beginning (now text) (now records) (now decls) (now table) (now room) t name from ⌝ }
-    ensures { λ r. ⌜ Walked (now (text .entry)) (now (records .entry)) (now (decls .entry)) (now (table .entry)) t name from r ⌝ }
+    requires { ⌜ Beginning (now records) (now decls) (now table) (now room) t name from ⌝ }
+    ensures { λ r. ⌜ Walked (now (records .entry)) (now (decls .entry)) (now (table .entry)) t name from r ⌝ }
 {
     let n = t.n;
     let mut s = begin(room, name);
@@ -87,7 +86,7 @@ pub fn walk(
     while i < n {
         let at = i;
         let kind = kind_at(records, at);
-        s = step(text, records, decls, table, room, t, at, kind, reading, s);
+        s = step(records, decls, table, room, t, at, kind, reading, s);
         if s.depth == 0 {
             return tell(room, s);
         }

@@ -7,16 +7,16 @@ use Rattle.rules.specs.Declarations.{Name, numberOf}
 use Rattle.rules.specs.Faults.Whole.{faults50}
 use Rattle.paths.specs.Early.{earlyPlaces}
 use Rattle.paths.specs.Least.{least}
-use Rattle.whole.specs.Written.{Written, whole}
+use Rattle.profiling.specs.Spelt.{SpeltDescription, whole}
 use Rattle.profiling.specs.Holding.{unseen}
 use Rattle.profiling.specs.declared.tasks.Task.{Task}
 
-pub record Asked (text records decls : List ℕ) (t : Task) : Type 0 where
-  pub written : Written text records decls (t .m) (t .n)
+pub record Asked (records decls : List ℕ) (t : Task) : Type 0 where
+  pub written : SpeltDescription records decls (t .m) (t .n)
   pub lawful : faults50 (whole written) ≡ []
   pub test : Name
   pub aims : numberOf (whole written) test ≡ some (t .aim)
   pub output : t .out < 256
 
-abbrev pub Lowest : {text records decls : List ℕ} {t : Task} → Asked text records decls t → ℕ → Type 0
+abbrev pub Lowest : {records decls : List ℕ} {t : Task} → Asked records decls t → ℕ → Type 0
 Lowest {t = t} g r = r ≡ least unseen (earlyPlaces (whole (g .written)) (g .test) (t .out))

@@ -23,20 +23,13 @@ ghost use Rattle.resuming.specs.Asked.{Asked, Lowest};
 ghost use Rattle.resuming.specs.Told.{Told};
 
 // The lowest place at which a path writes the output too early, or UNSEEN.
-fn lowest(
-    text: &[u8],
-    records: &[u8],
-    table: &mut [u8],
-    room: &mut [u8],
-    decls: &[u8],
-    t: Task,
-) -> usize
-    requires { ⌜ Asked (now text) (now records) (now decls) t × ((65536 ≤ length (now table)) × (65536 ≤ length (now room))) ⌝ }
-    ensures { λ r. ⌜ ((g : Asked (now (text .entry)) (now (records .entry)) (now (decls .entry)) t) → Lowest g r) ⌝ }
+fn lowest(records: &[u8], table: &mut [u8], room: &mut [u8], decls: &[u8], t: Task) -> usize
+    requires { ⌜ Asked (now records) (now decls) t × ((65536 ≤ length (now table)) × (65536 ≤ length (now room))) ⌝ }
+    ensures { λ r. ⌜ ((g : Asked (now (records .entry)) (now (decls .entry)) t) → Lowest g r) ⌝ }
 {
     let mut next: [u8; 1028] = [0; 1028];
     let main = main_number(records, decls, t.m, t.n);
-    rounds(text, records, decls, table, &mut next, room, t);
+    rounds(records, decls, table, &mut next, room, t);
     get16(table, 2 * main + 1) as usize
 }
 
@@ -65,7 +58,7 @@ fn profile_accepted(
     if out == m {
         return refusal(text, 91, 0);
     }
-    let low = lowest(text, records, values, room, decls, Task { m, n, aim, out });
+    let low = lowest(records, values, room, decls, Task { m, n, aim, out });
     if low < UNSEEN {
         return refusal(text, 92, low);
     }

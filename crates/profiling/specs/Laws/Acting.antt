@@ -23,10 +23,9 @@ use Rattle.scopes.specs.Walks.{nextWord}
 use Rattle.reading.specs.Laws.Reading.{next-token, no-more, kinded, name-at}
 use Rattle.reading.specs.Reading.{Kinded, Reading, tableOf}
 use Rattle.reading.specs.Names.{Owned}
-use Rattle.scopes.specs.Laws.Labels.{jump-place}
 use Rattle.reading.specs.Laws.Meanings.{means-number, means-nothing}
-use Rattle.whole.specs.Written.{whole}
-use Rattle.whole.specs.Laws.Written.{reading, worded}
+use Rattle.profiling.specs.Spelt.{whole}
+use Rattle.profiling.specs.Laws.Spelt.{reading, spelt, place-small}
 use Rattle.profiling.specs.Machine.{State, opened, closed, also, next, another, transferred, reached, chosen, looped, left, aimed, destined, activated, labelled, named, acted}
 use Rattle.profiling.specs.Holding.{unseen, Flagged, Shows, Standing, Does, Set}
 use Rattle.profiling.specs.Grouping.{nest}
@@ -73,12 +72,12 @@ lower-all : (l k : ℕ) (ps xs : List ℕ) (b : Bool) → l ≡ least unseen ps 
 lower-all l k ps xs true e f = omega (arith, least-append unseen ps xs)
 lower-all l k ps xs false e f = e ∙ ap (least unseen) (sym (append-nil ps))
 
-module _ {text records decls table old new : List ℕ} {t : Task} {i : ℕ} {x : Nest} (a : Acting text records decls table old t i x) (name : kindByte records i ≡ 0)
+module _ {records decls table old new : List ℕ} {t : Task} {i : ℕ} {x : Nest} (a : Acting records decls table old t i x) (name : kindByte records i ≡ 0)
     {k : ℕ} (index : (decls : List ℕ) (n : ℕ) (v : Reading records decls (t .m) n) → i < n → kindByte records i ≡ 0 → k ≡ indexOf (tableOf v) (wordAt (v .tokens) i))
     {other seen back sets : Bool} {place low : ℕ} where
   pub activate-shown : (other ≡ not (eqb k (t .aim))) → seen ≡ eqb (cell 2 table (2 * k)) 1 → back ≡ (other && seen) → place ≡ cell 2 table (2 * k + 1)
       → low ≡ cond (x .comes) (min (x .low) place) (x .low) → sets ≡ (x .comes && back) → Set old new (x .flag) sets
-      → Activates text records decls table old new t i x
+      → Activates records decls table old new t i x
       (nest (x .depth) (x .free) (x .label) (x .flag) (x .comes) (x .choosing) (x .begun) (x .place) (x .hit) low)
   activate-shown other-is seen-is back-is place-is low-is sets-is set g z j s =
       let w = wordAt (g .written .tokens) i in
@@ -126,7 +125,7 @@ hit-is {out = out} {c} i {b} low e owned v = by (decLt c 256)
     by (no l) = e ∙ (ne-eqb out c (λ q. l (omega arith)) ∙ ap (member out) (sym (owned v .nothing (omega arith))))
 
 -- a name
-module _ {text records decls table old : List ℕ} {t : Task} {i : ℕ} {x : Nest} (a : Acting text records decls table old t i x) where
+module _ {records decls table old : List ℕ} {t : Task} {i : ℕ} {x : Nest} (a : Acting records decls table old t i x) where
   abbrev pub acting-reads : Reading records decls (t .m) (t .n)
   acting-reads = reading (a .scene .written)
 
@@ -136,7 +135,7 @@ module _ {text records decls table old : List ℕ} {t : Task} {i : ℕ} {x : Nes
   pub standing : Standing old x
   standing = (a .scene .written .tokens, i, a .state, a .shows)
 
-  pub name-elsewhere : {mode : ℕ} → (mode ≡ 0 → ⊥) → Named text records decls table old old t i mode x x
+  pub name-elsewhere : {mode : ℕ} → (mode ≡ 0 → ⊥) → Named records decls table old old t i mode x x
   name-elsewhere {mode} n g z s = by mode n
     where
       by : (m : ℕ) → (m ≡ 0 → ⊥) → Shows (g .written .tokens) old (i + 1) x
@@ -145,10 +144,10 @@ module _ {text records decls table old : List ℕ} {t : Task} {i : ℕ} {x : Nes
       by (suc m) n = shows-later (a .few) s
 
   pub place-fits : {p : ℕ} → p ≡ placeCell records i → p < 65535
-  place-fits e = omega (arith, jump-place (worded (a .scene .written)) (a .within) e)
+  place-fits e = omega (arith, place-small (spelt (a .scene .written)) (a .within) e)
 
   module _ (name : kindByte records i ≡ 0) {mode : ℕ} (start : mode ≡ 0) {k : ℕ} (behind : (v : Kinded records (t .n)) → k ≡ nextNo (drop (i + 1) (v .tokens))) where
-    module _ (g : Scene text records decls table t) (z : State) where
+    module _ (g : Scene records decls table t) (z : State) where
       abbrev now : ℕ → State
       now q = named (whole (g .written)) (g .test) (t .out) (g .known) 0 (tokenAt (g .written .tokens) i) q z
 
@@ -158,20 +157,20 @@ module _ {text records decls table old : List ℕ} {t : Task} {i : ℕ} {x : Nes
           ap (λ m. named (whole (g .written)) (g .test) (t .out) (g .known) m (tokenAt (g .written .tokens) i) (nextNo (drop (i + 1) (g .written .tokens))) z) start
           ∙ (ap now (sym (behind (kinded (reading (g .written))))) ∙ e)
 
-    pub name-labels : {new : List ℕ} {r : Nest} → k ≡ 12 → Labels old new i x r → Named text records decls table old new t i mode x r
+    pub name-labels : {new : List ℕ} {r : Nest} → k ≡ 12 → Labels old new i x r → Named records decls table old new t i mode x r
     name-labels {new} {r} e l g z s =
         subst (Shows (g .written .tokens) new (i + 1) r) (sym (at-start g z (labelled (wordAt (g .written .tokens) i) z) (ap (now g z) e)))
         (l (g .written .tokens) z s (name-at (reading (g .written)) i (a .within) name))
 
     module _ (n : k ≡ 12 → ⊥) where
-      pub name-activates : {new : List ℕ} {r : Nest} → k ≡ 3 → Activates text records decls table old new t i x r → Named text records decls table old new t i mode x r
+      pub name-activates : {new : List ℕ} {r : Nest} → k ≡ 3 → Activates records decls table old new t i x r → Named records decls table old new t i mode x r
       name-activates {new} {r} e l g z s =
           subst (Shows (g .written .tokens) new (i + 1) r)
           (sym (at-start g z (activated (whole (g .written)) (g .test) (t .out) (g .known) (wordAt (g .written .tokens) i) z) (ap (now g z) e)))
           (shows-later (a .few) (l g z i s))
 
       module _ (c : k ≡ 3 → ⊥) {b : Bool} (kind : b ≡ stores k) where
-        abbrev chain : (g : Scene text records decls table t) (z : State) → Bool → Bool → Bool → State
+        abbrev chain : (g : Scene records decls table t) (z : State) → Bool → Bool → Bool → State
         chain g z u v w =
             elim u [
               | true ↦ labelled (wordAt (g .written .tokens) i) z
@@ -184,14 +183,14 @@ module _ {text records decls table old : List ℕ} {t : Task} {i : ℕ} {x : Nes
               ]
             ]
 
-        chained : (g : Scene text records decls table t) (z : State) (w : Bool) → b ≡ w → now g z k ≡ chain g z false false w
+        chained : (g : Scene records decls table t) (z : State) (w : Bool) → b ≡ w → now g z k ≡ chain g z false false w
         chained g z w e =
             ap (λ u. chain g z u (eqb k 3) (stores k)) (ne-eqb k 12 n)
             ∙ (ap (λ v. chain g z false v (stores k)) (ne-eqb k 3 c) ∙ ap (chain g z false false) (sym kind ∙ e))
 
         pub name-stores : {p : ℕ} {h : Bool} {r : Nest} → b ≡ true → p ≡ placeCell records i
             → ((v : Reading records decls (t .m) (t .n)) → h ≡ member (t .out) (owner (tableOf v) (wordAt (v .tokens) i)))
-            → ((room : List ℕ) → Does (destined p h) room x room r) → Named text records decls table old old t i mode x r
+            → ((room : List ℕ) → Does (destined p h) room x room r) → Named records decls table old old t i mode x r
         name-stores {p} {h} {r} e q hit d g z s =
             let ts = g .written .tokens in
             let place : p ≡ tokenAt ts i .info .place = q ∙ g .written .ready .holds .entry i (omega (arith, g .written .count, a .within)) .place in
@@ -199,14 +198,14 @@ module _ {text records decls table old : List ℕ} {t : Task} {i : ℕ} {x : Nes
             chained g z true e ∙ ap₂ (λ y w. destined y w z) (sym place) (sym (hit (reading (g .written)))) in
             subst (Shows ts old (i + 1) r) (sym (at-start g z (destined p h z) stored)) (shows-later (a .few) (d old ts i z s))
 
-        pub name-rests : b ≡ false → Named text records decls table old old t i mode x x
+        pub name-rests : b ≡ false → Named records decls table old old t i mode x x
         name-rests e g z s =
             let rests : now g z k ≡ z = chained g z false e in
             subst (Shows (g .written .tokens) old (i + 1) x) (sym (at-start g z z rests)) (shows-later (a .few) s)
 
   -- LEAVE
   module _ {k : ℕ} (behind : (v : Kinded records (t .n)) → k ≡ nextNo (drop (i + 1) (v .tokens))) where
-    pub jump-nowhere : (k ≡ 0 → ⊥) → Aims text records decls table old old t i x x
+    pub jump-nowhere : (k ≡ 0 → ⊥) → Aims records decls table old old t i x x
     jump-nowhere n g z j s =
         let e : eqb (nextNo (drop (i + 1) (g .written .tokens))) 0 ≡ false = ne-eqb _ 0 (λ q. n (behind (kinded (reading (g .written))) ∙ q)) in
         subst (λ b. Shows (g .written .tokens) old j x (aimed b (nextWord (drop (i + 1) (g .written .tokens))) z)) (sym e) s
@@ -224,9 +223,9 @@ module _ {text records decls table old : List ℕ} {t : Task} {i : ℕ} {x : Nes
           let v = acting-kinds in
           v .kind (i + 1) (target-in v) ∙ (sym (ap nextNo (next-token v (i + 1) (target-in v))) ∙ (sym (behind v) ∙ e))
 
-      pub to-jump : Jumping text records old (t .n) (i + 1) x
+      pub to-jump : Jumping records old (t .n) (i + 1) x
       to-jump = record {
-        worded = worded (a .scene .written);
+        spelt = spelt (a .scene .written);
         below = i;
         state = a .state;
         shows = a .shows;
@@ -234,78 +233,78 @@ module _ {text records decls table old : List ℕ} {t : Task} {i : ℕ} {x : Nes
         is-name = target-name;
       }
 
-      pub jump-there : {new : List ℕ} {r : Nest} → Left text records old new (t .n) (i + 1) x r → Aims text records decls table old new t i x r
+      pub jump-there : {new : List ℕ} {r : Nest} → Left records old new (t .n) (i + 1) x r → Aims records decls table old new t i x r
       jump-there {new} {r} l g z j s =
           let v = kinded (reading (g .written)) in
           let ts = g .written .tokens in
           let word : nextWord (drop (i + 1) ts) ≡ wordAt ts (i + 1) = ap nextWord (next-token v (i + 1) (target-in v)) in
           let test : eqb (nextNo (drop (i + 1) ts)) 0 ≡ true = eq-eqb _ 0 (sym (behind v) ∙ e) in
           subst (λ b. Shows ts new j r (aimed b (nextWord (drop (i + 1) ts)) z)) (sym test)
-          (subst (λ w. Shows ts new j r (left w z)) (sym word) (l (worded (g .written)) j z s))
+          (subst (λ w. Shows ts new j r (left w z)) (sym word) (l (spelt (g .written)) j z s))
 
   -- the arms by kinds
   module _ (mode : ℕ) {kind : ℕ} (is : kind ≡ kindByte records i) where
-    module _ (g : Scene text records decls table t) (z : State) where
+    module _ (g : Scene records decls table t) (z : State) where
       abbrev done : ℕ → State
       done q = acted (whole (g .written)) (g .test) (t .out) (g .known) mode q (tokenAt (g .written .tokens) i) (drop (i + 1) (g .written .tokens)) z
 
-    arm : {new : List ℕ} {r : Nest} (q : ℕ) (f : State → State) → kind ≡ q → ((g : Scene text records decls table t) (z : State) → done g z q ≡ f z) → Does f old x new r
-        → Acted text records decls table old new t i mode x r
+    arm : {new : List ℕ} {r : Nest} (q : ℕ) (f : State → State) → kind ≡ q → ((g : Scene records decls table t) (z : State) → done g z q ≡ f z) → Does f old x new r
+        → Acted records decls table old new t i mode x r
     arm {new} {r} q f e same d g z s =
         subst (Shows (g .written .tokens) new (i + 1) r) (sym (ap (done g z) (sym is ∙ e) ∙ same g z)) (shows-later (a .few) (d (g .written .tokens) i z s))
 
     module _ {new : List ℕ} {r : Nest} where
-      pub name-acts : kind ≡ 0 → Named text records decls table old new t i mode x r → Acted text records decls table old new t i mode x r
+      pub name-acts : kind ≡ 0 → Named records decls table old new t i mode x r → Acted records decls table old new t i mode x r
       unfolding acted
       name-acts e d g z s = subst (Shows (g .written .tokens) new (i + 1) r) (sym (ap (done g z) (sym is ∙ e))) (d g z s)
 
-      pub begin-acts : kind ≡ 19 → Does (λ z. opened (ltb (length (z .frames)) deepest) z) old x new r → Acted text records decls table old new t i mode x r
+      pub begin-acts : kind ≡ 19 → Does (λ z. opened (ltb (length (z .frames)) deepest) z) old x new r → Acted records decls table old new t i mode x r
       unfolding acted
       begin-acts e d = arm 19 (λ z. opened (ltb (length (z .frames)) deepest) z) e (λ g z. refl) d
 
-      pub end-acts : kind ≡ 20 → Does (λ z. closed (z .frames) z) old x new r → Acted text records decls table old new t i mode x r
+      pub end-acts : kind ≡ 20 → Does (λ z. closed (z .frames) z) old x new r → Acted records decls table old new t i mode x r
       unfolding acted
       end-acts e d = arm 20 (λ z. closed (z .frames) z) e (λ g z. refl) d
 
-      pub also-acts : kind ≡ 10 → Does (λ z. also (z .frames) z) old x new r → Acted text records decls table old new t i mode x r
+      pub also-acts : kind ≡ 10 → Does (λ z. also (z .frames) z) old x new r → Acted records decls table old new t i mode x r
       unfolding acted
       also-acts e d = arm 10 (λ z. also (z .frames) z) e (λ g z. refl) d
 
-      pub next-acts : kind ≡ 21 → Does (λ z. next (z .frames) z) old x new r → Acted text records decls table old new t i mode x r
+      pub next-acts : kind ≡ 21 → Does (λ z. next (z .frames) z) old x new r → Acted records decls table old new t i mode x r
       unfolding acted
       next-acts e d = arm 21 (λ z. next (z .frames) z) e (λ g z. refl) d
 
-      pub transfer-acts : kind ≡ 13 → Does transferred old x new r → Acted text records decls table old new t i mode x r
+      pub transfer-acts : kind ≡ 13 → Does transferred old x new r → Acted records decls table old new t i mode x r
       unfolding acted
       transfer-acts e d = arm 13 transferred e (λ g z. refl) d
 
-      pub test-acts : kind ≡ 22 → Does (λ z. reached (chosen false z) (z .marks)) old x new r → Acted text records decls table old new t i mode x r
+      pub test-acts : kind ≡ 22 → Does (λ z. reached (chosen false z) (z .marks)) old x new r → Acted records decls table old new t i mode x r
       unfolding acted
       test-acts e d = arm 22 (λ z. reached (chosen false z) (z .marks)) e (λ g z. refl) d
 
-      pub reach-acts : kind ≡ 30 → Does (λ z. reached z (z .marks)) old x new r → Acted text records decls table old new t i mode x r
+      pub reach-acts : kind ≡ 30 → Does (λ z. reached z (z .marks)) old x new r → Acted records decls table old new t i mode x r
       unfolding acted
       reach-acts e d = arm 30 (λ z. reached z (z .marks)) e (λ g z. refl) d
 
-      pub jump-acts : kind ≡ 26 → Aims text records decls table old new t i x r → Acted text records decls table old new t i mode x r
+      pub jump-acts : kind ≡ 26 → Aims records decls table old new t i x r → Acted records decls table old new t i mode x r
       unfolding acted
       jump-acts e d g z s = subst (Shows (g .written .tokens) new (i + 1) r) (sym (ap (done g z) (sym is ∙ e))) (shows-later (a .few) (d g z i s))
 
     module _ {r : Nest} where
-      pub comma-acts : kind ≡ 9 → Does (λ z. another (z .frames) z) old x old r → Acted text records decls table old old t i mode x r
+      pub comma-acts : kind ≡ 9 → Does (λ z. another (z .frames) z) old x old r → Acted records decls table old old t i mode x r
       unfolding acted
       comma-acts e d = arm 9 (λ z. another (z .frames) z) e (λ g z. refl) d
 
-      pub choice-acts : kind ≡ 23 → ((room : List ℕ) → Does (chosen true) room x room r) → Acted text records decls table old old t i mode x r
+      pub choice-acts : kind ≡ 23 → ((room : List ℕ) → Does (chosen true) room x room r) → Acted records decls table old old t i mode x r
       unfolding acted
       choice-acts e d = arm 23 (chosen true) e (λ g z. refl) (d old)
 
-      pub loop-acts : kind ≡ 25 → ((room : List ℕ) → Does looped room x room r) → Acted text records decls table old old t i mode x r
+      pub loop-acts : kind ≡ 25 → ((room : List ℕ) → Does looped room x room r) → Acted records decls table old old t i mode x r
       unfolding acted
       loop-acts e d = arm 25 looped e (λ g z. refl) (d old)
 
     pub other-acts : (kind ≡ 0 → ⊥) → (kind ≡ 19 → ⊥) → (kind ≡ 20 → ⊥) → (kind ≡ 10 → ⊥) → (kind ≡ 21 → ⊥) → (kind ≡ 9 → ⊥) → (kind ≡ 13 → ⊥) → (kind ≡ 22 → ⊥)
-        → (kind ≡ 23 → ⊥) → (kind ≡ 25 → ⊥) → (kind ≡ 26 → ⊥) → (kind ≡ 30 → ⊥) → Acted text records decls table old old t i mode x x
+        → (kind ≡ 23 → ⊥) → (kind ≡ 25 → ⊥) → (kind ≡ 26 → ⊥) → (kind ≡ 30 → ⊥) → Acted records decls table old old t i mode x x
     unfolding acted
     other-acts a0 a19 a20 a10 a21 a9 a13 a22 a23 a25 a26 a30 g z s =
         let same : done g z kind ≡ z =

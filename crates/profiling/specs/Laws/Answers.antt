@@ -16,15 +16,15 @@ use Rattle.paths.specs.Early.{earlyPlaces}
 use Rattle.paths.specs.Least.{least}
 use Rattle.reading.specs.Laws.Names.{number-bound}
 use Rattle.reading.specs.Laws.Meanings.{table-size}
-use Rattle.whole.specs.Written.{Written, whole}
-use Rattle.whole.specs.Laws.Written.{reading}
+use Rattle.profiling.specs.Spelt.{SpeltDescription, whole}
+use Rattle.profiling.specs.Laws.Spelt.{reading}
 use Rattle.profiling.specs.Holding.{unseen}
 use Rattle.profiling.specs.Walking.{numberOr, indexOf}
 use Rattle.profiling.specs.Levels.{Aimed, Known16}
 use Rattle.profiling.specs.declared.tasks.Task.{Task}
 
 -- a declared test is known by its number
-pub aimed : {text records decls : List ℕ} {m n : ℕ} (v : Written text records decls m n) (test : Word) (aim : ℕ) → numberOf (whole v) test ≡ some aim → Aimed v test aim
+pub aimed : {records decls : List ℕ} {m n : ℕ} (v : SpeltDescription records decls m n) (test : Word) (aim : ℕ) → numberOf (whole v) test ≡ some aim → Aimed v test aim
 aimed v test aim e w = by (sameBytes w test) refl (numberOf (whole v) w) refl
   where
     few : aim < 256
@@ -42,7 +42,7 @@ aimed v test aim e w = by (sameBytes w test) refl (numberOf (whole v) w) refl
         false≢true (sym s ∙ (ap (λ x. sameBytes x test) same ∙ same-itself test))))
 
 -- THE LOWEST PLACE that is too early stands in the second cell of MAIN
-pub lowest-known : {text records decls table : List ℕ} (t : Task) → Known16 text records decls table t → (v : Written text records decls (t .m) (t .n)) (test : Word)
+pub lowest-known : {records decls table : List ℕ} (t : Task) → Known16 records decls table t → (v : SpeltDescription records decls (t .m) (t .n)) (test : Word)
     → Aimed v test (t .aim) → (k : ℕ) → numberOf (whole v) (mainName (whole v)) ≡ some k
     → cell 2 table (2 * k + 1) ≡ least unseen (earlyPlaces (whole v) test (t .out))
 unfolding earlyPlaces

@@ -16,8 +16,8 @@ use Rattle.paths.specs.Least.{least, least-under}
 use Rattle.reading.specs.Kinds.{mode as modeOf}
 use Rattle.table.specs.Scans.{no as kindOf}
 use Rattle.reading.specs.Laws.Reading.{kinded, next-token, no-more}
-use Rattle.whole.specs.Written.{whole}
-use Rattle.whole.specs.Laws.Written.{reading}
+use Rattle.profiling.specs.Spelt.{whole}
+use Rattle.profiling.specs.Laws.Spelt.{reading}
 use Rattle.profiling.specs.Machine.{Frame, State, outset, none-open, acted, run}
 use Rattle.profiling.specs.Holding.{unseen, labelCell, unlinked, linked, no-frames, frames, Shows, Standing}
 use Rattle.profiling.specs.Grouping.{nest}
@@ -85,12 +85,12 @@ begun-shown {first} {old} {mid} {new} {name} room past few c p q ts i n below h 
 pub found-tells : {room : List ℕ} {s : Nest} {b : Bool} → b ≡ eqb (cell 2 room 1) 1 → Tells room s (record { ends = b; low = s .low })
 found-tells e ts i z s = (e ∙ (ap (λ k. eqb k 1) (s .flags .at 1 (omega arith)) ∙ bit-test (z .marks .flags 1)), s .low-is)
 
-pub to-begin : {text records decls table room : List ℕ} {t : Task} {name from : ℕ} → Beginning text records decls table room t name from
+pub to-begin : {records decls table room : List ℕ} {t : Task} {name from : ℕ} → Beginning records decls table room t name from
     → (33280 ≤ length room) × (0 < name) × (name < 8192)
 to-begin b = (b .space, b .past, b .few)
 
-pub goes : {text records decls table room now : List ℕ} {t : Task} {name from : ℕ} {s : Nest} → Beginning text records decls table room t name from → Begins now name s
-    → Going text records decls table now now t name from s 0 from
+pub goes : {records decls table room now : List ℕ} {t : Task} {name from : ℕ} {s : Nest} → Beginning records decls table room t name from → Begins now name s
+    → Going records decls table now now t name from s 0 from
 goes {name = name} {from} {s} b d = record {
   scene = b .scene;
   size = refl;
@@ -106,7 +106,7 @@ goes {name = name} {from} {s} b d = record {
   };
 }
 
-low-fits : {text records decls table : List ℕ} {t : Task} (g : Scene text records decls table t) {name start : ℕ} {f : Found} → Finds g name start f → f .low < 65536
+low-fits : {records decls table : List ℕ} {t : Task} (g : Scene records decls table t) {name start : ℕ} {f : Found} → Finds g name start f → f .low < 65536
 low-fits g {name} {start} f = omega (arith, f .low, least-under unseen (marksOf g name start .places))
 
 none-left : (fs : List Frame) → length fs ≡ 0 → none-open fs ≡ true
@@ -117,11 +117,11 @@ some-left : (fs : List Frame) → (length fs ≡ 0 → ⊥) → none-open fs ≡
 some-left [] n = absurd (n refl)
 some-left (f ∷ fs) n = refl
 
-module _ {text records decls table first room : List ℕ} {t : Task} {name from : ℕ} {s : Nest} {mode i : ℕ} (v : Going text records decls table first room t name from s mode i) where
+module _ {records decls table first room : List ℕ} {t : Task} {name from : ℕ} {s : Nest} {mode i : ℕ} (v : Going records decls table first room t name from s mode i) where
   pub going-stands : Standing room s
   going-stands = let x = v .so-far (v .scene) in (v .scene .written .tokens, i, x .state, x .shows)
 
-  all-over : {r : Found} → t .n ≤ i → Tells room s r → (g : Scene text records decls table t) → Finds g name from r
+  all-over : {r : Found} → t .n ≤ i → Tells room s r → (g : Scene records decls table t) → Finds g name from r
   unfolding run
   all-over {r} h tells g =
       let x = v .so-far g in
@@ -130,11 +130,11 @@ module _ {text records decls table first room : List ℕ} {t : Task} {name from 
       ap (run (whole (g .written)) (g .test) (t .out) (g .known) mode (x .state)) (sym (no-more (kinded (reading (g .written))) i h)) ∙ x .runs in
       record { ends = y .0 ∙ ap (λ w. w .flags 1) e; low = y .1 ∙ ap (λ w. least unseen (w .places)) e }
 
-  pub over : {r : Found} → t .n ≤ i → Tells room s r → Walked text records decls table t name from r
+  pub over : {r : Found} → t .n ≤ i → Tells room s r → Walked records decls table t name from r
   over {r} h tells = record { fits = low-fits (v .scene) (all-over h tells (v .scene)); finds = all-over h tells }
 
   module _ (h : i < t .n) where
-    pub going-acts : Acting text records decls table room t i s
+    pub going-acts : Acting records decls table room t i s
     going-acts = record {
       scene = v .scene;
       state = v .so-far (v .scene) .state;
@@ -145,8 +145,8 @@ module _ {text records decls table first room : List ℕ} {t : Task} {name from 
       record-room = omega (arith, v .record-room);
     }
 
-    module _ {now : List ℕ} {r : Nest} (acts : Acted text records decls table room now t i mode s r) where
-      module _ (g : Scene text records decls table t) where
+    module _ {now : List ℕ} {r : Nest} (acts : Acted records decls table room now t i mode s r) where
+      module _ (g : Scene records decls table t) where
         abbrev ts : Tokens
         ts = g .written .tokens
 
@@ -176,7 +176,7 @@ module _ {text records decls table first room : List ℕ} {t : Task} {name from 
             (sym kind) in
             sym (x .runs) ∙ (ap (R mode (x .state)) (next-token (kinded (reading (g .written))) i h) ∙ gone)
 
-      all-ended : {f : Found} → r .depth ≡ 0 → Tells now r f → (g : Scene text records decls table t) → Finds g name from f
+      all-ended : {f : Found} → r .depth ≡ 0 → Tells now r f → (g : Scene records decls table t) → Finds g name from f
       all-ended e tells g =
           let y = tells (ts g) (i + 1) (after g) (shown g) in
           let closed : none-open (after g .frames) ≡ true = none-left (after g .frames) (sym (shown g .depth-is) ∙ e) in
@@ -184,13 +184,13 @@ module _ {text records decls table first room : List ℕ} {t : Task} {name from 
           stepped g ∙ ap (λ b. elim b [ true ↦ after g .marks | false ↦ R g (modeOf mode (kindByte records i)) (after g) (drop (i + 1) (ts g)) ]) closed in
           record { ends = y .0 ∙ ap (λ k. k .flags 1) (sym w); low = y .1 ∙ ap (λ k. least unseen (k .places)) (sym w) }
 
-      pub ended : {f : Found} → r .depth ≡ 0 → Tells now r f → Walked text records decls table t name from f
+      pub ended : {f : Found} → r .depth ≡ 0 → Tells now r f → Walked records decls table t name from f
       ended e tells = record { fits = low-fits (v .scene) (all-ended e tells (v .scene)); finds = all-ended e tells }
 
       pub stands-after : Standing now r
       stands-after = (ts (v .scene), i + 1, after (v .scene), shown (v .scene))
 
-      pub goes-on : {kind m : ℕ} → length now ≡ length room → kind ≡ kindByte records i → (r .depth ≡ 0 → ⊥) → (m ≡ modeOf mode kind) × (m ≤ mode + 1) → Going text records decls table first now t name from r m (i + 1)
+      pub goes-on : {kind m : ℕ} → length now ≡ length room → kind ≡ kindByte records i → (r .depth ≡ 0 → ⊥) → (m ≡ modeOf mode kind) × (m ≤ mode + 1) → Going records decls table first now t name from r m (i + 1)
       goes-on {kind} {m} size k n q = record {
         scene = v .scene;
         size = size ∙ v .size;

@@ -10,9 +10,10 @@ use Rattle.rules.specs.Text.Scan.{sameBytes}
 use Rattle.rules.specs.Grammar.Trees.{Tokens}
 use Rattle.paths.specs.Least.{least}
 use Rattle.paths.specs.Walk.{Slot, marked, markedAt, flagOf}
-use Rattle.table.specs.Words.{NameAt, wordAt, TwoNames, sameWords}
-use Rattle.scopes.specs.Labels.{Worded}
-use Rattle.scopes.specs.Laws.Labels.{word-at}
+use Rattle.table.specs.Words.{NameAt, wordAt}
+use Rattle.spelling.specs.Spelled.{TwoSpelled, spelledAlike}
+use Rattle.profiling.specs.Spelt.{Spelt}
+use Rattle.profiling.specs.Laws.Spelt.{name-there}
 use Rattle.profiling.specs.Machine.{State, left}
 use Rattle.profiling.specs.Holding.{unseen, labelCell, Linked, unlinked, linked, Flagged, Shows, Standing, Set}
 use Rattle.profiling.specs.Grouping.{nest}
@@ -71,7 +72,7 @@ small-label unlinked h = omega arith
 small-label (linked a b n w f k e r) h = omega arith
 
 -- the search
-pub seek-starts : {text records room : List ℕ} {n label name : ℕ} → Sought text records room n label name → Seeking text records room n label name label
+pub seek-starts : {records room : List ℕ} {n label name : ℕ} → Sought records room n label name → Seeking records room n label name label
 seek-starts s = record { sought = s; small = small-label (s .linked) (s .few); space = s .space; left = λ w i ls l. (i, ls, omega arith, l, refl) }
 
 record Next (ts : Tokens) (room : List ℕ) (j p : ℕ) (ls : List Slot) : Type 0 where
@@ -103,8 +104,8 @@ next-label h (linked {q = q} {l = l} {ls = ls} a b n w f k e r) = record {
   others = r;
 }
 
-module _ {text records room : List ℕ} {n label name p : ℕ} (v : Seeking text records room n label name p) where
-  pub seek-none : p ≤ 0 → (w : Worded text records n) (i : ℕ) (ls : List Slot) → Linked (w .tokens) room i label ls → FlagFound (flagOf ls (wordAt (w .tokens) name)) 64
+module _ {records room : List ℕ} {n label name p : ℕ} (v : Seeking records room n label name p) where
+  pub seek-none : p ≤ 0 → (w : Spelt records n) (i : ℕ) (ls : List Slot) → Linked (w .tokens) room i label ls → FlagFound (flagOf ls (wordAt (w .tokens) name)) 64
   seek-none h w i ls l = let x = v .left w i ls l in subst (λ o. FlagFound o 64) (sym (x .4)) (by h (x .3))
     where
       by : {ts : Tokens} {j q : ℕ} {rest : List Slot} → q ≤ 0 → Linked ts room j q rest → FlagFound (flagOf rest (wordAt (w .tokens) name)) 64
@@ -112,24 +113,27 @@ module _ {text records room : List ℕ} {n label name p : ℕ} (v : Seeking text
       by o (linked a b n w f k e r) = absurd (omega arith)
 
   module _ (h : 0 < p) where
-    there : Next (v .sought .worded .tokens) room (v .left (v .sought .worded) (v .sought .below) (v .sought .labels) (v .sought .linked) .0) p
-        (v .left (v .sought .worded) (v .sought .below) (v .sought .labels) (v .sought .linked) .1)
-    there = next-label h (v .left (v .sought .worded) (v .sought .below) (v .sought .labels) (v .sought .linked) .3)
-
-    pub both-named : TwoNames text records name p
-    both-named = record {
-      values = v .sought .worded .values;
-      tokens = v .sought .worded .tokens;
-      holds = v .sought .worded .holds;
-      first = word-at (v .sought .worded) name (v .sought .name-in) (v .sought .is-name);
-      second = there .name;
+    abbrev two-spelled : (w : Spelt records n) → NameAt (w .tokens) p → TwoSpelled records name p
+    two-spelled w other = record {
+      tokens = w .tokens;
+      room = w .holds .record-room;
+      spelled = w .spelled;
+      first = name-there w name (v .sought .name-in) (v .sought .is-name);
+      second = other;
     }
+
+    there : Next (v .sought .spelt .tokens) room (v .left (v .sought .spelt) (v .sought .below) (v .sought .labels) (v .sought .linked) .0) p
+        (v .left (v .sought .spelt) (v .sought .below) (v .sought .labels) (v .sought .linked) .1)
+    there = next-label h (v .left (v .sought .spelt) (v .sought .below) (v .sought .labels) (v .sought .linked) .3)
+
+    pub both-named : TwoSpelled records name p
+    both-named = two-spelled (v .sought .spelt) (there .name)
 
     pub around-less : {q : ℕ} → q ≡ cell 2 room (256 + 2 * p) → q < p
     around-less e = omega (arith, there .around-is, around-low (there .others) h)
 
-    module _ {r : Bool} (same : (u : TwoNames text records name p) → r ≡ sameWords u) where
-      module _ (w : Worded text records n) (i : ℕ) (ls : List Slot) (l : Linked (w .tokens) room i label ls) where
+    module _ {r : Bool} (same : (u : TwoSpelled records name p) → r ≡ spelledAlike u) where
+      module _ (w : Spelt records n) (i : ℕ) (ls : List Slot) (l : Linked (w .tokens) room i label ls) where
         abbrev now : (j : ℕ) × (rest : List Slot) × (j ≤ i) × Linked (w .tokens) room j p rest × (flagOf ls (wordAt (w .tokens) name) ≡ flagOf rest (wordAt (w .tokens) name))
         now = v .left w i ls l
 
@@ -138,15 +142,14 @@ module _ {text records room : List ℕ} {n label name p : ℕ} (v : Seeking text
 
         test : r ≡ sameBytes (wordAt (w .tokens) name) (here .slot-is .name)
         test =
-            same (record { values = w .values; tokens = w .tokens; holds = w .holds; first = word-at w name (v .sought .name-in) (v .sought .is-name); second = here .name })
-            ∙ ap (sameBytes (wordAt (w .tokens) name)) (here .word)
+            same (two-spelled w (here .name)) ∙ ap (sameBytes (wordAt (w .tokens) name)) (here .word)
 
         by-test : flagOf ls (wordAt (w .tokens) name) ≡ cond r (some (here .slot-is .flag)) (flagOf (here .rest) (wordAt (w .tokens) name))
         by-test =
             now .4 ∙ (ap (λ k. flagOf k (wordAt (w .tokens) name)) (here .is)
             ∙ ap (λ b. cond b (some (here .slot-is .flag)) (flagOf (here .rest) (wordAt (w .tokens) name))) (sym test))
 
-      pub seek-found : r ≡ true → {k : ℕ} → k ≡ cell 2 room (257 + 2 * p) → (w : Worded text records n) (i : ℕ) (ls : List Slot) → Linked (w .tokens) room i label ls
+      pub seek-found : r ≡ true → {k : ℕ} → k ≡ cell 2 room (257 + 2 * p) → (w : Spelt records n) (i : ℕ) (ls : List Slot) → Linked (w .tokens) room i label ls
           → FlagFound (flagOf ls (wordAt (w .tokens) name)) k
       seek-found e {k} q w i ls l =
           let x = here w i ls l in
@@ -154,7 +157,7 @@ module _ {text records room : List ℕ} {n label name p : ℕ} (v : Seeking text
           subst (λ o. FlagFound o k) (sym (by-test w i ls l ∙ (ap (λ b. cond b (some (x .slot-is .flag)) (flagOf (x .rest) (wordAt (w .tokens) name))) e ∙ ap some (sym k-is))))
           (refl, omega (arith, x .flag-low))
 
-      pub seek-on : r ≡ false → {q : ℕ} → q ≡ cell 2 room (256 + 2 * p) → Seeking text records room n label name q
+      pub seek-on : r ≡ false → {q : ℕ} → q ≡ cell 2 room (256 + 2 * p) → Seeking records room n label name q
       seek-on e {q} f = record {
         sought = v .sought;
         small = omega (arith, around-less f, v .small);
@@ -170,9 +173,9 @@ module _ {text records room : List ℕ} {n label name p : ℕ} (v : Seeking text
       }
 
 -- LEAVE
-pub to-seek : {text records room : List ℕ} {n name : ℕ} {x : Nest} → Jumping text records room n name x → Sought text records room n (x .label) name
+pub to-seek : {records room : List ℕ} {n name : ℕ} {x : Nest} → Jumping records room n name x → Sought records room n (x .label) name
 to-seek j = record {
-  worded = j .worded;
+  spelt = j .spelt;
   below = j .below;
   few = j .shows .few;
   labels = j .state .labels;
@@ -182,9 +185,9 @@ to-seek j = record {
   space = j .shows .space;
 }
 
-module _ {text records old : List ℕ} {n name k : ℕ} {x : Nest} (found : (w : Worded text records n) (i : ℕ) (ls : List Slot) → Linked (w .tokens) old i (x .label) ls
+module _ {records old : List ℕ} {n name k : ℕ} {x : Nest} (found : (w : Spelt records n) (i : ℕ) (ls : List Slot) → Linked (w .tokens) old i (x .label) ls
     → FlagFound (flagOf ls (wordAt (w .tokens) name)) k) where
-  pub left-flag : {new : List ℕ} → k < 64 → Set old new k (x .comes) → Left text records old new n name x x
+  pub left-flag : {new : List ℕ} → k < 64 → Set old new k (x .comes) → Left records old new n name x x
   left-flag {new} h set w i z s =
       record {
         space = omega (arith, s .space, set .size);
@@ -217,7 +220,7 @@ module _ {text records old : List ℕ} {n name k : ℕ} {x : Nest} (found : (w :
           let g : Flagged new (marked k (x .comes) (z .marks)) = flagged-set set (s .flags) in
           subst (λ y. Flagged new (marked y (z .comes) (z .marks))) (e .0) (subst (λ b. Flagged new (marked k b (z .marks))) (s .comes-is) g)
 
-  pub left-nowhere : 64 ≤ k → Left text records old old n name x x
+  pub left-nowhere : 64 ≤ k → Left records old old n name x x
   left-nowhere h w i z s = subst (λ o. Shows (w .tokens) old i x (to o)) (sym (by (flagOf (z .labels) (wordAt (w .tokens) name)) (found w i (z .labels) (s .labels)))) s
     where
       to : Option ℕ → State

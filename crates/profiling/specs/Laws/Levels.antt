@@ -37,8 +37,8 @@ use Rattle.reading.specs.Laws.Meanings.{table-size}
 use Rattle.reading.specs.Meanings.{Declares, declares}
 use Rattle.chains.specs.Laws.Least.{name-there}
 use Rattle.reading.specs.Bodies.{Body}
-use Rattle.whole.specs.Written.{Written, whole}
-use Rattle.whole.specs.Laws.Written.{reading}
+use Rattle.profiling.specs.Spelt.{SpeltDescription, whole}
+use Rattle.profiling.specs.Laws.Spelt.{reading}
 use Rattle.profiling.specs.Holding.{bit, unseen}
 use Rattle.profiling.specs.Machine.{run, outset}
 use Rattle.profiling.specs.Walking.{numberOr, indexOf, Known, Scene}
@@ -179,8 +179,8 @@ listed [] k d e = absurd (Option·none-ne-some d e)
 listed (x ∷ list) zero d e = (x, refl, Option·some-injective (declaredOf x) d e)
 listed (x ∷ list) (suc k) d e = listed list k d e
 
-abbrev pub sceneOf : {text records decls table : List ℕ} {t : Task} (v : Written text records decls (t .m) (t .n)) (test : Word) → Aimed v test (t .aim) → (l : ℕ)
-    → Level v test (t .out) l table → 1028 ≤ length table → t .out < 256 → Scene text records decls table t
+abbrev pub sceneOf : {records decls table : List ℕ} {t : Task} (v : SpeltDescription records decls (t .m) (t .n)) (test : Word) → Aimed v test (t .aim) → (l : ℕ)
+    → Level v test (t .out) l table → 1028 ≤ length table → t .out < 256 → Scene records decls table t
 sceneOf {t = t} v test aims l known h o = record {
   written = v;
   test = test;
@@ -192,7 +192,7 @@ sceneOf {t = t} v test aims l known h o = record {
 }
 
 -- the body of the declaration k
-module _ {text records decls : List ℕ} {m n : ℕ} (v : Written text records decls m n) (k name start b : ℕ) (within : k < m) (at : name ≡ cell 2 decls k)
+module _ {records decls : List ℕ} {m n : ℕ} (v : SpeltDescription records decls m n) (k name start b : ℕ) (within : k < m) (at : name ≡ cell 2 decls k)
     (is : (v : Reading records decls m n) → Body v k b) (there : b ≡ 0 → ⊥)
     (starts : (v : Kinded records n) → drop start (v .tokens) ≡ toBegin (drop (name + 1) (v .tokens))) where
   abbrev D : Declares (reading v) k
@@ -242,7 +242,7 @@ module _ {text records decls : List ℕ} {m n : ℕ} (v : Written text records d
         ∙ (body-read (whole v) test out K (q .opens) (q .first) (q .others) w rest (omega (arith, shallow, ap actionNest (q .is)))
         ∙ ap (λ y. walkBody (whole v) test out K y w) (sym (q .is))))
 
-module _ {text records decls table next room : List ℕ} {t : Task} {k : ℕ} (x : PartAt text records decls table next room t k) where
+module _ {records decls table next room : List ℕ} {t : Task} {k : ℕ} (x : PartAt records decls table next room t k) where
   pub part-kinds : Kinded records (t .n)
   part-kinds = kinded (reading (x .levelled .written))
 
@@ -253,7 +253,7 @@ module _ {text records decls table next room : List ℕ} {t : Task} {k : ℕ} (x
   name-in at = (part-kinds, name-below at)
 
   module _ {name start : ℕ} (at : name ≡ cell 2 decls k) where
-    pub to-walk : BeginBehind records (t .n) name start → Beginning text records decls table room t name start
+    pub to-walk : BeginBehind records (t .n) name start → Beginning records decls table room t name start
     to-walk r =
         let past = r .past in
         let low = r .low in
@@ -273,7 +273,7 @@ module _ {text records decls table next room : List ℕ} {t : Task} {k : ℕ} (x
 
     module _ {b : ℕ} (is : (v : Reading records decls (t .m) (t .n)) → Body v k b) where
       pub part-walked : {new : List ℕ} {f : Found} → (b ≡ 0 → ⊥) → BeginBehind records (t .n) name start
-          → Walked text records decls table t name start f → Put next new k (f .ends) (f .low) → Part text records decls table next new t k
+          → Walked records decls table t name start f → Put next new k (f .ends) (f .low) → Part records decls table next new t k
       part-walked {new} {f} there r walk p = record {
         size = p .size;
         same = p .same;
@@ -290,7 +290,7 @@ module _ {text records decls table next room : List ℕ} {t : Task} {k : ℕ} (x
       }
 
   pub part-bodiless : {new : List ℕ} {b : ℕ} → ((v : Reading records decls (t .m) (t .n)) → Body v k b) → b ≡ 0 → Put next new k true 65535
-      → Part text records decls table next new t k
+      → Part records decls table next new t k
   unfolding bodyOf
   part-bodiless is e p = record {
     size = p .size;
@@ -299,21 +299,21 @@ module _ {text records decls table next room : List ℕ} {t : Task} {k : ℕ} (x
         no-body-known (whole v) test (t .out) l w (ap (bodyNumber (whole v)) number ∙ is (reading v) .missing e) p;
   }
 
-pub to-put : {text records decls table next room : List ℕ} {t : Task} {k name start : ℕ} {f : Found} → PartAt text records decls table next room t k
-    → Walked text records decls table t name start f → (1028 ≤ length next) × (k ≤ 256) × (f .low < 65536)
+pub to-put : {records decls table next room : List ℕ} {t : Task} {k name start : ℕ} {f : Found} → PartAt records decls table next room t k
+    → Walked records decls table t name start f → (1028 ≤ length next) × (k ≤ 256) × (f .low < 65536)
 to-put x f = let y = x .levelled in (y .next-room, omega (arith, x .within, y .written .ready .few), f .fits)
 
 -- one round
-module _ {text records decls table next room : List ℕ} {t : Task} where
-  pub parts-none : Levelled text records decls table next room t → Parts text records decls table next room next room t 0
+module _ {records decls table next room : List ℕ} {t : Task} where
+  pub parts-none : Levelled records decls table next room t → Parts records decls table next room next room t 0
   parts-none x = record { levelled = x; size = refl; room-size = refl; known = λ v test aims l known j h. absurd (omega arith) }
 
-  module _ {first room₀ : List ℕ} {k : ℕ} (x : Parts text records decls table first room₀ next room t k) where
-    pub part-at : k < t .m → PartAt text records decls table next room t k
+  module _ {first room₀ : List ℕ} {k : ℕ} (x : Parts records decls table first room₀ next room t k) where
+    pub part-at : k < t .m → PartAt records decls table next room t k
     part-at h = record { levelled = x .levelled; within = h }
 
-    pub parts-more : {new now : List ℕ} → k < t .m → length now ≡ length room → Part text records decls table next new t k
-        → Parts text records decls table first room₀ new now t (k + 1)
+    pub parts-more : {new now : List ℕ} → k < t .m → length now ≡ length room → Part records decls table next new t k
+        → Parts records decls table first room₀ new now t (k + 1)
     parts-more {new} {now} h size p = record {
       levelled = record {
         written = x .levelled .written;
@@ -331,18 +331,18 @@ module _ {text records decls table next room : List ℕ} {t : Task} where
       known = λ v test aims l known j low w number. by v test aims l known j low w number (decLt j k);
     }
       where
-        by : (v : Written text records decls (t .m) (t .n)) (test : Word) → Aimed v test (t .aim) → (l : ℕ) → Level v test (t .out) l table
+        by : (v : SpeltDescription records decls (t .m) (t .n)) (test : Word) → Aimed v test (t .aim) → (l : ℕ) → Level v test (t .out) l table
             → (j : ℕ) → j < k + 1 → (w : Word) → numberOf (whole v) w ≡ some j → Dec (j < k) → Known new j (bodyEarly (whole v) test (t .out) (suc l) w)
         by v test aims l known j low w number (yes a) = known-kept k (p .same) (λ e. omega arith) (x .known v test aims l known j a w number)
         by v test aims l known j low w number (no a) =
             let e : k ≡ j = omega arith in
             subst (λ q. Known new q (bodyEarly (whole v) test (t .out) (suc l) w)) e (p .known v test aims l known w (number ∙ ap some (sym e)))
 
-    pub round-done : {new : List ℕ} → t .m ≤ k → Put next new 256 true 65535 → Rounded text records decls table new t
+    pub round-done : {new : List ℕ} → t .m ≤ k → Put next new 256 true 65535 → Rounded records decls table new t
     unfolding bodyOf bodyNumber
     round-done {new} h p = record { known = λ v test aims l known w. by v test aims l known w (numberOf (whole v) w) refl }
       where
-        by : (v : Written text records decls (t .m) (t .n)) (test : Word) → Aimed v test (t .aim) → (l : ℕ) → Level v test (t .out) l table → (w : Word) → (o : Option ℕ) → numberOf (whole v) w ≡ o → Known new (numberOr o) (bodyEarly (whole v) test (t .out) (suc l) w)
+        by : (v : SpeltDescription records decls (t .m) (t .n)) (test : Word) → Aimed v test (t .aim) → (l : ℕ) → Level v test (t .out) l table → (w : Word) → (o : Option ℕ) → numberOf (whole v) w ≡ o → Known new (numberOr o) (bodyEarly (whole v) test (t .out) (suc l) w)
         by v test aims l known w none e = no-body-known (whole v) test (t .out) l w (ap (bodyNumber (whole v)) e) p
         by v test aims l known w (some j) e =
             let small = number-bound (whole v) j w e in
@@ -352,8 +352,8 @@ module _ {text records decls table next room : List ℕ} {t : Task} where
     last-room = (x .levelled .next-room, omega arith, omega arith)
 
 -- all rounds
-pub record Turning (text records decls table₀ next₀ room₀ table next room : List ℕ) (t : Task) (k : ℕ) : Type 0 where
-  pub turned : Turned text records decls table next room t k
+pub record Turning (records decls table₀ next₀ room₀ table next room : List ℕ) (t : Task) (k : ℕ) : Type 0 where
+  pub turned : Turned records decls table next room t k
   pub table-size : length table ≡ length table₀
   pub next-size : length next ≡ length next₀
   pub room-size : length room ≡ length room₀
@@ -366,14 +366,14 @@ index-low v w = by (numberOf (tableOf v) w) refl
     by none e = omega arith
     by (some j) e = omega (arith, number-bound (tableOf v) j w e, table-size v, v .ready .few)
 
-blank-level : {text records decls first table : List ℕ} {m n : ℕ} → Blank first table 257 → (v : Written text records decls m n) (test : Word) (out : ℕ) → Level v test out 0 table
+blank-level : {records decls first table : List ℕ} {m n : ℕ} → Blank first table 257 → (v : SpeltDescription records decls m n) (test : Word) (out : ℕ) → Level v test out 0 table
 unfolding bodyEarly
 blank-level b v test out w =
     let l = index-low (reading v) w in
     record { ends = b .ends (indexOf (whole v) w) l; low = b .low (indexOf (whole v) w) l }
 
-module _ {text records decls table next room : List ℕ} {t : Task} (s : Starting text records decls table next room t) where
-  none-turned : {new : List ℕ} → Blank table new 257 → Turned text records decls new next room t 0
+module _ {records decls table next room : List ℕ} {t : Task} (s : Starting records decls table next room t) where
+  none-turned : {new : List ℕ} → Blank table new 257 → Turned records decls new next room t 0
   none-turned b = record {
     starting = record {
       written = s .written;
@@ -389,14 +389,14 @@ module _ {text records decls table next room : List ℕ} {t : Task} (s : Startin
     known = λ v test aims. blank-level b v test (t .out);
   }
 
-  pub turned-none : {new : List ℕ} → Blank table new 257 → Turning text records decls new next room new next room t 0
+  pub turned-none : {new : List ℕ} → Blank table new 257 → Turning records decls new next room new next room t 0
   turned-none b = record { turned = none-turned b; table-size = refl; next-size = refl; room-size = refl; low = omega arith }
 
-module _ {text records decls table₀ next₀ room₀ table next room : List ℕ} {t : Task} {k : ℕ} (y : Turning text records decls table₀ next₀ room₀ table next room t k) where
-  abbrev x : Turned text records decls table next room t k
+module _ {records decls table₀ next₀ room₀ table next room : List ℕ} {t : Task} {k : ℕ} (y : Turning records decls table₀ next₀ room₀ table next room t k) where
+  abbrev x : Turned records decls table next room t k
   x = y .turned
 
-  pub to-round : Levelled text records decls table next room t
+  pub to-round : Levelled records decls table next room t
   to-round = record {
     written = x .starting .written;
     test = x .starting .test;
@@ -409,8 +409,8 @@ module _ {text records decls table₀ next₀ room₀ table next room : List ℕ
     space = x .starting .space;
   }
 
-  module _ {new : List ℕ} (one : Rounded text records decls table new t) (size : length new ≡ length next) where
-    pub to-round-back : {now : List ℕ} → length now ≡ length room → Levelled text records decls new table now t
+  module _ {new : List ℕ} (one : Rounded records decls table new t) (size : length new ≡ length next) where
+    pub to-round-back : {now : List ℕ} → length now ≡ length room → Levelled records decls new table now t
     to-round-back space = record {
       written = x .starting .written;
       test = x .starting .test;
@@ -423,7 +423,7 @@ module _ {text records decls table₀ next₀ room₀ table next room : List ℕ
       space = omega (arith, x .starting .space);
     }
 
-    more-turned : {old then : List ℕ} → length old ≡ length table → length then ≡ length room → Rounded text records decls new old t → Turned text records decls old new then t (k + 2)
+    more-turned : {old then : List ℕ} → length old ≡ length table → length then ≡ length room → Rounded records decls new old t → Turned records decls old new then t (k + 2)
     more-turned {old} a b two = record {
       starting = record {
         written = x .starting .written;
@@ -441,10 +441,10 @@ module _ {text records decls table₀ next₀ room₀ table next room : List ℕ
           subst (λ q. Level v test (t .out) q old) (sym e) (two .known v test aims (suc k) (one .known v test aims k (x .known v test aims)));
     }
 
-    pub turned-more : {old then : List ℕ} → k < 16 → Rounded text records decls new old t → length old ≡ length table → length then ≡ length room
-        → Turning text records decls table₀ next₀ room₀ old new then t (k + 2)
+    pub turned-more : {old then : List ℕ} → k < 16 → Rounded records decls new old t → length old ≡ length table → length then ≡ length room
+        → Turning records decls table₀ next₀ room₀ old new then t (k + 2)
     turned-more h two a b = record { turned = more-turned a b two; table-size = a ∙ y .table-size; next-size = size ∙ y .next-size; room-size = b ∙ y .room-size; low = omega arith }
 
-  pub all-turned : 16 ≤ k → Known16 text records decls table t
+  pub all-turned : 16 ≤ k → Known16 records decls table t
   all-turned h v test aims =
       let e : k ≡ longestChain = omega (arith, x .is-even, y .low) in subst (λ q. Level v test (t .out) q table) e (x .known v test aims)

@@ -12,15 +12,15 @@ use Rattle.rules.specs.Faults.Whole.{mainName, faults50}
 use Rattle.reading.specs.Reading.{Reading, tableOf}
 use Rattle.reading.specs.Laws.Meanings.{table-size}
 use Rattle.reading.specs.Laws.Names.{number-bound}
-use Rattle.whole.specs.Written.{whole}
-use Rattle.whole.specs.Laws.Written.{reading}
+use Rattle.profiling.specs.Spelt.{whole}
+use Rattle.profiling.specs.Laws.Spelt.{reading}
 use Rattle.profiling.specs.Levels.{Starting, Known16}
 use Rattle.profiling.specs.Laws.Answers.{aimed, lowest-known}
 use Rattle.profiling.specs.declared.tasks.Task.{Task}
 use Rattle.resuming.specs.Asked.{Asked, Lowest}
 
-module _ {text records decls : List ℕ} {t : Task} (g : Asked text records decls t) where
-  pub to-rounds : {table next room : List ℕ} → 65536 ≤ length table → 1028 ≤ length next → 65536 ≤ length room → Starting text records decls table next room t
+module _ {records decls : List ℕ} {t : Task} (g : Asked records decls t) where
+  pub to-rounds : {table next room : List ℕ} → 65536 ≤ length table → 1028 ≤ length next → 65536 ≤ length room → Starting records decls table next room t
   to-rounds a b c = record {
     written = g .written;
     test = g .test;
@@ -40,6 +40,6 @@ module _ {text records decls : List ℕ} {t : Task} (g : Asked text records decl
       g .written .ready .few,
     )
 
-    pub lowest-is : {table : List ℕ} {r : ℕ} → Known16 text records decls table t → r ≡ cell 2 table (2 * k + 1) → Lowest g r
+    pub lowest-is : {table : List ℕ} {r : ℕ} → Known16 records decls table t → r ≡ cell 2 table (2 * k + 1) → Lowest g r
     lowest-is known e =
         e ∙ lowest-known t known (g .written) (g .test) (aimed (g .written) (g .test) (t .aim) (g .aims)) k (main (reading (g .written)) (g .lawful))

@@ -12,6 +12,7 @@ use Rattle.reading.specs.Meanings.{declares}
 use Rattle.reading.specs.Laws.Meanings.{view}
 use Rattle.whole.specs.Written.{Written}
 use Rattle.whole.specs.Laws.Written.{reading}
+use Rattle.profiling.specs.Spelt.{SpeltDescription}
 use Rattle.naming.specs.Names.{isStorage}
 use Rattle.reader.specs.Judged.{Accepts, described-by}
 
@@ -23,6 +24,18 @@ written-by {text} {values = values} v = record {
   description = described-by v;
   ready = v .lawful .declares .ready;
   count = v .lawful .declares .count;
+}
+
+-- the same with its names spelled
+abbrev pub spelt-by : {text records values decls : List ℕ} {m words n : ℕ} → Accepts text records values decls m words n → SpeltDescription records decls m n
+spelt-by {text} {values = values} v = record {
+  text = text;
+  values = values;
+  tokens = scan text .tokens;
+  description = described-by v;
+  ready = v .lawful .declares .ready;
+  count = v .lawful .declares .count;
+  spelled = v .lawful .declares .spelled;
 }
 
 -- the declaration k of an accepted description, whose name is the token p

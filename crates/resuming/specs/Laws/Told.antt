@@ -35,7 +35,7 @@ use Rattle.whole.specs.Laws.Written.{reading}
 use Rattle.naming.specs.Names.{Test, Output}
 use Rattle.resuming.specs.Asked.{Asked, Lowest}
 use Rattle.resuming.specs.Told.{Told}
-use Rattle.resuming.specs.Laws.Outputs.{written-by}
+use Rattle.resuming.specs.Laws.Outputs.{written-by, spelt-by}
 use Rattle.resuming.specs.Laws.Near.{places-under, written-near}
 
 -- the profile, by what the names mean
@@ -72,9 +72,9 @@ module _ (test output : List ℕ) {text records values decls : List ℕ} {m word
       abbrev task : Task
       task = record { m = m; n = n; aim = aim; out = out }
 
-      abbrev pub to-ask : Asked text records decls task
+      abbrev pub to-ask : Asked records decls task
       to-ask = record {
-        written = written-by v;
+        written = spelt-by v;
         lawful = v .whole;
         test = folded test;
         aims = tested .there a-test .0;

@@ -6,10 +6,10 @@ use Rattle.profiling.specs.Jumping.{Seeking}
 use Rattle.profiling.specs.Laws.Labels.{seek-starts, both-named, seek-found, seek-on, around-less, seek-none}
 
 abbrev Inv-loop : tie.InvT-loop
-Inv-loop text records room n label name p₀ p = Seeking text records room n label name p
+Inv-loop records room n label name p₀ p = Seeking records room n label name p
 
 abbrev μ-loop : tie.MeasureT-loop
-μ-loop text records room n label name p₀ p = p
+μ-loop records room n label name p₀ p = p
 
 pub flag-of-spec : {M : Type 1} → statement M
 flag-of-spec =

@@ -21,5 +21,5 @@ name-spec =
     (λ c κs. search needs)
     (λ c κs. search needs)
     (λ c κs. search (needs, place-fits))
-    (λ c. name-stores (c .before .before .before .before .before .before .before .before .before .before .before .before .before .before .pre .0) (c .before .before .before .before .before .before .before .before .before .before .before .before .before .before .pre .1) (c .before .before .before .before .before .before .before .before .if1 .left) (c .before .before .before .before .before .before .before .kind-of .ensures) (c .before .before .before .before .before .before .if2 .left) (c .before .before .before .before .before .if3 .left) (c .before .before .before .before .stores .ensures) (c .before .before .before .if4 .taken) (c .before .before .place-at .ensures) (c .before .hits .ensures) (c .destine .ensures))
+    (λ c. name-stores (c .before .before .before .before .before .before .before .before .before .before .before .before .before .pre .0) (c .before .before .before .before .before .before .before .before .before .before .before .before .before .pre .1) (c .before .before .before .before .before .before .before .before .if1 .left) (c .before .before .before .before .before .before .before .kind-of .ensures) (c .before .before .before .before .before .before .if2 .left) (c .before .before .before .before .before .if3 .left) (c .before .before .before .before .stores .ensures) (c .before .before .before .if4 .taken) (c .before .before .place-at .ensures) (c .before .hits .ensures) (c .destine .ensures))
     (λ c. search (needs, name-rests)))

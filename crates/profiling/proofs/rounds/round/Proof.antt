@@ -7,10 +7,10 @@ use Rattle.profiling.proofs.rounds.round.Statement.{statement}
 use Rattle.profiling.proofs.rounds.round.Tie as tie
 
 abbrev Inv-loop : tie.InvT-loop
-Inv-loop text records decls table next₀ room₀ t m k₀ next room k = Parts text records decls table next₀ room₀ next room t k
+Inv-loop records decls table next₀ room₀ t m k₀ next room k = Parts records decls table next₀ room₀ next room t k
 
 abbrev μ-loop : tie.MeasureT-loop
-μ-loop text records decls table next₀ room₀ t m k₀ next room k = m - k
+μ-loop records decls table next₀ room₀ t m k₀ next room k = m - k
 
 pub round-spec : {M : Type 1} → statement M
 round-spec =

@@ -7,4 +7,4 @@ use Rattle.profiling.specs.Laws.Acting.{acting-kinds, jump-nowhere, jump
 pub jump-spec : {M : Type 1} → statement M
 jump-spec =
     tie.close
-    (tie.spec (λ c. search needs) (λ c κs. search (needs, acting-kinds)) (λ c. search needs) (λ c κs. search (needs, to-jump)) (λ c. search needs) (λ c. search (needs, jump-there)) (λ c. jump-nowhere (c .before .before .before .before .before .before .before .pre) (c .before .kind-of .ensures) (c .if1 .left)))
+    (tie.spec (λ c. search needs) (λ c κs. search (needs, acting-kinds)) (λ c. search needs) (λ c κs. search (needs, to-jump)) (λ c. search needs) (λ c. search (needs, jump-there)) (λ c. jump-nowhere (c .before .before .before .before .before .before .pre) (c .before .kind-of .ensures) (c .if1 .left)))

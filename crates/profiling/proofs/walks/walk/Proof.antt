@@ -7,10 +7,10 @@ use Rattle.profiling.proofs.walks.walk.Statement.{statement}
 use Rattle.profiling.proofs.walks.walk.Tie as tie
 
 abbrev Inv-loop : tie.InvT-loop
-Inv-loop text records decls table room₀ t name from n s₀ reading₀ i₀ room s reading i = Going text records decls table room₀ room t name from s reading i
+Inv-loop records decls table room₀ t name from n s₀ reading₀ i₀ room s reading i = Going records decls table room₀ room t name from s reading i
 
 abbrev μ-loop : tie.MeasureT-loop
-μ-loop text records decls table room₀ t name from n s₀ reading₀ i₀ room s reading i = n - i
+μ-loop records decls table room₀ t name from n s₀ reading₀ i₀ room s reading i = n - i
 
 pub walk-spec : {M : Type 1} → statement M
 walk-spec =
