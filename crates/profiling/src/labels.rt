@@ -48,11 +48,14 @@ fn flag_of(records: &[u8], room: &[u8], n: usize, label: usize, name: usize) -> 
     NONE
 }
 
-// LEAVE of the name: control comes to the end of the label.
+// LEAVE of the name: control comes to the end of the label. One that control does not come to marks nothing, so its label is not looked for.
 pub fn leave(records: &[u8], room: &mut [u8], n: usize, name: usize, s: Nest) -> Nest
     requires { ⌜ Jumping (now records) (now room) n name s ⌝ }
     ensures { λ r. ⌜ Left (now (records .entry)) (now (room .entry)) (now (room .exit)) n name s r ⌝ }
 {
+    if !s.comes {
+        return s;
+    }
     let k = flag_of(records, room, n, s.label, name);
     if k < NONE {
         mark(room, k, s.comes);

@@ -19,7 +19,7 @@ use Rattle.profiling.specs.Holding.{unseen, labelCell, Linked, unlinked,
 use Rattle.profiling.specs.Grouping.{nest}
 use Rattle.profiling.specs.Walking.{Labels, FlagFound}
 use Rattle.profiling.specs.Jumping.{Sought, Seeking, Jumping, Left}
-use Rattle.profiling.specs.Laws.Holding.{put-size, put-same, put-here, linked-kept, frames-kept, frames-later, flagged-kept, flagged-set, set-labels, set-frames}
+use Rattle.profiling.specs.Laws.Holding.{put-size, put-same, put-here, linked-kept, frames-kept, frames-later, flagged-kept, flagged-set, set-none, set-labels, set-frames}
 use Rattle.profiling.specs.Laws.Grouping.{linked-low}
 use Rattle.profiling.specs.declared.nests.Nest.{Nest}
 
@@ -185,6 +185,40 @@ to-seek j = record {
   space = j .shows .space;
 }
 
+left-places : (o : Option ℕ) (z : State) → least unseen (z .marks .places) ≡ least unseen (markedAt o (z .comes) (z .marks) .places)
+left-places none z = refl
+left-places (some k) z = refl
+
+-- that control does not come to
+pub left-idle : {records old : List ℕ} {n : ℕ} (name : ℕ) {x : Nest} → x .comes ≡ false → Left records old old n name x x
+left-idle {old = old} name {x} e w i z s =
+    record {
+      space = s .space;
+      few = s .few;
+      depth-is = s .depth-is;
+      shallow = s .shallow;
+      free-is = s .free-is;
+      free-low = s .free-low;
+      labels = s .labels;
+      flag-is = s .flag-is;
+      flag-low = s .flag-low;
+      comes-is = s .comes-is;
+      choosing-is = s .choosing-is;
+      begun-is = s .begun-is;
+      place-is = s .place-is;
+      place-low = s .place-low;
+      hit-is = s .hit-is;
+      low-is = s .low-is ∙ left-places (flagOf (z .labels) (wordAt (w .tokens) name)) z;
+      frames = s .frames;
+      flags = by (flagOf (z .labels) (wordAt (w .tokens) name));
+    }
+  where
+    by : (o : Option ℕ) → Flagged old (markedAt o (z .comes) (z .marks))
+    by none = s .flags
+    by (some j) =
+        let g : Flagged old (marked j (x .comes) (z .marks)) = flagged-set (set-none e) (s .flags) in
+        subst (λ b. Flagged old (marked j b (z .marks))) (s .comes-is) g
+
 module _ {records old : List ℕ} {n name k : ℕ} {x : Nest} (found : (w : Spelt records n) (i : ℕ) (ls : List Slot) → Linked (w .tokens) old i (x .label) ls
     → FlagFound (flagOf ls (wordAt (w .tokens) name)) k) where
   pub left-flag : {new : List ℕ} → k < 64 → Set old new k (x .comes) → Left records old new n name x x
@@ -205,15 +239,11 @@ module _ {records old : List ℕ} {n name k : ℕ} {x : Nest} (found : (w : Spel
         place-is = s .place-is;
         place-low = s .place-low;
         hit-is = s .hit-is;
-        low-is = s .low-is ∙ places (flagOf (z .labels) (wordAt (w .tokens) name));
+        low-is = s .low-is ∙ left-places (flagOf (z .labels) (wordAt (w .tokens) name)) z;
         frames = set-frames s set h;
         flags = by (flagOf (z .labels) (wordAt (w .tokens) name)) (found w i (z .labels) (s .labels));
       }
     where
-      places : (o : Option ℕ) → least unseen (z .marks .places) ≡ least unseen (markedAt o (z .comes) (z .marks) .places)
-      places none = refl
-      places (some k) = refl
-
       by : (o : Option ℕ) → FlagFound o k → Flagged new (markedAt o (z .comes) (z .marks))
       by none e = absurd (omega arith)
       by (some j) e =
