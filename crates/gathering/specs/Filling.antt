@@ -10,12 +10,13 @@ use Rattle.rules.specs.Limits.{longestChain}
 use Rattle.rules.specs.Whole.Sets.{chainOver}
 use Rattle.table.specs.Words.{wordAt}
 use Rattle.reading.specs.Reading.{Reading, tableOf}
-use Rattle.gathering.specs.Memory.{markOf, Recalls, Remembers}
+use Rattle.gathering.specs.Memory.{markOf, carrierOf, Carrying, Recalls, Remembers}
 
 -- what gathering starts from
 pub record Fillable (records decls memo : List ℕ) (m n : ℕ) : Type 0 where
   pub reading : Reading records decls m n
   pub room : 72 * m ≤ length memo
+  pub carrying : Carrying records decls memo m n
   pub remembers : (v : Reading records decls m n) → Remembers v memo
   pub short : (v : Reading records decls m n) (w : Word) → chainOver (tableOf v) longestChain w ≡ false
 
@@ -31,6 +32,7 @@ AllDone v memo (w ∷ ws) = Done v memo w × AllDone v memo ws
 pub record Grows (records decls old new : List ℕ) (m n : ℕ) : Type 0 where
   pub remembers : (v : Reading records decls m n) → Remembers v new
   pub kept : (k : ℕ) → (markOf old k ≡ 0 → ⊥) → markOf new k ≡ 0 → ⊥
+  pub carriers : (k : ℕ) → carrierOf new k ≡ carrierOf old k
 
 -- what gathering gives of the name i
 pub record Fills (records decls old new : List ℕ) (m n i : ℕ) : Type 0 where
@@ -39,4 +41,5 @@ pub record Fills (records decls old new : List ℕ) (m n i : ℕ) : Type 0 where
 
 -- every declared name is remembered
 pub record Complete (records decls memo : List ℕ) (m n : ℕ) : Type 0 where
+  pub carrying : Carrying records decls memo m n
   pub recalls : (v : Reading records decls m n) (w : Word) → Recalls v memo w

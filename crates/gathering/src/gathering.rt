@@ -1,12 +1,13 @@
 // What each body reads and writes, gathered once, by recursion down its activations. The remaining length of the chain falls.
+use crate::memory::mark_in;
 use crate::memory::nothing;
 use crate::memory::put_word;
 use crate::memory::remember;
 use crate::touches::touched;
 use cells::get16;
-use cells::get64;
 use reading::bodies::body_at;
 use reading::calls::next_call;
+use reading::names::carrier;
 use table::records::inside_at;
 ghost use mathlib.Core.Path.{_≡_};
 ghost use mathlib.Core.Bool.{false};
@@ -21,7 +22,7 @@ ghost use Rattle.reading.specs.Reading.{Reading, tableOf};
 ghost use Rattle.reading.specs.Events.{heard};
 ghost use Rattle.reading.specs.Calls.{callsOf};
 ghost use Rattle.gathering.specs.Filling.{Fillable, Fills, Grows, AllDone, Complete};
-ghost use Rattle.gathering.specs.Memory.{markOf};
+ghost use Rattle.gathering.specs.Memory.{markOf, CarrierOf, Carrying};
 
 // Gathers the body of the name i, whose chains are at most left bodies long.
 pub fn gather(
@@ -41,7 +42,7 @@ pub fn gather(
     if m <= k {
         return;
     }
-    if get64(memo, 9 * k) != 0 {
+    if mark_in(memo, 9 * k) != 0 {
         return;
     }
     let body = body_at(records, decls, m, n, k);
@@ -85,14 +86,28 @@ fn descend(
     }
 }
 
-// Takes all marks away.
-fn forget(memo: &mut [u8], m: usize)
-    requires { ⌜ (m ≤ 256) × (72 * m ≤ length (now memo)) ⌝ }
-    ensures { λ _. ⌜ ((k : ℕ) → k < m → markOf (now (memo .exit)) k ≡ 0) ⌝ }
+// The storage carrier under the name of the declaration k; 256 where there is none.
+fn own_carrier(records: &[u8], decls: &[u8], m: usize, n: usize, k: usize) -> u64
+    requires { ⌜ Reading (now records) (now decls) m n × (k < m) ⌝ }
+    ensures { λ r. ⌜ (r ≤ 256) × ((v : Reading (now (records .entry)) (now (decls .entry)) m n) → CarrierOf v k r) ⌝ }
+{
+    let p = get16(decls, k) as usize;
+    let c = carrier(records, decls, m, n, p);
+    if c < 256 {
+        return c as u64;
+    }
+    256
+}
+
+// Notes the carriers, and takes all marks away.
+fn note_carriers(records: &[u8], decls: &[u8], memo: &mut [u8], m: usize, n: usize)
+    requires { ⌜ Reading (now records) (now decls) m n × (72 * m ≤ length (now memo)) ⌝ }
+    ensures { λ _. ⌜ Carrying (now (records .entry)) (now (decls .entry)) (now (memo .exit)) m n × ((k : ℕ) → k < m → markOf (now (memo .exit)) k ≡ 0) ⌝ }
 {
     let mut k: usize = 0;
     while k < m {
-        put_word(memo, 9 * k, 0);
+        let c = own_carrier(records, decls, m, n, k);
+        put_word(memo, 9 * k, 4 * c);
         k += 1;
     }
 }
@@ -103,7 +118,7 @@ pub fn gather_all(records: &[u8], decls: &[u8], memo: &mut [u8], m: usize, n: us
         × ((v : Reading (now records) (now decls) m n) (w : Name) → chainOver (tableOf v) longestChain w ≡ false)) ⌝ }
     ensures { λ _. ⌜ Complete (now (records .entry)) (now (decls .entry)) (now (memo .exit)) m n ⌝ }
 {
-    forget(memo, m);
+    note_carriers(records, decls, memo, m, n);
     let mut k: usize = 0;
     while k < m {
         gather(records, decls, memo, m, n, get16(decls, k) as usize, 16);

@@ -1,15 +1,16 @@
-// What is gathered of each body, kept in 72 lent bytes for a declaration.
+// What is gathered of each body, and the storage carrier under its name, kept in 72 lent bytes for a declaration.
 use cells::get64;
 use cells::put64;
 use reading::bits::Set;
 use reading::bits::empty;
 ghost use mathlib.Core.Path.{_≡_};
 ghost use mathlib.Core.Bool.{false};
-ghost use Prim.Native.Nat.{ℕ, _+_, _*_, _≤_};
+ghost use Prim.Native.Nat.{ℕ, _+_, _*_, _/_, _%_, _≤_};
 ghost use lib.Dec.{eqb};
 ghost use lib.ListN.{length};
+ghost use Rattle.cells.specs.Cells.{cell};
 ghost use Rattle.reading.specs.Bits.{holds};
-ghost use Rattle.gathering.specs.Memory.{Put, PutWords, Stored, wordsAt, markOf, readsAt, writesAt, markFor};
+ghost use Rattle.gathering.specs.Memory.{Put, PutWords, Stored, wordsAt, markOf, carrierOf, readsAt, writesAt, markFor};
 
 // What an action reads and writes, and whether it may stop.
 pub struct Touched {
@@ -45,14 +46,30 @@ fn put_set(memo: &mut [u8], c: usize, s: Set)
     put_word(memo, c + 3, s.w[3]);
 }
 
-// The mark of a body that is gathered.
-fn mark(stops: bool) -> u64
-    ensures { λ r. ⌜ r ≡ markFor stops ⌝ }
+// The mark in the cell c.
+pub fn mark_in(memo: &[u8], c: usize) -> u64
+    requires { ⌜ 8 * c + 8 ≤ length (now memo) ⌝ }
+    ensures { λ r. ⌜ r ≡ cell 8 (now (memo .entry)) c % 4 ⌝ }
+{
+    get64(memo, c) % 4
+}
+
+// The word of a declaration, with the mark of a body that is gathered.
+fn marked(word: u64, stops: bool) -> u64
+    ensures { λ r. ⌜ (r % 4 ≡ markFor stops) × (r / 4 ≡ word / 4) ⌝ }
 {
     if stops {
-        return 2;
+        return word / 4 * 4 + 2;
     }
-    1
+    word / 4 * 4 + 1
+}
+
+// The storage carrier under the name of the declaration k; from 256 on there is none.
+pub fn carrier_at(memo: &[u8], k: usize) -> usize
+    requires { ⌜ 72 * k + 72 ≤ length (now memo) ⌝ }
+    ensures { λ r. ⌜ r ≡ carrierOf (now (memo .entry)) k ⌝ }
+{
+    (get64(memo, 9 * k) / 4) as usize
 }
 
 pub fn remember(memo: &mut [u8], k: usize, t: Touched)
@@ -64,7 +81,8 @@ pub fn remember(memo: &mut [u8], k: usize, t: Touched)
     let stops = t.stops;
     put_set(memo, 9 * k + 1, reads);
     put_set(memo, 9 * k + 5, writes);
-    put_word(memo, 9 * k, mark(stops));
+    let word = get64(memo, 9 * k);
+    put_word(memo, 9 * k, marked(word, stops));
 }
 
 fn set_at(memo: &[u8], c: usize) -> Set
@@ -88,6 +106,6 @@ pub fn recalled(memo: &[u8], k: usize) -> Touched
     Touched {
         reads: set_at(memo, 9 * k + 1),
         writes: set_at(memo, 9 * k + 5),
-        stops: get64(memo, 9 * k) == 2,
+        stops: mark_in(memo, 9 * k) == 2,
     }
 }

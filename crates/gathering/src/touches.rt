@@ -1,5 +1,6 @@
 // What an action reads and writes, and whether it may stop, gathered from its tokens and from what is remembered of the bodies it activates.
 use crate::memory::Touched;
+use crate::memory::carrier_at;
 use crate::memory::nothing;
 use crate::memory::recalled;
 use crate::steps::step;
@@ -8,7 +9,6 @@ use reading::bits::only;
 use reading::bits::union;
 use reading::kinds::kind_of;
 use reading::kinds::stores;
-use reading::names::carrier;
 use table::kinds::LPAR;
 use table::kinds::NAME;
 use table::kinds::STOP;
@@ -19,15 +19,18 @@ ghost use mathlib.Core.Bool.{_||_, true};
 ghost use mathlib.Core.List.{List};
 ghost use Prim.Native.Nat.{ℕ, _*_, _<_, _≤_};
 ghost use lib.ListN.{length};
-ghost use Rattle.rules.specs.Whole.Sets.{member};
+ghost use Rattle.rules.specs.Whole.Sets.{owner, member};
 ghost use Rattle.table.specs.Holds.{kindByte};
 ghost use Rattle.table.specs.Words.{wordAt};
-ghost use Rattle.reading.specs.Reading.{Reading};
+ghost use Rattle.reading.specs.Reading.{Reading, tableOf};
 ghost use Rattle.reading.specs.Names.{Owned};
 ghost use Rattle.reading.specs.Behind.{ComesTo};
 ghost use Rattle.reading.specs.Bits.{holds};
-ghost use Rattle.gathering.specs.Memory.{Recalls};
+ghost use Rattle.gathering.specs.Memory.{Carrying, Recalls};
 ghost use Rattle.gathering.specs.Shown.{Touches, Hears, Gathers};
+
+// No carrier: above every number of a declaration.
+const NO_CARRIER: usize = 65535;
 
 // The set with the carrier c; from 256 on there is none.
 fn with(s: Set, c: usize) -> Set
@@ -101,6 +104,19 @@ fn called(records: &[u8], decls: &[u8], memo: &[u8], m: usize, n: usize, i: usiz
     recalled(memo, k)
 }
 
+// The storage carrier under the name i, as it is remembered; from 256 on there is none.
+fn carried(records: &[u8], decls: &[u8], memo: &[u8], m: usize, n: usize, i: usize) -> usize
+    requires { ⌜ Reading (now records) (now decls) m n × ((i < n) × ((kindByte (now records) i ≡ 0) × ((72 * m ≤ length (now memo))
+        × Carrying (now records) (now decls) (now memo) m n))) ⌝ }
+    ensures { λ r. ⌜ ((v : Reading (now (records .entry)) (now (decls .entry)) m n) → Owned (owner (tableOf v) (wordAt (v .tokens) i)) r) ⌝ }
+{
+    let k = inside_at(records, i);
+    if m <= k {
+        return NO_CARRIER;
+    }
+    carrier_at(memo, k)
+}
+
 // What is gathered with the name i.
 fn named(
     records: &[u8],
@@ -112,18 +128,19 @@ fn named(
     mode: usize,
     t: Touched,
 ) -> Touched
-    requires { ⌜ Reading (now records) (now decls) m n × ((i < n) × ((kindByte (now records) i ≡ 0) × (72 * m ≤ length (now memo)))) ⌝ }
+    requires { ⌜ Reading (now records) (now decls) m n × ((i < n) × ((kindByte (now records) i ≡ 0) × ((72 * m ≤ length (now memo))
+        × Carrying (now records) (now decls) (now memo) m n))) ⌝ }
     ensures { λ r. ⌜ Hears (now (records .entry)) (now (decls .entry)) (now (memo .entry)) m n mode i (t .reads .w) (t .writes .w) (t .stops) (r .reads .w) (r .writes .w) (r .stops) ⌝ }
 {
     if mode != 0 {
-        return reading(t, carrier(records, decls, m, n, i));
+        return reading(t, carried(records, decls, memo, m, n, i));
     }
     let next = kind_of(records, n, i + 1);
     if next == LPAR {
         return joined(t, called(records, decls, memo, m, n, i));
     }
     if stores(next) {
-        return writing(t, carrier(records, decls, m, n, i));
+        return writing(t, carried(records, decls, memo, m, n, i));
     }
     t
 }
@@ -136,7 +153,7 @@ pub struct Extent {
 
 // Passes over the action at from.
 pub fn passed(records: &[u8], decls: &[u8], memo: &[u8], m: usize, n: usize, from: usize) -> Extent
-    requires { ⌜ Reading (now records) (now decls) m n × (72 * m ≤ length (now memo)) ⌝ }
+    requires { ⌜ Reading (now records) (now decls) m n × ((72 * m ≤ length (now memo)) × Carrying (now records) (now decls) (now memo) m n) ⌝ }
     ensures { λ r. ⌜ Gathers (now (records .entry)) (now (decls .entry)) (now (memo .entry)) m n from (r .touched .reads .w) (r .touched .writes .w) (r .touched .stops)
         × ComesTo (now (records .entry)) n from (r .at) ⌝ }
 {
@@ -178,7 +195,7 @@ pub fn touched(
     n: usize,
     from: usize,
 ) -> Touched
-    requires { ⌜ Reading (now records) (now decls) m n × (72 * m ≤ length (now memo)) ⌝ }
+    requires { ⌜ Reading (now records) (now decls) m n × ((72 * m ≤ length (now memo)) × Carrying (now records) (now decls) (now memo) m n) ⌝ }
     ensures { λ r. ⌜ Gathers (now (records .entry)) (now (decls .entry)) (now (memo .entry)) m n from (r .reads .w) (r .writes .w) (r .stops) ⌝ }
 {
     let own = passed(records, decls, memo, m, n, from);

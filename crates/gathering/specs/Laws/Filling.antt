@@ -1,5 +1,5 @@
 -- Laws of gathering: no chain of activations is over 16 bodies long, so each body is gathered once and is right.
-use Prim.Native.Nat.{ℕ, zero, suc, _+_, _-_, _*_, _<_, _≤_}
+use Prim.Native.Nat.{ℕ, zero, suc, _+_, _-_, _*_, _/_, _%_, _<_, _≤_}
 use mathlib.Core.Path.{_≡_, refl, sym, ap, _∙_, subst}
 use mathlib.Core.Bool.{Bool, true, false, false≢true}
 use mathlib.Core.List.{List, [], _∷_, _++_, append-assoc, append-nil}
@@ -10,10 +10,10 @@ use lib.Dec.{eqb}
 use lib.ListN.{length, drop}
 use Rattle.cells.specs.Cells.{cell}
 use Rattle.rules.specs.Text.Tokens.{Name, Token, tk, kindNo}
-use Rattle.rules.specs.Declarations.{Name as Word, declaredOf, numberOf, bodyNumber, bodyOf}
+use Rattle.rules.specs.Declarations.{Name as Word, declaredOf, numberOf, reach, reachNumber, bodyNumber, bodyOf}
 use Rattle.rules.specs.Steps.Runs.{bodyAct, actOr}
 use Rattle.rules.specs.Limits.{longestChain}
-use Rattle.rules.specs.Whole.Sets.{Sets, setsOf, bodySets, stopsIn, bodyStops, callsIn, anyName, chainOver, member}
+use Rattle.rules.specs.Whole.Sets.{Sets, owner, ownerIn, setsOf, bodySets, stopsIn, bodyStops, callsIn, anyName, chainOver, member}
 use Rattle.table.specs.Holds.{kindByte, tokenAt, insideCell}
 use Rattle.table.specs.Words.{wordAt}
 use Rattle.laws_orders.specs.Orders.Chains.{sets-closed, stops-closed}
@@ -31,7 +31,8 @@ use Rattle.reading.specs.Calls.{callsOf, NextCall}
 use Rattle.reading.specs.Bodies.{actAt, Body}
 use Rattle.reading.specs.Laws.Bodies.{any-of-body, body-calls}
 use Rattle.reading.specs.Bits.{holds}
-use Rattle.gathering.specs.Memory.{Put, Stored, markOf, markFor, Entry, Remembers}
+use Rattle.reading.specs.Names.{Owned}
+use Rattle.gathering.specs.Memory.{Put, Stored, markOf, carrierOf, markFor, Entry, CarrierOf, Carrying, Remembers}
 use Rattle.gathering.specs.Laws.Memory.{entry-kept}
 use Rattle.gathering.specs.Shown.{Shown, AllRecalled, Gathers}
 use Rattle.gathering.specs.Filling.{AllDone, Grows, Fillable, Fills, Complete}
@@ -87,7 +88,7 @@ module _ {records decls : List ℕ} {m n k : ℕ} (v : Reading records decls m n
     where
       other : (j : ℕ) → (j ≡ k → ⊥) → (markOf new j ≡ 0 → ⊥) → (x : Word) → numberOf (tableOf v) x ≡ some j → Entry new j (bodySets (tableOf v) longestChain x)
           (bodyStops (tableOf v) longestChain x)
-      other j ne n x e = entry-kept st j ne (o .right j (λ z. n (st .elsewhere (9 * j) (λ p q. ne (omega arith)) ∙ z)) x e)
+      other j ne n x e = entry-kept st j ne (o .right j (λ z. n (ap (λ (y : ℕ). y % 4) (st .elsewhere (9 * j) (λ p q. ne (omega arith))) ∙ z)) x e)
 
       by : (j : ℕ) → (markOf new j ≡ 0 → ⊥) → (x : Word) → numberOf (tableOf v) x ≡ some j → Dec (j < k) → Dec (k < j)
           → Entry new j (bodySets (tableOf v) longestChain x) (bodyStops (tableOf v) longestChain x)
@@ -107,13 +108,31 @@ stored-kept : {old new r w : List ℕ} {k : ℕ} (s : Bool) → Stored old new k
 stored-kept {new = new} {k = k} s st j n z = by (decLt j k) (decLt k j)
   where
     by : Dec (j < k) → Dec (k < j) → ⊥
-    by (yes l) _ = n (sym (st .elsewhere (9 * j) (λ p q. omega arith)) ∙ z)
-    by (no _) (yes l) = n (sym (st .elsewhere (9 * j) (λ p q. omega arith)) ∙ z)
+    by (yes l) _ = n (ap (λ (y : ℕ). y % 4) (sym (st .elsewhere (9 * j) (λ p q. omega arith))) ∙ z)
+    by (no _) (yes l) = n (ap (λ (y : ℕ). y % 4) (sym (st .elsewhere (9 * j) (λ p q. omega arith))) ∙ z)
     by (no p) (no q) = let e : j ≡ k = omega arith in is-marked s (sym (st .marked) ∙ (ap (markOf new) (sym e) ∙ z))
+
+-- storing keeps the carriers
+stored-carriers : {old new r w : List ℕ} {k mark : ℕ} → Stored old new k r w mark → (j : ℕ) → carrierOf new j ≡ carrierOf old j
+stored-carriers {old} {new} {k = k} st j = by (decLt j k) (decLt k j)
+  where
+    by : Dec (j < k) → Dec (k < j) → carrierOf new j ≡ carrierOf old j
+    by (yes l) _ = ap (λ (y : ℕ). y / 4) (st .elsewhere (9 * j) (λ p q. omega arith))
+    by (no _) (yes l) = ap (λ (y : ℕ). y / 4) (st .elsewhere (9 * j) (λ p q. omega arith))
+    by (no p) (no q) = let e : j ≡ k = omega arith in ap (carrierOf new) e ∙ (st .carrier ∙ ap (carrierOf old) (sym e))
+
+carriers-kept : {records decls old new : List ℕ} {m n : ℕ} → Carrying records decls old m n → ((k : ℕ) → carrierOf new k ≡ carrierOf old k)
+    → Carrying records decls new m n
+carriers-kept c s = record { carries = λ v k l. subst (CarrierOf v k) (sym (s k)) (c .carries v k l) }
+
+-- with what is gathered below a body
+pub still-carrying : {records decls memo below : List ℕ} {m n : ℕ} → Fillable records decls memo m n → Grows records decls memo below m n
+    → Carrying records decls below m n
+still-carrying f g = carriers-kept (f .carrying) (g .carriers)
 
 module _ {records decls memo : List ℕ} {m n i k : ℕ} (f : Fillable records decls memo m n) (h : i < n) (e : kindByte records i ≡ kindNo Name) (q : k ≡ insideCell records i) where
   same-memo : Grows records decls memo memo m n
-  same-memo = record { remembers = f .remembers; kept = λ j a. a }
+  same-memo = record { remembers = f .remembers; kept = λ j a. a; carriers = λ j. refl }
 
   pub fill-unknown : m ≤ k → Fills records decls memo memo m n i
   fill-unknown l = record {
@@ -139,6 +158,7 @@ module _ {records decls memo : List ℕ} {m n i k : ℕ} (f : Fillable records d
       grows = record {
         remembers = λ v. stored-right v (f .short v) (g .remembers v) (a v) (b v) (c v) st;
         kept = λ j x. stored-kept s st j (g .kept j x);
+        carriers = λ j. stored-carriers st j ∙ g .carriers j;
       };
       done = λ v. record { marked = λ j x z. is-marked s (sym (st .marked) ∙ (ap (markOf new) (sym (own v j x)) ∙ z)) };
     }
@@ -212,7 +232,7 @@ go-down from left f c = record {
   counted = omega arith;
   size = refl;
   fillable = f;
-  grows = record { remembers = f .remembers; kept = λ j a. a };
+  grows = record { remembers = f .remembers; kept = λ j a. a; carriers = λ j. refl };
   short = c;
   so-far = λ v. ([], tt, refl);
 }
@@ -250,10 +270,15 @@ module _ {records decls old memo : List ℕ} {m n from left at depth mode name n
       fillable = record {
         reading = inv .fillable .reading;
         room = omega (arith, inv .fillable .room, same);
+        carrying = still-carrying (inv .fillable) (x .grows);
         remembers = x .grows .remembers;
         short = inv .fillable .short;
       };
-      grows = record { remembers = x .grows .remembers; kept = λ j a. x .grows .kept j (inv .grows .kept j a) };
+      grows = record {
+        remembers = x .grows .remembers;
+        kept = λ j a. x .grows .kept j (inv .grows .kept j a);
+        carriers = λ j. x .grows .carriers j ∙ inv .grows .carriers j;
+      };
       short = λ v. parts v .1;
       so-far = λ v.
           let y = inv .so-far v in (
@@ -274,28 +299,74 @@ module _ {records decls memo : List ℕ} {m n : ℕ} (f : Fillable records decls
   pub few-declared : m ≤ 256
   few-declared = f .reading .ready .few
 
--- all marks are taken away
-pub record Forgetting (old memo : List ℕ) (m k : ℕ) : Type 0 where
+-- the carrier under the name p of the declaration k
+module _ {records decls : List ℕ} {m n k p : ℕ} (l : k < m) (at : p ≡ cell 2 decls k) where
+  there : (v : Reading records decls m n) → (p < length (v .tokens)) × (tokenAt (v .tokens) p ≡ tk Name (declaredOf (declares v k l .declaration) .name))
+  there v = name-there l at v
+
+  pub name-inside : Reading records decls m n → p < n
+  name-inside v = omega (arith, there v .0, v .count)
+
+  pub name-kind : Reading records decls m n → kindByte records p ≡ kindNo Name
+  name-kind v = v .ready .holds .entry p (there v .0) .kind ∙ ap (λ (t : Token). kindNo (t .kind)) (there v .1)
+
+  name-number : (v : Reading records decls m n) → numberOf (tableOf v) (wordAt (v .tokens) p) ≡ some k
+  name-number v = ap (λ (t : Token). numberOf (tableOf v) (t .info .word)) (there v .1) ∙ own-number v k (declaredOf (declares v k l .declaration))
+      (declares v k l .found)
+
+  same-owner : (v : Reading records decls m n) (w : Word) → numberOf (tableOf v) w ≡ some k → owner (tableOf v) (wordAt (v .tokens) p) ≡ owner (tableOf v) w
+  unfolding owner reach
+  same-owner v w e = ap (λ (o : Option ℕ). ownerIn (reachNumber (tableOf v) o)) (name-number v ∙ sym e)
+
+  module _ {c : ℕ} (o : (v : Reading records decls m n) → Owned (owner (tableOf v) (wordAt (v .tokens) p)) c) where
+    pub carrier-one : (v : Reading records decls m n) → CarrierOf v k c
+    carrier-one v = record { owned = λ w e. subst (λ (xs : List ℕ). Owned xs c) (same-owner v w e) (o v) }
+
+    pub carrier-none : 256 ≤ c → (v : Reading records decls m n) → CarrierOf v k 256
+    carrier-none h v = record {
+      owned = λ w e. record { one = λ x. absurd (omega arith); nothing = λ x. sym (same-owner v w e) ∙ o v .nothing h };
+    }
+
+-- the carriers before k are noted
+pub record Noting (records decls old memo : List ℕ) (m n k : ℕ) : Type 0 where
   pub within : k ≤ m
   pub size : length memo ≡ length old
   pub room : 72 * m ≤ length memo
+  pub reading : Reading records decls m n
   pub gone : (j : ℕ) → j < k → markOf memo j ≡ 0
+  pub noted : (j : ℕ) → j < k → (v : Reading records decls m n) → CarrierOf v j (carrierOf memo j)
 
-pub forget-more : {old memo new : List ℕ} {m k : ℕ} → Forgetting old memo m k → k < m → length new ≡ length memo → Put memo new (9 * k) 0
-    → Forgetting old new m (k + 1)
-forget-more {memo = memo} {new} {k = k} inv h s p = record {
+pub note-none : {records decls memo : List ℕ} {m n : ℕ} → Reading records decls m n → 72 * m ≤ length memo → Noting records decls memo memo m n 0
+note-none x r = record { within = omega arith; size = refl; room = r; reading = x; gone = λ j l. absurd (omega arith); noted = λ j l. absurd (omega arith) }
+
+pub note-more : {records decls old memo new : List ℕ} {m n k c : ℕ} → Noting records decls old memo m n k → k < m → length new ≡ length memo
+    → ((v : Reading records decls m n) → CarrierOf v k c) → Put memo new (9 * k) (4 * c) → Noting records decls old new m n (k + 1)
+note-more {records} {decls} {memo = memo} {new} {m} {n} {k} {c} inv h s o p = record {
   within = omega arith;
   size = s ∙ inv .size;
   room = omega (arith, inv .room);
-  gone = λ j l. by j l (decLt j k);
+  reading = inv .reading;
+  gone = λ j l. marks j l (decLt j k);
+  noted = λ j l. carriers j l (decLt j k);
 }
   where
-    by : (j : ℕ) → j < k + 1 → Dec (j < k) → markOf new j ≡ 0
-    by j l (yes q) = p .elsewhere (9 * j) (λ e. omega arith) ∙ inv .gone j q
-    by j l (no q) = let e : j ≡ k = omega arith in ap (markOf new) e ∙ p .here
+    marks : (j : ℕ) → j < k + 1 → Dec (j < k) → markOf new j ≡ 0
+    marks j l (yes q) = ap (λ (y : ℕ). y % 4) (p .elsewhere (9 * j) (λ e. omega arith)) ∙ inv .gone j q
+    marks j l (no q) = let e : j ≡ k = omega arith in ap (markOf new) e ∙ (ap (λ (y : ℕ). y % 4) (p .here) ∙ omega arith)
 
-pub forgotten : {old memo : List ℕ} {m k : ℕ} → Forgetting old memo m k → m ≤ k → (j : ℕ) → j < m → markOf memo j ≡ 0
-forgotten inv h j l = inv .gone j (omega arith)
+    carriers : (j : ℕ) → j < k + 1 → Dec (j < k) → (v : Reading records decls m n) → CarrierOf v j (carrierOf new j)
+    carriers j l (yes q) v = subst (CarrierOf v j) (ap (λ (y : ℕ). y / 4) (sym (p .elsewhere (9 * j) (λ e. omega arith)))) (inv .noted j q v)
+    carriers j l (no q) v =
+        let e : k ≡ j = omega arith in
+        let here : c ≡ carrierOf new k = sym (ap (λ (y : ℕ). y / 4) (p .here) ∙ omega arith) in
+        subst (λ (y : ℕ). CarrierOf v y (carrierOf new y)) e (subst (CarrierOf v k) here (o v))
+
+module _ {records decls old memo : List ℕ} {m n k : ℕ} (inv : Noting records decls old memo m n k) (h : m ≤ k) where
+  pub all-noted : Carrying records decls memo m n
+  all-noted = record { carries = λ v j l. inv .noted j (omega arith) v }
+
+  pub all-unmarked : (j : ℕ) → j < m → markOf memo j ≡ 0
+  all-unmarked j l = inv .gone j (omega arith)
 
 -- the declarations before k are gathered
 pub record Collecting (records decls old memo : List ℕ) (m n k : ℕ) : Type 0 where
@@ -306,14 +377,16 @@ pub record Collecting (records decls old memo : List ℕ) (m n k : ℕ) : Type 0
 
 pub collect-none : {records decls old memo : List ℕ} {m n : ℕ} → Reading records decls m n → 72 * m ≤ length old
     → ((v : Reading records decls m n) (w : Word) → chainOver (tableOf v) longestChain w ≡ false) → length memo ≡ length old
+    → Carrying records decls memo m n
     → ((j : ℕ) → j < m → markOf memo j ≡ 0)
     → Collecting records decls old memo m n 0
-collect-none x room c s g = record {
+collect-none x room c s o g = record {
   within = omega arith;
   size = s;
   fillable = record {
     reading = x;
     room = omega arith;
+    carrying = o;
     remembers = λ v. record { right = λ k a w e. absurd (a (g k (omega (arith, number-bound (tableOf v) k w e, table-size v)))) };
     short = c;
   };
@@ -323,6 +396,7 @@ collect-none x room c s g = record {
 module _ {records decls old memo : List ℕ} {m n k : ℕ} (inv : Collecting records decls old memo m n k) where
   pub collected : m ≤ k → Complete records decls memo m n
   collected h = record {
+    carrying = inv .fillable .carrying;
     recalls = λ v w. record {
       entry = λ j e. inv .fillable .remembers v .right j
           (inv .done j (omega (arith, number-bound (tableOf v) j w e, table-size v))) w e;
@@ -330,15 +404,6 @@ module _ {records decls old memo : List ℕ} {m n k : ℕ} (inv : Collecting rec
   }
 
   module _ {p : ℕ} (l : k < m) (at : p ≡ cell 2 decls k) where
-    its-name : (v : Reading records decls m n) → (p < length (v .tokens)) × (tokenAt (v .tokens) p ≡ tk Name (declaredOf (declares v k l .declaration) .name))
-    its-name v = name-there l at v
-
-    pub name-inside : p < n
-    name-inside = let v = inv .fillable .reading in omega (arith, its-name v .0, v .count)
-
-    pub name-kind : kindByte records p ≡ kindNo Name
-    name-kind = let v = inv .fillable .reading in v .ready .holds .entry p (its-name v .0) .kind ∙ ap (λ (t : Token). kindNo (t .kind)) (its-name v .1)
-
     pub name-short : (v : Reading records decls m n) → chainOver (tableOf v) 16 (wordAt (v .tokens) p) ≡ false
     name-short v = inv .fillable .short v (wordAt (v .tokens) p)
 
@@ -350,16 +415,13 @@ module _ {records decls old memo : List ℕ} {m n k : ℕ} (inv : Collecting rec
         reading = inv .fillable .reading;
         room = omega
             (arith, inv .fillable .room);
+        carrying = still-carrying (inv .fillable) (x .grows);
         remembers = x .grows .remembers;
         short = inv .fillable .short;
       };
       done = λ j h. by j h (decLt j k);
     }
       where
-        number : (v : Reading records decls m n) → numberOf (tableOf v) (wordAt (v .tokens) p) ≡ some k
-        number v = ap (λ (t : Token). numberOf (tableOf v) (t .info .word)) (its-name v .1) ∙ own-number v k (declaredOf (declares v k l .declaration))
-            (declares v k l .found)
-
         by : (j : ℕ) → j < k + 1 → Dec (j < k) → markOf new j ≡ 0 → ⊥
         by j h (yes q) = x .grows .kept j (inv .done j q)
-        by j h (no q) = λ z. let v = inv .fillable .reading in let e : j ≡ k = omega arith in x .done v .marked k (number v) (ap (markOf new) (sym e) ∙ z)
+        by j h (no q) = λ z. let v = inv .fillable .reading in let e : j ≡ k = omega arith in x .done v .marked k (name-number l at v) (ap (markOf new) (sym e) ∙ z)

@@ -1,7 +1,7 @@
 -- Laws of what is remembered: it is read back, and that of other bodies stays.
-use Prim.Native.Nat.{ℕ, _+_, _*_, _^_, _<_, _≤_}
-use mathlib.Core.Path.{_≡_, ap, _∙_}
-use mathlib.Core.Bool.{Bool}
+use Prim.Native.Nat.{ℕ, _+_, _*_, _/_, _%_, _^_, _<_, _≤_}
+use mathlib.Core.Path.{_≡_, sym, ap, _∙_}
+use mathlib.Core.Bool.{Bool, true, false}
 use mathlib.Core.List.{List}
 use native.Mathlib.Omega.{arith}
 use native.Mathlib.Decide.{decLt}
@@ -12,7 +12,7 @@ use Rattle.cells.specs.Laws.{le-put-same, le-put-below, le-put-above}
 use Rattle.rules.specs.Whole.Sets.{Sets}
 use Rattle.reading.specs.Bits.{holds}
 use Rattle.reading.specs.Laws.Bits.{same-words}
-use Rattle.gathering.specs.Memory.{Put, PutWords, wordsAt, Stored, Entry}
+use Rattle.gathering.specs.Memory.{Put, PutWords, wordsAt, markFor, Stored, Entry}
 
 pub put-cell : (b : List ℕ) (i v : ℕ) → 8 * i + 8 ≤ length b → v < 2 ^ 64 → Put b (putCell 8 b i v) i v
 put-cell b i v h l = record { here = le-put-same 8 b (8 * i) v h l; elsewhere = λ j n. by j n (decLt j i) }
@@ -42,10 +42,19 @@ words-kept old new c h = same-words (wordsAt new c) (wordsAt old c) (h c (omega 
     (h (c + 2) (omega arith) (omega arith))
     (h (c + 3) (omega arith) (omega arith))
 
-pub stored : {a₀ a₁ a₂ a₃ : List ℕ} {k f mark : ℕ} (reads writes : List ℕ) → PutWords a₀ a₁ (9 * k + 1) reads → PutWords a₁ a₂ (9 * k + 5) writes
-    → Put a₂ a₃ (9 * k) f → f ≡ mark → Stored a₀ a₃ k reads writes mark
-stored {a₀} {a₁} {a₂} {a₃} {k} reads writes p q r e = record {
-  marked = r .here ∙ e;
+-- the word of a declaration takes a mark
+pub marks-stopping : {s : Bool} (word : ℕ) → s ≡ true → ((word / 4 * 4 + 2) % 4 ≡ markFor s) × ((word / 4 * 4 + 2) / 4 ≡ word / 4)
+marks-stopping word e = (let two : (word / 4 * 4 + 2) % 4 ≡ 2 = omega arith in two ∙ ap markFor (sym e), omega arith)
+
+pub marks-gathered : {s : Bool} (word : ℕ) → s ≡ false → ((word / 4 * 4 + 1) % 4 ≡ markFor s) × ((word / 4 * 4 + 1) / 4 ≡ word / 4)
+marks-gathered word e = (let one : (word / 4 * 4 + 1) % 4 ≡ 1 = omega arith in one ∙ ap markFor (sym e), omega arith)
+
+pub stored : {a₀ a₁ a₂ a₃ : List ℕ} {k f mark word : ℕ} (reads writes : List ℕ) → PutWords a₀ a₁ (9 * k + 1) reads → PutWords a₁ a₂ (9 * k + 5) writes
+    → word ≡ cell 8 a₂ (9 * k) → Put a₂ a₃ (9 * k) f → f % 4 ≡ mark → f / 4 ≡ word / 4 → Stored a₀ a₃ k reads writes mark
+stored {a₀} {a₁} {a₂} {a₃} {k} reads writes p q before r e g = record {
+  marked = ap (λ (x : ℕ). x % 4) (r .here) ∙ e;
+  carrier = ap (λ (x : ℕ). x / 4) (r .here) ∙ (g ∙ ap (λ (x : ℕ). x / 4)
+      (before ∙ (q .elsewhere (9 * k) (λ x y. omega arith) ∙ p .elsewhere (9 * k) (λ x y. omega arith))));
   reads = λ c. words-kept a₁ a₃ (9 * k + 1) (λ j l h. r .elsewhere j (λ e. omega arith) ∙ q .elsewhere j (λ x y. omega arith)) c ∙ p .words c;
   writes = λ c. words-kept a₂ a₃ (9 * k + 5) (λ j l h. r .elsewhere j (λ e. omega arith)) c ∙ q .words c;
   elsewhere = λ j n. r .elsewhere j (λ e. n (omega arith) (omega arith))
@@ -59,5 +68,5 @@ pub entry-kept : {old new : List ℕ} {k mark : ℕ} {reads writes : List ℕ} �
 entry-kept {old} {new} {k} p j n e = record {
   reads = λ c. words-kept old new (9 * j + 1) (λ i l h. p .elsewhere i (λ x y. n (omega arith))) c ∙ e .reads c;
   writes = λ c. words-kept old new (9 * j + 5) (λ i l h. p .elsewhere i (λ x y. n (omega arith))) c ∙ e .writes c;
-  stopping = ap (λ (x : ℕ). eqb x 2) (p .elsewhere (9 * j) (λ x y. n (omega arith))) ∙ e .stopping;
+  stopping = ap (λ (x : ℕ). eqb (x % 4) 2) (p .elsewhere (9 * j) (λ x y. n (omega arith))) ∙ e .stopping;
 }

@@ -24,7 +24,7 @@ use Rattle.reading.specs.Touches.{anyEvent, readHit, writeHit, stopHit}
 use Rattle.reading.specs.Calls.{callsOf}
 use Rattle.reading.specs.Laws.Calls.{calls-append, heard-ends, heard-closes, heard-on}
 use Rattle.reading.specs.Bits.{holds}
-use Rattle.gathering.specs.Memory.{Recalls, markOf, readsAt, writesAt}
+use Rattle.gathering.specs.Memory.{Recalls, Carrying, markOf, carrierOf, readsAt, writesAt}
 use Rattle.table.specs.Scans.{no as number, deeper}
 use Rattle.gathering.specs.Shown.{Shown, setsFor, stopsFor, eventAt, Hears, AllRecalled, Touches, Gathers}
 
@@ -166,6 +166,10 @@ module _ {records decls : List ℕ} {m n i k : ℕ} (h : i < n) (e : kindByte re
         its-writes = λ j. b j ∙ sym (ap (λ y. member j (setsOf (tableOf v) (bodySets (tableOf v) 15) y .writes)) o);
         its-stops = c ∙ sym (ap (λ y. stopsIn (bodyStops (tableOf v) 15) y) o);
       }
+
+  pub known-carrier : {memo : List ℕ} {r : ℕ} → k < m → r ≡ carrierOf memo k → Carrying records decls memo m n
+      → (v : Reading records decls m n) → Owned (owner (tableOf v) (wordAt (v .tokens) i)) r
+  known-carrier l a c v = subst (Owned (owner (tableOf v) (wordAt (v .tokens) i))) (sym a) (c .carries v k l .owned (wordAt (v .tokens) i) (means-number v i k h e q l))
 
   pub known-body : {r w memo : List ℕ} {s : Bool} → k < m → r ≡ readsAt memo k → w ≡ writesAt memo k → s ≡ eqb (markOf memo k) 2
       → (v : Reading records decls m n) → Recalls v memo (wordAt (v .tokens) i) → Touches v (wordAt (v .tokens) i) r w s

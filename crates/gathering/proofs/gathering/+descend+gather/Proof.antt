@@ -10,15 +10,15 @@ use Rattle.gathering.proofs.gathering.+descend+gather.Lts-descend as de
 use Rattle.gathering.proofs.gathering.gather.Reads as gather
 use Rattle.gathering.proofs.gathering.gather.Kinds as gather-kinds
 use Rattle.gathering.proofs.gathering.+descend+gather.Lts-gather as gather-lts
-use Rattle.cells.proofs.get64.Reads as get64-reads
 use Rattle.reading.proofs.bodies.body_at.Reads as body-at-reads
 use Rattle.reading.proofs.calls.next_call.Reads as next-call-reads
+use Rattle.gathering.proofs.memory.mark_in.Reads as mark-in-reads
 use Rattle.gathering.proofs.memory.nothing.Reads as nothing-reads
 use Rattle.gathering.proofs.memory.remember.Reads as remember-reads
 use Rattle.table.proofs.records.inside_at.Reads as inside-at-reads
 use Rattle.gathering.proofs.touches.touched.Reads as touched-reads
 use Rattle.reading.specs.Laws.Reading.{kinded}
-use Rattle.gathering.specs.Laws.Filling.{fill-unknown, fill-done, fill-bodiless, fill-body, chain-down, some-left, Descending, go-down, descended, call-short, call-name, call-fewer, call-done, token-room, entry-room, few-declared}
+use Rattle.gathering.specs.Laws.Filling.{fill-unknown, fill-done, fill-bodiless, fill-body, still-carrying, chain-down, some-left, Descending, go-down, descended, call-short, call-name, call-fewer, call-done, token-room, entry-room, few-declared}
 use Rattle.gathering.proofs.gathering.+descend+gather.{statement}
 use Rattle.gathering.proofs.gathering.+descend+gather.Tie.{close}
 
@@ -75,8 +75,8 @@ pub +descend+gather-spec : {M : Type 1} → statement M
     λ t. gather-lts.spec (
       inside-at-reads.Asked,
       inside-at-reads.Learnt,
-      get64-reads.Asked,
-      get64-reads.Learnt,
+      mark-in-reads.Asked,
+      mark-in-reads.Learnt,
       body-at-reads.Asked,
       body-at-reads.Learnt,
       nothing-reads.Asked,
@@ -99,7 +99,7 @@ pub +descend+gather-spec : {M : Type 1} → statement M
     (λ c. fill-done (c .before .before .before .before .before .before .before .before .pre .1 .0)
     (c .before .before .before .before .before .before .before .before .pre .1 .1 .0)
     (c .before .before .before .before .before .before .before .before .pre .1 .1 .1 .0) (c .before .before .before .before .inside-at .ensures)
-    (c .before .before .before .if1 .left) (c .before .get64 .ensures) (c .if2 .taken))
+    (c .before .before .before .if1 .left) (c .before .mark-in .ensures) (c .if2 .taken))
     (λ c κs. ((c .before .before .before .before .before .before .before .before .pre .1 .0 .reading), c .before .before .before .if1 .left))
     (λ c κs. search needs)
     (λ c κs. entry-room (c .before .before .before .before .before .before .before .before .before .before .before .before .pre .1 .0)
@@ -140,7 +140,7 @@ pub +descend+gather-spec : {M : Type 1} → statement M
         ),
       ),
     ))
-    (λ c κs. ((c .before .before .before .before .before .before .before .before .before .before .before .before .before .before .before .pre .1 .0 .reading), omega (arith, (c .before .before .before .before .before .before .before .before .before .before .before .before .before .before .before .pre .1 .0 .room), c .before .before .before .descend .kept .1 .1 .0)))
+    (λ c κs. ((c .before .before .before .before .before .before .before .before .before .before .before .before .before .before .before .pre .1 .0 .reading), (omega (arith, (c .before .before .before .before .before .before .before .before .before .before .before .before .before .before .before .pre .1 .0 .room), c .before .before .before .descend .kept .1 .1 .0), still-carrying (c .before .before .before .before .before .before .before .before .before .before .before .before .before .before .before .pre .1 .0) (c .before .before .before .descend .ensures .0))))
     (λ c κs. omega (
       arith,
       entry-room

@@ -18,4 +18,4 @@ recalled-spec =
     (λ c κs. search needs)
     (λ c. search needs)
     (λ c κs. search needs)
-    (λ c. (c .before .before .set-at .ensures, (c .before .set-at2 .ensures, ap (λ (x : ℕ). eqb x 2) (c .get64 .ensures)))))
+    (λ c. (c .before .before .set-at .ensures, (c .before .set-at2 .ensures, ap (λ (x : ℕ). eqb x 2) (c .mark-in .ensures)))))

@@ -12,7 +12,7 @@ named-spec =
     (tie.spec
     (λ c κs. search needs)
     (λ c κs. search needs)
-    (λ c. reading-carrier (c .before .before .before .before .before .before .pre .1 .0) refl (c .before .before .before .before .before .before .pre .1 .1 .0) (c .before .before .if1 .taken) (c .before .carrier .ensures) (c .reading .ensures .0) (c .reading .ensures .1 .0) (c .reading .ensures .1 .1))
+    (λ c. reading-carrier (c .before .before .before .before .before .before .pre .1 .0) refl (c .before .before .before .before .before .before .pre .1 .1 .0) (c .before .before .if1 .taken) (c .before .carried .ensures) (c .reading .ensures .0) (c .reading .ensures .1 .0) (c .reading .ensures .1 .1))
     (λ c. search needs)
     (λ c κs. search (needs, kinded))
     (λ c κs. search needs)
@@ -21,5 +21,5 @@ named-spec =
     (λ c κs. search needs)
     (λ c κs. search needs)
     (λ c κs. search needs)
-    (λ c. writing-carrier (c .before .before .before .before .before .before .before .before .before .before .pre .1 .0) refl (c .before .before .before .before .before .before .before .before .before .before .pre .1 .1 .0) (c .before .before .before .before .before .before .if1 .left) (c .before .before .before .before .before .kind-of .ensures) (c .before .before .before .before .if2 .left) (c .before .before .before .stores .ensures) (c .before .before .if3 .taken) (c .before .carrier2 .ensures) (c .writing .ensures .1 .0) (c .writing .ensures .0) (c .writing .ensures .1 .1))
+    (λ c. writing-carrier (c .before .before .before .before .before .before .before .before .before .before .pre .1 .0) refl (c .before .before .before .before .before .before .before .before .before .before .pre .1 .1 .0) (c .before .before .before .before .before .before .if1 .left) (c .before .before .before .before .before .kind-of .ensures) (c .before .before .before .before .if2 .left) (c .before .before .before .stores .ensures) (c .before .before .if3 .taken) (c .before .carried2 .ensures) (c .writing .ensures .1 .0) (c .writing .ensures .0) (c .writing .ensures .1 .1))
     (λ c. naming (c .before .before .before .before .before .before .before .before .pre .1 .0) refl (c .before .before .before .before .before .before .before .before .pre .1 .1 .0) (c .before .before .before .before .if1 .left) (c .before .before .before .kind-of .ensures) (c .before .before .if2 .left) (c .before .stores .ensures) (c .if3 .left)))
