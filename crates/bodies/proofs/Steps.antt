@@ -17,8 +17,8 @@ use Rattle.table.specs.Keys.{noKey, leastKey}
 use Rattle.stacks.specs.Stacks.{Kept}
 use Rattle.stacks.specs.Laws.Kept.{kept-all, kept-then, kept-less}
 use Rattle.patterns.specs.Stands.{AlternativeView}
-use Rattle.expressions.specs.Scene.{ExpressionAt, ExpressionAnswer}
-use Rattle.expressions.specs.declared.Judged.{Judged as Value}
+use Rattle.expressions.specs.Expressions.{ExpressionAt, ExpressionAnswer}
+use Rattle.accesses.specs.declared.Judged.{Judged as Value}
 use Rattle.bodies.specs.declared.Walked.{Walked}
 use Rattle.bodies.specs.declared.prefixes.Prefixed.{Prefixed}
 use Rattle.bodies.specs.Actions.{ActionView, ActionAnswer, Simple, IsBlock, IsDecode}

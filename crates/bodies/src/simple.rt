@@ -1,7 +1,7 @@
 // Actions with nothing inside: LEAVE, RESTART, activations, STOP(), NO.OP() and transfers.
 use crate::Walked;
 use cells::get16;
-use expressions::destinations::destination;
+use destinations::destination;
 use expressions::judge::expression;
 use stacks::is_stacked;
 use table::keys::NO_KEY;

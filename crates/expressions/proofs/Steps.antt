@@ -14,10 +14,11 @@ use Rattle.rules.specs.Faults.Bodies.{Judged}
 use Rattle.table.specs.Holds.{kindByte, sizeByte}
 use Rattle.table.specs.Keys.{noKey}
 use Rattle.table.specs.Laws.Positions.{here}
-use Rattle.expressions.specs.declared.Judged.{Judged as Answer}
+use Rattle.accesses.specs.declared.Judged.{Judged as Answer}
 use Rattle.table.specs.Operators.{tightnessAt}
-use Rattle.expressions.specs.Scene.{Scene, Answers, ExpressionAt, ExpressionAnswer, OperandAt, OperandAnswer, AccessAt, AccessAnswer}
-use Rattle.expressions.specs.Names.{NamedAt, NamedAnswer}
+use Rattle.accesses.specs.Scene.{Scene, Answers}
+use Rattle.expressions.specs.Expressions.{ExpressionAt, ExpressionAnswer, OperandAt, OperandAnswer, AccessAt, AccessAnswer}
+use Rattle.accesses.specs.Names.{NamedAt, NamedAnswer}
 use Rattle.expressions.specs.Laws.Accesses as accesses
 use Rattle.expressions.specs.Laws.Operands as operands
 use Rattle.expressions.specs.Operands.{OperandIn, Bared}

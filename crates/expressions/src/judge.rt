@@ -1,7 +1,7 @@
 // Expressions, operands and accesses: an access with a subscript holds an expression, which holds accesses again. Only brackets nest, and `depth` falls
 // with each; NOTs and operators in a row are loops.
-use crate::Judged;
-use crate::names::named;
+use accesses::Judged;
+use accesses::names::named;
 use table::keys::NO_KEY;
 use table::keys::earlier;
 use table::kinds::CONST;
@@ -13,7 +13,7 @@ use table::records::kind_at;
 use table::records::size_at;
 use weighing::operators::Settled;
 use weighing::operators::settle;
-ghost use Rattle.expressions.specs.Scene.{ExpressionAt, ExpressionAnswer, OperandAt, OperandAnswer, AccessAt, AccessAnswer};
+ghost use Rattle.expressions.specs.Expressions.{ExpressionAt, ExpressionAnswer, OperandAt, OperandAnswer, AccessAt, AccessAnswer};
 ghost use Rattle.expressions.specs.Operands.{OperandIn, Bared};
 
 // The first token of the operand i that is no NOT.

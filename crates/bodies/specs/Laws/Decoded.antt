@@ -18,8 +18,8 @@ use Rattle.table.specs.Keys.{key, leastKey}
 use Rattle.table.specs.Laws.Keys.{least-append}
 use Rattle.table.specs.Laws.Positions.{Here, here, behind-far, kind-here}
 use Rattle.stacks.specs.Stacks.{stackedWords}
-use Rattle.expressions.specs.Scene.{ExpressionAt, ExpressionAnswer}
-use Rattle.expressions.specs.declared.Judged.{Judged as Value}
+use Rattle.expressions.specs.Expressions.{ExpressionAt, ExpressionAnswer}
+use Rattle.accesses.specs.declared.Judged.{Judged as Value}
 use Rattle.bodies.specs.declared.Walked.{Walked}
 use Rattle.bodies.specs.Stage.{outerOf, tableOf}
 use Rattle.bodies.specs.Laws.Stage.{sceneOf}

@@ -22,7 +22,7 @@ use Rattle.table.specs.Meaning.{outerOnly, unknownName}
 use Rattle.table.specs.Laws.Positions.{record-within}
 use Rattle.table.specs.Words.{NameAt, wordAt}
 use Rattle.stacks.specs.Stacks.{stackedWords, NameView}
-use Rattle.expressions.specs.Laws.Lookups.{undeclared, declared}
+use Rattle.accesses.specs.Laws.Lookups.{undeclared, declared}
 use Rattle.choices.specs.Laws.Keys.{fault-key, no-fault-key}
 use Rattle.bodies.specs.Stage.{Stage, outerOf, tableOf}
 use Rattle.bodies.specs.Laws.Stage.{sceneOf, name-view}

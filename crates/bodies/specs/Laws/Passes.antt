@@ -25,7 +25,7 @@ use Rattle.table.specs.Words.{NameAt, wordAt}
 use Rattle.stacks.specs.Stacks.{stackedWords, indexFrom, indexEnd, Stacked, NameView, Pushed}
 use Rattle.stacks.specs.Laws.Kept.{none-stacked}
 use Rattle.stacks.specs.Laws.Pushed.{push-words, push-stacked}
-use Rattle.expressions.specs.Laws.Tests.{both-true}
+use Rattle.accesses.specs.Laws.Tests.{both-true}
 use Rattle.bodies.specs.Stage.{Stage}
 use Rattle.bodies.specs.Laws.Stage.{name-view}
 use Rattle.bodies.specs.Labels.{labelAt, knownNames, LabelView, labelFault, LabelsView, allLabelFaults}

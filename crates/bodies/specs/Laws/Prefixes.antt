@@ -21,9 +21,9 @@ use Rattle.table.specs.Laws.Positions.{here, behind-far}
 use Rattle.table.specs.Words.{NameAt, wordAt}
 use Rattle.stacks.specs.Stacks.{stackedWords, indexFrom, indexEnd, NameView, Pushed}
 use Rattle.stacks.specs.Laws.Pushed.{push-words, push-stacked}
-use Rattle.expressions.specs.Scene.{ExpressionAt, ExpressionAnswer}
-use Rattle.expressions.specs.Laws.Tests.{both-true}
-use Rattle.expressions.specs.declared.Judged.{Judged as Value}
+use Rattle.expressions.specs.Expressions.{ExpressionAt, ExpressionAnswer}
+use Rattle.accesses.specs.Laws.Tests.{both-true}
+use Rattle.accesses.specs.declared.Judged.{Judged as Value}
 use Rattle.bodies.specs.Stage.{Stage, outerOf, tableOf}
 use Rattle.bodies.specs.Laws.Stage.{sceneOf, name-view}
 use Rattle.bodies.specs.Labels.{labelAt}

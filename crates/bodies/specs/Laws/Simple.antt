@@ -26,11 +26,11 @@ use Rattle.table.specs.Views.{View, BodyAt}
 use Rattle.table.specs.Words.{wordAt}
 use Rattle.table.specs.Operators.{endsExpression}
 use Rattle.stacks.specs.Stacks.{stackedWords, NameView}
-use Rattle.expressions.specs.Scene.{ExpressionAt, ExpressionAnswer}
-use Rattle.expressions.specs.Destinations.{DestinationAt, DestinationAnswer}
-use Rattle.expressions.specs.Laws.Lookups.{Found, view-of, undeclared, declared}
-use Rattle.expressions.specs.declared.Judged.{Judged as Value}
-use Rattle.expressions.specs.declared.destinations.Checked.{Checked}
+use Rattle.expressions.specs.Expressions.{ExpressionAt, ExpressionAnswer}
+use Rattle.destinations.specs.Destinations.{DestinationAt, DestinationAnswer}
+use Rattle.accesses.specs.Laws.Lookups.{Found, view-of, undeclared, declared}
+use Rattle.accesses.specs.declared.Judged.{Judged as Value}
+use Rattle.destinations.specs.declared.Checked.{Checked}
 use Rattle.bodies.specs.Stage.{outerOf, tableOf}
 use Rattle.bodies.specs.Laws.Stage.{sceneOf, name-view}
 use Rattle.bodies.specs.Actions.{EndsAction, by-semi, by-next, by-end, by-comma}

@@ -5,7 +5,7 @@ use lib.ListN.{length}
 use Rattle.table.specs.Words.{NameAt}
 use Rattle.stacks.specs.Stacks.{indexEnd, Stacked, NameView}
 use Rattle.patterns.specs.Stands.{Held}
-use Rattle.expressions.specs.Scene.{Scene}
+use Rattle.accesses.specs.Scene.{Scene}
 use Rattle.bodies.specs.Stage.{Stage}
 
 module _ {text records values decls : List ℕ} (s : Stage text records values decls) where

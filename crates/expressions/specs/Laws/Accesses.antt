@@ -14,11 +14,11 @@ use Rattle.laws_grammar.specs.Cited.Nesting.{subscriptNest}
 use Rattle.table.specs.Holds.{kindByte}
 use Rattle.table.specs.Keys.{noKey}
 use Rattle.table.specs.Laws.Positions.{Here, here, behind-far, kind-here, record-within}
-use Rattle.expressions.specs.declared.Judged.{Judged as Answer}
+use Rattle.accesses.specs.declared.Judged.{Judged as Answer}
 use Rattle.table.specs.Laws.Operators as kinds
 use Rattle.weighing.specs.Laws.Weights.{weighs-again, beside-unsound, beside-sound}
-use Rattle.expressions.specs.Scene.{ExpressionAt, ExpressionAnswer, AccessAt, AccessAnswer}
-use Rattle.expressions.specs.Names.{NamedAt, NamedAnswer}
+use Rattle.expressions.specs.Expressions.{ExpressionAt, ExpressionAnswer, AccessAt, AccessAnswer}
+use Rattle.accesses.specs.Names.{NamedAt, NamedAnswer}
 
 -- what stands behind the name
 record Second (s : Subscript) (b : Bits) (ts : Tokens) : Type 0 where

@@ -15,11 +15,12 @@ use Rattle.laws_grammar.specs.Cited.Shunting.{Waiting, looser, settled}
 use Rattle.laws_grammar.specs.Grammar.Shunting.{waiting, chain}
 use Rattle.table.specs.Holds.{kindByte}
 use Rattle.table.specs.Laws.Positions.{Here, here, kind-here, record-within}
-use Rattle.expressions.specs.declared.Judged.{Judged as Answer}
+use Rattle.accesses.specs.declared.Judged.{Judged as Answer}
 use Rattle.table.specs.Operators.{tightnessAt, endsAccess, endsExpression}
 use Rattle.table.specs.Laws.Operators.{tightness-at, tightness-range, no-operator, ends-access, operator-ends}
 use Rattle.weighing.specs.Weights.{Weighs, operated}
-use Rattle.expressions.specs.Scene.{outerOf, tableOf, ExpressionAt, OperandAt, OperandAnswer, Answers}
+use Rattle.accesses.specs.Scene.{outerOf, tableOf, Answers}
+use Rattle.expressions.specs.Expressions.{ExpressionAt, OperandAt, OperandAnswer}
 use Rattle.weighing.specs.Chains.{Wait}
 use Rattle.weighing.specs.Laws.Chains.{Under, under-few, wait-push, wait-looser, under-looser, settled-all, chain-judged}
 use Rattle.weighing.specs.Settling.{SettleAt, Settles}

@@ -14,9 +14,10 @@ use Rattle.laws_grammar.specs.Cited.Nesting.{operandNest, tailNest}
 use Rattle.table.specs.Holds.{kindByte, sizeByte, tokenAt}
 use Rattle.table.specs.Keys.{noKey}
 use Rattle.table.specs.Laws.Positions.{Here, here, kind-here, record-within}
-use Rattle.expressions.specs.declared.Judged.{Judged as Answer}
+use Rattle.accesses.specs.declared.Judged.{Judged as Answer}
 use Rattle.weighing.specs.Laws.Weights.{weighs-sound}
-use Rattle.expressions.specs.Scene.{outerOf, tableOf, ExpressionAt, ExpressionAnswer, OperandAt, OperandAnswer, AccessAt, AccessAnswer, Answers}
+use Rattle.accesses.specs.Scene.{outerOf, tableOf, Answers}
+use Rattle.expressions.specs.Expressions.{ExpressionAt, ExpressionAnswer, OperandAt, OperandAnswer, AccessAt, AccessAnswer}
 use Rattle.expressions.specs.Operands.{bare, OperandIn, Bared}
 
 -- "NOT keeps it": NOTs change neither faults nor length

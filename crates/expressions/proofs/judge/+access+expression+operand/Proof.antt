@@ -19,7 +19,7 @@ use Rattle.expressions.proofs.judge.operand.Reads as operand
 use Rattle.expressions.proofs.judge.operand.Kinds as operand-kinds
 use Rattle.expressions.proofs.judge.+access+expression+operand.Lts-operand as operand-lts
 use Rattle.expressions.proofs.judge.behind_nots.Reads as behind-nots-reads
-use Rattle.expressions.proofs.names.named.Reads as named-reads
+use Rattle.accesses.proofs.names.named.Reads as named-reads
 use Rattle.weighing.proofs.operators.settle.Reads as settle-reads
 use Rattle.table.proofs.operators.tightness_of.Reads as tightness-of-reads
 use Rattle.table.proofs.keys.earlier.Reads as earlier-reads

@@ -1,0 +1,4 @@
+pub mod Scene
+pub mod Lengths
+pub mod Names
+pub mod Laws

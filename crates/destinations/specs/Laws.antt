@@ -1,0 +1,4 @@
+-- The laws of destinations.
+pub mod Carriers
+pub mod Owners
+pub mod Destinations

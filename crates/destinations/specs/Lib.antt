@@ -1,0 +1,4 @@
+pub mod Carriers
+pub mod Owners
+pub mod Destinations
+pub mod Laws
