@@ -8,10 +8,10 @@ use Rattle.rules.specs.Grammar.Trees.{Tokens}
 use Rattle.paths.specs.Least.{least}
 use Rattle.table.specs.Words.{NameAt, wordAt}
 use Rattle.profiling.specs.Spelt.{whole}
-use Rattle.profiling.specs.Machine.{State, outset, run}
-use Rattle.profiling.specs.Holding.{unseen, enough, Shows}
+use Rattle.nesting.specs.Machine.{State, outset, run}
+use Rattle.nesting.specs.Holding.{unseen, enough, Shows}
 use Rattle.profiling.specs.Walking.{Scene, Finds, marksOf}
-use Rattle.profiling.specs.declared.nests.Nest.{Nest}
+use Rattle.nesting.specs.declared.nests.Nest.{Nest}
 use Rattle.profiling.specs.declared.tasks.Task.{Task}
 use Rattle.profiling.specs.declared.walks.Found.{Found}
 

@@ -16,7 +16,7 @@ use Rattle.paths.specs.Early.{bodyEarly}
 use Rattle.table.specs.Scans.{no}
 use Rattle.reading.specs.Reading.{Kinded}
 use Rattle.profiling.specs.Spelt.{SpeltDescription, whole}
-use Rattle.profiling.specs.Holding.{bit, unseen, enough}
+use Rattle.nesting.specs.Holding.{bit, unseen, enough}
 use Rattle.profiling.specs.Walking.{indexOf, Known}
 use Rattle.profiling.specs.declared.tasks.Task.{Task}
 

@@ -8,19 +8,18 @@ use lib.ListN.{length, drop}
 use Rattle.cells.specs.Cells.{cell}
 use Rattle.rules.specs.Text.Tokens.{Name, kindNo}
 use Rattle.rules.specs.Text.Scan.{sameBytes}
-use Rattle.rules.specs.Grammar.Trees.{Tokens}
 use Rattle.rules.specs.Declarations.{Name as Word, Table, numberOf}
 use Rattle.paths.specs.Early.{Report}
 use Rattle.paths.specs.Walk.{Marks}
 use Rattle.paths.specs.Least.{least}
 use Rattle.table.specs.Holds.{kindByte, tokenAt}
-use Rattle.table.specs.Words.{NameAt, wordAt}
+use Rattle.table.specs.Words.{wordAt}
 use Rattle.reading.specs.Kinds.{nextNo}
 use Rattle.scopes.specs.Walks.{nextWord}
 use Rattle.profiling.specs.Spelt.{SpeltDescription, whole}
-use Rattle.profiling.specs.Machine.{State, acted, named, activated, aimed, run, outset, labelled}
-use Rattle.profiling.specs.Holding.{unseen, bit, Shows}
-use Rattle.profiling.specs.declared.nests.Nest.{Nest}
+use Rattle.nesting.specs.Machine.{State, acted, named, activated, aimed, run, outset}
+use Rattle.nesting.specs.Holding.{unseen, bit, Shows}
+use Rattle.nesting.specs.declared.nests.Nest.{Nest}
 use Rattle.profiling.specs.declared.tasks.Task.{Task}
 use Rattle.profiling.specs.declared.walks.Found.{Found}
 
@@ -83,15 +82,6 @@ abbrev pub Aims : List ℕ → List ℕ → List ℕ → List ℕ → List ℕ �
 Aims records decls table old new t i s r =
     (g : Scene records decls table t) (z : State) (j : ℕ) → Shows (g .written .tokens) old j s z
     → Shows (g .written .tokens) new j r (aimed (eqb (nextNo (drop (i + 1) (g .written .tokens))) (kindNo Name)) (nextWord (drop (i + 1) (g .written .tokens))) z)
-
--- the flag of the label that is found, or 64
-abbrev pub FlagFound : Option ℕ → ℕ → Type 0
-FlagFound none r = r ≡ 64
-FlagFound (some k) r = (r ≡ k) × (k < 64)
-
--- one more label: the token i
-abbrev pub Labels : List ℕ → List ℕ → ℕ → Nest → Nest → Type 0
-Labels old new i s r = (ts : Tokens) (z : State) → Shows ts old i s z → NameAt ts i → Shows ts new (i + 1) r (labelled (wordAt ts i) z)
 
 -- the body at `from` of the name that is the token `name`
 abbrev pub marksOf : {records decls table : List ℕ} {t : Task} → Scene records decls table t → ℕ → ℕ → Marks

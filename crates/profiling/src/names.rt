@@ -1,13 +1,13 @@
 // What a name does at the start of an action or in a destination.
-use crate::labels::label;
-use crate::nests::Nest;
-use crate::nests::both;
-use crate::nests::destine;
-use crate::nests::flag_at;
-use crate::nests::lowered;
-use crate::nests::mark;
 use crate::tasks::Task;
 use cells::get16;
+use nesting::labels::label;
+use nesting::nests::Nest;
+use nesting::nests::both;
+use nesting::nests::destine;
+use nesting::nests::flag_at;
+use nesting::nests::lowered;
+use nesting::nests::mark;
 use reading::kinds::kind_of;
 use reading::kinds::stores;
 use reading::names::carrier;

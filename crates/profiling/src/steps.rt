@@ -1,17 +1,17 @@
 // What a token does to a walk.
-use crate::frames::also;
-use crate::frames::another;
-use crate::frames::close;
-use crate::frames::next;
-use crate::frames::open;
-use crate::labels::leave;
 use crate::names::name;
-use crate::nests::Nest;
-use crate::nests::choosing;
-use crate::nests::reach;
-use crate::nests::transfer;
-use crate::nests::turning;
 use crate::tasks::Task;
+use nesting::frames::also;
+use nesting::frames::another;
+use nesting::frames::close;
+use nesting::frames::next;
+use nesting::frames::open;
+use nesting::labels::leave;
+use nesting::nests::Nest;
+use nesting::nests::choosing;
+use nesting::nests::reach;
+use nesting::nests::transfer;
+use nesting::nests::turning;
 use reading::kinds::kind_of;
 use table::kinds::BEGIN;
 use table::kinds::COMMA;
@@ -29,8 +29,8 @@ ghost use mathlib.Core.Path.{_≡_};
 ghost use mathlib.Core.Bool.{false};
 ghost use Rattle.table.specs.Holds.{kindByte};
 ghost use Rattle.profiling.specs.Walking.{Acting, Acted, Aims};
-ghost use Rattle.profiling.specs.Holding.{Standing, Does};
-ghost use Rattle.profiling.specs.Machine.{reached, chosen};
+ghost use Rattle.nesting.specs.Holding.{Standing, Does};
+ghost use Rattle.nesting.specs.Machine.{reached, chosen};
 
 // IF: its action may be passed by.
 fn test(room: &mut [u8], s: Nest) -> Nest

@@ -1,15 +1,15 @@
 // The walk along the tokens of a body.
-use crate::nests::Nest;
-use crate::nests::flag_at;
 use crate::steps::step;
 use crate::tasks::Task;
 use cells::put16;
+use nesting::nests::Nest;
+use nesting::nests::flag_at;
 use reading::kinds::mode;
 use table::records::kind_at;
 ghost use Prim.Native.Nat.{_+_, _*_, _<_, _≤_};
 ghost use lib.ListN.{length};
 ghost use Rattle.profiling.specs.Going.{Cleared, Beginning, Begins, Tells, Walked};
-ghost use Rattle.profiling.specs.Holding.{Standing};
+ghost use Rattle.nesting.specs.Holding.{Standing};
 
 // How many flags there are.
 const FLAGS: usize = 64;

@@ -8,7 +8,7 @@ use Rattle.rules.specs.Faults.Whole.{faults50}
 use Rattle.paths.specs.Early.{earlyPlaces}
 use Rattle.paths.specs.Least.{least}
 use Rattle.profiling.specs.Spelt.{SpeltDescription, whole}
-use Rattle.profiling.specs.Holding.{unseen}
+use Rattle.nesting.specs.Holding.{unseen}
 use Rattle.profiling.specs.declared.tasks.Task.{Task}
 
 pub record Asked (records decls : List ℕ) (t : Task) : Type 0 where

@@ -36,7 +36,7 @@ use Rattle.paths.specs.Least.{Under}
 use Rattle.paths.specs.Verdict.{accepted-none}
 use Rattle.paths.specs.Kept.{carriersIn, output-kept}
 use Rattle.paths.specs.Profile.{listed-exactly, accepted-is-orderly, only-answer, no-store-before}
-use Rattle.profiling.specs.Holding.{unseen}
+use Rattle.nesting.specs.Holding.{unseen}
 use Rattle.resuming.specs.Laws.Near.{Near, all-near, places-under}
 use Rattle.isps.specs.Laws.Calls.{four-bytes}
 use Rattle.rules.specs.Late.{StoresLate}

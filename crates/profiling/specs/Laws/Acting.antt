@@ -13,7 +13,6 @@ use Rattle.rules.specs.Text.Scan.{sameBytes}
 use Rattle.rules.specs.Grammar.Trees.{Tokens}
 use Rattle.rules.specs.Limits.{deepest}
 use Rattle.rules.specs.Whole.Sets.{member, owner}
-use Rattle.paths.specs.Early.{activation}
 use Rattle.paths.specs.Walk.{marked, added}
 use Rattle.paths.specs.Least.{least, least-append}
 use Rattle.table.specs.Holds.{kindByte, placeCell, insideCell, tokenAt}
@@ -25,14 +24,15 @@ use Rattle.reading.specs.Reading.{Kinded, Reading, tableOf}
 use Rattle.reading.specs.Names.{Owned}
 use Rattle.reading.specs.Laws.Meanings.{means-number, means-nothing}
 use Rattle.profiling.specs.Spelt.{whole}
-use Rattle.profiling.specs.Laws.Spelt.{reading, spelt, place-small}
-use Rattle.profiling.specs.Machine.{State, opened, closed, also, next, another, transferred, reached, chosen, looped, left, aimed, destined, activated, labelled, named, acted}
-use Rattle.profiling.specs.Holding.{unseen, Flagged, Shows, Standing, Does, Set}
-use Rattle.profiling.specs.Grouping.{nest}
-use Rattle.profiling.specs.Walking.{numberOr, indexOf, Known, Scene, Acting, Acted, Named, Activates, Aims, Labels}
-use Rattle.profiling.specs.Jumping.{Jumping, Left}
-use Rattle.profiling.specs.Laws.Holding.{bit-test, linked-later, frames-later, flagged-set, set-labels, set-frames}
-use Rattle.profiling.specs.declared.nests.Nest.{Nest}
+use Rattle.profiling.specs.Laws.Spelt.{reading, spelt}
+use Rattle.nesting.specs.Laws.Spelt.{place-small}
+use Rattle.nesting.specs.Machine.{State, opened, closed, also, next, another, transferred, reached, chosen, looped, left, aimed, destined, activated, labelled, named, acted}
+use Rattle.nesting.specs.Holding.{unseen, Flagged, Shows, Standing, Does, Set}
+use Rattle.nesting.specs.Grouping.{nest}
+use Rattle.profiling.specs.Walking.{numberOr, indexOf, Known, Scene, Acting, Acted, Named, Activates, Aims}
+use Rattle.nesting.specs.Jumping.{Jumping, Left, Labels}
+use Rattle.nesting.specs.Laws.Holding.{bit-test, linked-later, frames-later, flagged-set, set-labels, set-frames}
+use Rattle.nesting.specs.declared.nests.Nest.{Nest}
 use Rattle.profiling.specs.declared.tasks.Task.{Task}
 
 pub shows-later : {ts : Tokens} {room : List ℕ} {i : ℕ} {x : Nest} {z : State} → i < 8192 → Shows ts room i x z → Shows ts room (i + 1) x z

@@ -18,7 +18,7 @@ use Rattle.reading.specs.Laws.Names.{number-bound}
 use Rattle.reading.specs.Laws.Meanings.{table-size}
 use Rattle.profiling.specs.Spelt.{SpeltDescription, whole}
 use Rattle.profiling.specs.Laws.Spelt.{reading}
-use Rattle.profiling.specs.Holding.{unseen}
+use Rattle.nesting.specs.Holding.{unseen}
 use Rattle.profiling.specs.Walking.{numberOr, indexOf}
 use Rattle.profiling.specs.Levels.{Aimed, Known16}
 use Rattle.profiling.specs.declared.tasks.Task.{Task}

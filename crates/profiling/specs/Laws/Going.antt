@@ -18,13 +18,13 @@ use Rattle.table.specs.Scans.{no as kindOf}
 use Rattle.reading.specs.Laws.Reading.{kinded, next-token, no-more}
 use Rattle.profiling.specs.Spelt.{whole}
 use Rattle.profiling.specs.Laws.Spelt.{reading}
-use Rattle.profiling.specs.Machine.{Frame, State, outset, none-open, acted, run}
-use Rattle.profiling.specs.Holding.{unseen, labelCell, unlinked, linked, no-frames, frames, Shows, Standing}
-use Rattle.profiling.specs.Grouping.{nest}
+use Rattle.nesting.specs.Machine.{Frame, State, outset, none-open, acted, run}
+use Rattle.nesting.specs.Holding.{unseen, labelCell, unlinked, linked, no-frames, frames, Shows, Standing}
+use Rattle.nesting.specs.Grouping.{nest}
 use Rattle.profiling.specs.Walking.{Scene, Acting, Acted, Finds, marksOf}
 use Rattle.profiling.specs.Going.{Cleared, Beginning, Begins, Tells, Walked, Going}
-use Rattle.profiling.specs.Laws.Holding.{bit-test, put-size, put-same, put-here}
-use Rattle.profiling.specs.declared.nests.Nest.{Nest}
+use Rattle.nesting.specs.Laws.Holding.{bit-test, put-size, put-same, put-here}
+use Rattle.nesting.specs.declared.nests.Nest.{Nest}
 use Rattle.profiling.specs.declared.tasks.Task.{Task}
 use Rattle.profiling.specs.declared.walks.Found.{Found}
 

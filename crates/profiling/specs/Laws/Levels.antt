@@ -39,13 +39,13 @@ use Rattle.chains.specs.Laws.Least.{name-there}
 use Rattle.reading.specs.Bodies.{Body}
 use Rattle.profiling.specs.Spelt.{SpeltDescription, whole}
 use Rattle.profiling.specs.Laws.Spelt.{reading}
-use Rattle.profiling.specs.Holding.{bit, unseen}
-use Rattle.profiling.specs.Machine.{run, outset}
+use Rattle.nesting.specs.Holding.{bit, unseen}
+use Rattle.nesting.specs.Machine.{run, outset}
 use Rattle.profiling.specs.Walking.{numberOr, indexOf, Known, Scene}
 use Rattle.profiling.specs.Going.{Beginning, Walked}
 use Rattle.profiling.specs.Levels.{toBegin, BeginBehind, Aimed, Level, Put, Blank, Levelled, PartAt, Part, Parts, Rounded, Starting, Turned, Known16}
 use Rattle.profiling.specs.Laws.Machine.{body-read}
-use Rattle.profiling.specs.Laws.Holding.{put-size, put-same, put-here}
+use Rattle.nesting.specs.Laws.Holding.{put-size, put-same, put-here}
 use Rattle.profiling.specs.declared.tasks.Task.{Task}
 use Rattle.profiling.specs.declared.walks.Found.{Found}
 

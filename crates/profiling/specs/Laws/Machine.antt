@@ -24,7 +24,7 @@ use Rattle.paths.specs.Early.{Report}
 use Rattle.paths.specs.Walk.{Marks, Slot, slot, marked, cleared, added, unmarked, walk, walkMembers, walkAlternatives, walkCounted, walkSelected, walkMore, walkBody}
 use Rattle.reading.specs.Kinds.{stores, tests, begins, mode}
 use Rattle.reading.specs.Laws.Hearing.{Apart, by-comma, by-semi, by-end, by-next, members-apart, counted-apart, more-apart}
-use Rattle.profiling.specs.Machine.{Frame, frame, Dest, idle, parts, State, state, settled, begun, opened, none-open, acted, run, outset}
+use Rattle.nesting.specs.Machine.{Frame, frame, Dest, idle, parts, State, state, settled, begun, opened, none-open, acted, run, outset}
 
 module _ (ds : Table) (test : Word) (output : ℕ) (known : Word → Report) where
   abbrev R : ℕ → State → Tokens → Marks

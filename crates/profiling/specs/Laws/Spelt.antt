@@ -1,25 +1,9 @@
--- Spelled tokens and descriptions, as the other laws read them.
-use Prim.Native.Nat.{ℕ, _<_, _≤_}
-use mathlib.Core.Path.{_≡_}
+-- Spelled descriptions, as the other laws read them.
+use Prim.Native.Nat.{ℕ}
 use mathlib.Core.List.{List}
-use Rattle.rules.specs.Text.Tokens.{Name, kindNo}
-use Rattle.table.specs.Holds.{kindByte, placeCell}
-use Rattle.table.specs.Words.{NameAt}
 use Rattle.reading.specs.Reading.{Reading}
-use Rattle.scopes.specs.Labels.{Worded}
-use Rattle.scopes.specs.Laws.Labels.{word-at, jump-place}
-use Rattle.profiling.specs.Spelt.{Spelt, SpeltDescription}
-
-module _ {records : List ℕ} {n : ℕ} (v : Spelt records n) where
-  worded : Worded (v .text) records n
-  worded = record { values = v .values; tokens = v .tokens; holds = v .holds; count = v .count }
-
-  pub name-there : (i : ℕ) → i < n → kindByte records i ≡ kindNo Name → NameAt (v .tokens) i
-  unfolding worded
-  name-there i h e = word-at worded i h e
-
-  pub place-small : {i p : ℕ} → i < n → p ≡ placeCell records i → p ≤ 32768
-  place-small h e = jump-place worded h e
+use Rattle.nesting.specs.Spelt.{Spelt}
+use Rattle.profiling.specs.Spelt.{SpeltDescription}
 
 module _ {records decls : List ℕ} {m n : ℕ} (v : SpeltDescription records decls m n) where
   abbrev pub reading : Reading records decls m n

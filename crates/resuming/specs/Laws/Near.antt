@@ -21,7 +21,7 @@ use Rattle.paths.specs.Least.{Under}
 use Rattle.table.specs.Holds.{tokenAt}
 use Rattle.scopes.specs.Laws.Behind.{Made, expression-made, transfer-made, selector-made}
 use Rattle.whole.specs.Written.{Written}
-use Rattle.profiling.specs.Holding.{unseen}
+use Rattle.nesting.specs.Holding.{unseen}
 
 -- tokens whose places lie below the mark
 abbrev pub Near : Tokens → Type 0

@@ -25,7 +25,7 @@ use Rattle.lent.specs.Measured.{Unread, short-memory, long-text, none as enough
 use Rattle.lent.specs.Settled.{Settled}
 use Rattle.lent.specs.Laws.Settled.{settled-same}
 use Rattle.lent.specs.declared.answers.Answer.{Answer}
-use Rattle.profiling.specs.Holding.{unseen}
+use Rattle.nesting.specs.Holding.{unseen}
 use Rattle.profiling.specs.declared.tasks.Task.{Task}
 use Rattle.reader.specs.Parsed.{Refuses}
 use Rattle.reader.specs.Judged.{Accepts, described-by, table-by}

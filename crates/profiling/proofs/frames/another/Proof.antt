@@ -1,8 +1,0 @@
--- `profiling::frames::another` meets its contract.
-use borrow.Author.Needs.{needs}
-use Rattle.profiling.proofs.frames.another.Statement.{statement}
-use Rattle.profiling.proofs.frames.another.Tie as tie
-use Rattle.profiling.specs.Laws.Grouping.{another-shown, none-another}
-
-pub another-spec : {M : Type 1} → statement M
-another-spec = tie.close (tie.spec (λ c. search (needs, none-another)) (λ c κs. search needs) (λ c. search (needs, another-shown)))

@@ -1,8 +1,0 @@
--- `profiling::nests::choosing` meets its contract.
-use borrow.Author.Needs.{needs}
-use Rattle.profiling.proofs.nests.choosing.Statement.{statement}
-use Rattle.profiling.proofs.nests.choosing.Tie as tie
-use Rattle.profiling.specs.Laws.Holding.{chosen-shown}
-
-pub choosing-spec : {M : Type 1} → statement M
-choosing-spec = tie.close (tie.spec (λ c. search (needs, chosen-shown)))

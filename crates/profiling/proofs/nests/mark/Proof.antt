@@ -1,8 +1,0 @@
--- `profiling::nests::mark` meets its contract.
-use borrow.Author.Needs.{needs}
-use Rattle.profiling.proofs.nests.mark.Statement.{statement}
-use Rattle.profiling.proofs.nests.mark.Tie as tie
-use Rattle.profiling.specs.Laws.Holding.{put-set, set-none}
-
-pub mark-spec : {M : Type 1} → statement M
-mark-spec = tie.close (tie.spec (λ c κs. search needs) (λ c. search needs) (λ c. search (needs, put-set)) (λ c. search (needs, set-none)))

@@ -1,9 +1,0 @@
--- `profiling::nests::transfer` meets its contract.
-use borrow.Author.Needs.{needs}
-use Rattle.profiling.proofs.nests.transfer.Statement.{statement}
-use Rattle.profiling.proofs.nests.transfer.Tie as tie
-use Rattle.profiling.specs.Laws.Holding.{transfer-shown}
-
-pub transfer-spec : {M : Type 1} → statement M
-transfer-spec =
-    tie.close (tie.spec (λ c κs. search needs) (λ c κs. search needs) (λ c κs. search needs) (λ c. search needs) (λ c. search (needs, transfer-shown)))
