@@ -11,7 +11,7 @@ use Rattle.rules.specs.Faults.Bodies.{bodyFaults, faults40}
 use Rattle.laws_grammar.specs.Cited.Nesting.{declarationNest}
 use Rattle.table.specs.Declarations.{DeclaredAt}
 use Rattle.stacks.specs.Stacks.{indexEnd}
-use Rattle.bodies.specs.Stage.{Stage, outerOf, tableOf}
+use Rattle.plain.specs.Stage.{Stage, outerOf, tableOf}
 
 -- a declaration's name is the token i
 pub record BodyView (text records values decls room : List ℕ) (i : ℕ) : Type 0 where

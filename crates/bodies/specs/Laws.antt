@@ -1,23 +1,6 @@
 -- The laws of bodies.
-pub mod Labels
-pub mod Known
-pub mod Passes
-pub mod Simple
-pub mod Forms
-pub mod Prefixes
-pub mod Members
-pub mod Ranges
-pub mod Compared
-pub mod Choices
-pub mod Counted
-pub mod Fronts
-pub mod Beginnings
-pub mod Selected
-pub mod Bare
-pub mod Decoded
 pub mod Bodies
 pub mod All
 pub mod Places
 pub mod Small
 pub mod Fixed
-pub mod Stage

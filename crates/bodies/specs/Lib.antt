@@ -1,8 +1,2 @@
-pub mod Stage
-pub mod Labels
-pub mod Actions
-pub mod Jumps
-pub mod Prefixes
-pub mod Alternatives
 pub mod Bodies
 pub mod Laws

@@ -1,7 +1,7 @@
 // All bodies of a description, one after the other: the least fault of the 40s.
-use crate::actions::action;
-use crate::labels::labels_fault;
+use actions::action;
 use cells::get16;
+use plain::labels::labels_fault;
 use rules::limits::DEEPEST;
 use stacks::push;
 use table::keys::NO_KEY;

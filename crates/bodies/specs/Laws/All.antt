@@ -18,7 +18,7 @@ use Rattle.table.specs.Declarations.{followingList, declarationList, all-declar
 use Rattle.table.specs.Keys.{key, noKey, leastBy, leastKey}
 use Rattle.table.specs.Laws.Keys.{least-append, least-bounded}
 use Rattle.table.specs.Lookups.{Nth, nth}
-use Rattle.bodies.specs.Stage.{outerOf, tableOf}
+use Rattle.plain.specs.Stage.{outerOf, tableOf}
 use Rattle.bodies.specs.Bodies.{BodyView, faultsOfBody, BodiesView, faultsOfBodies}
 
 -- no declaration nests deeper than the whole

@@ -30,11 +30,11 @@ use Rattle.table.specs.Laws.Views.{name-token, bits-reads}
 use Rattle.stacks.specs.Stacks.{stackedWords, indexFrom, Stacked, NameView, Pushed}
 use Rattle.stacks.specs.Laws.Kept.{none-stacked}
 use Rattle.stacks.specs.Laws.Pushed.{push-words, push-stacked}
-use Rattle.bodies.specs.declared.Walked.{Walked}
-use Rattle.bodies.specs.Stage.{outerOf, tableOf}
-use Rattle.bodies.specs.Laws.Stage.{name-view}
-use Rattle.bodies.specs.Labels.{knownNames, LabelsView, allLabelFaults}
-use Rattle.bodies.specs.Actions.{EndsAction, by-semi, by-next, by-end, by-comma, ActionView, ActionAnswer}
+use Rattle.plain.specs.declared.Walked.{Walked}
+use Rattle.plain.specs.Stage.{outerOf, tableOf}
+use Rattle.plain.specs.Laws.Stage.{name-view}
+use Rattle.plain.specs.Labels.{knownNames, LabelsView, allLabelFaults}
+use Rattle.plain.specs.Actions.{EndsAction, by-semi, by-next, by-end, by-comma, ActionView, ActionAnswer}
 use Rattle.bodies.specs.Bodies.{BodyView, faultsOfBody}
 
 -- what stands behind a declaration

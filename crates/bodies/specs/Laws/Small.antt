@@ -33,8 +33,8 @@ use Rattle.table.specs.Keys.{Smalls, none-small}
 use Rattle.table.specs.Laws.Keys.{smalls-append}
 use Rattle.table.specs.Laws.Positions.{far, token-far}
 use Rattle.table.specs.Ready.{Ready}
-use Rattle.bodies.specs.Laws.Counted.{first-place}
-use Rattle.bodies.specs.Laws.Labels.{isLabel, withLabel, labelsIn, action-labels}
+use Rattle.actions.specs.Laws.Counted.{first-place}
+use Rattle.plain.specs.Laws.Labels.{isLabel, withLabel, labelsIn, action-labels}
 use Rattle.bodies.specs.Laws.Places.{Inside, AllInside, inside-behind, inside-alone, when-small, expression-small, destinations-small}
 
 -- LABELS

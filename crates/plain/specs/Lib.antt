@@ -1,0 +1,6 @@
+pub mod Stage
+pub mod Labels
+pub mod Actions
+pub mod Jumps
+pub mod Prefixes
+pub mod Laws
