@@ -6,6 +6,5 @@ pub mod Judging
 pub mod Targets
 pub mod Numbering
 pub mod Places
-pub mod Marking
 pub mod Totals
 pub mod Telling

@@ -23,10 +23,10 @@ use Rattle.declare.specs.Finding.{Described, Found}
 use Rattle.declare.specs.Laws.Earliest.{faults-small}
 use Rattle.declare.specs.Laws.Lawful.{lawful-count}
 use Rattle.declare.specs.Listed.{Listed, outerOf, tableOf}
-use Rattle.declare.specs.Resolving.{Lists, InsideOnly, MeantTo}
+use Rattle.resolving.specs.Resolving.{Lists, InsideOnly, MeantTo}
 use Rattle.declare.specs.Told.{Least, ReadySpelled}
 use Rattle.declare.proofs.Choosing.{outer-stands, outer-reads}
-use Rattle.declare.proofs.Marking.{spelled-still}
+use Rattle.resolving.specs.Laws.Marking.{spelled-still}
 use Rattle.declare.proofs.Places.{all-within}
 
 module _ {text old values : List ℕ} {n : ℕ} where

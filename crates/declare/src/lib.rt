@@ -2,11 +2,10 @@
 pub mod counting;
 pub mod faults;
 pub mod finding;
-pub mod resolving;
 
 use crate::faults::fault30;
 use crate::finding::find;
-use crate::resolving::give_meanings;
+use resolving::give_meanings;
 use spelling::spell;
 use table::keys::NO_KEY;
 ghost use Prim.Native.Nat.{_≤_};

@@ -1,9 +1,9 @@
--- `declare::resolving::give_meanings` meets its contract: meanings are forgotten, marked, and taken.
+-- `resolving::give_meanings` meets its contract: meanings are forgotten, marked, and taken.
 -- Assumes nothing.
 use borrow.Author.Needs.{needs}
-use Rattle.declare.proofs.Marking.{few-tokens, to-mark, to-resolve, all-given}
-use Rattle.declare.proofs.resolving.give_meanings.Statement.{statement}
-use Rattle.declare.proofs.resolving.give_meanings.Tie as tie
+use Rattle.resolving.specs.Laws.Marking.{few-tokens, to-mark, to-resolve, all-given}
+use Rattle.resolving.proofs.give_meanings.Statement.{statement}
+use Rattle.resolving.proofs.give_meanings.Tie as tie
 
 pub give-meanings-spec : {M : Type 1} → statement M
 give-meanings-spec =

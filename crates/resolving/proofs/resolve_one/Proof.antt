@@ -1,9 +1,9 @@
--- `declare::resolving::resolve_one` meets its contract: a name takes the meaning of its spelling, and any other token stays as it is.
+-- `resolving::resolve_one` meets its contract: a name takes the meaning of its spelling, and any other token stays as it is.
 -- Assumes nothing.
 use borrow.Author.Needs.{needs}
-use Rattle.declare.proofs.Marking.{token-inside, spelling-inside, taken-over, passed-over}
-use Rattle.declare.proofs.resolving.resolve_one.Statement.{statement}
-use Rattle.declare.proofs.resolving.resolve_one.Tie as tie
+use Rattle.resolving.specs.Laws.Marking.{token-inside, spelling-inside, taken-over, passed-over}
+use Rattle.resolving.proofs.resolve_one.Statement.{statement}
+use Rattle.resolving.proofs.resolve_one.Tie as tie
 
 pub resolve-one-spec : {M : Type 1} → statement M
 resolve-one-spec =

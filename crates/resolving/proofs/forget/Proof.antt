@@ -1,10 +1,10 @@
--- `declare::resolving::forget` meets its contract: token by token.
+-- `resolving::forget` meets its contract: token by token.
 -- Assumes nothing.
 use borrow.Author.Needs.{needs}
 use Prim.Native.Nat.{_-_}
-use Rattle.declare.proofs.Marking.{Forgetting, none-forgotten, one-forgotten, all-forgotten}
-use Rattle.declare.proofs.resolving.forget.Statement.{statement}
-use Rattle.declare.proofs.resolving.forget.Tie as tie
+use Rattle.resolving.specs.Laws.Marking.{Forgetting, none-forgotten, one-forgotten, all-forgotten}
+use Rattle.resolving.proofs.forget.Statement.{statement}
+use Rattle.resolving.proofs.forget.Tie as tie
 
 abbrev Inv-loop : tie.InvT-loop
 Inv-loop records₀ n i₀ records i = Forgetting records₀ records n i

@@ -25,7 +25,7 @@ use Rattle.table.specs.Lookups.{Known}
 use Rattle.table.specs.Laws.Lookups.{both-names, number-step}
 use Rattle.table.specs.Meaning.{outerOnly, unknownName, meaningBy, meaningOf}
 use Rattle.spelling.specs.Spelled.{Spelled}
-use Rattle.declare.specs.Resolving.{SpelledIn, Lists, InsideOnly, Forgotten, MarkedFrom, MeantTo}
+use Rattle.resolving.specs.Resolving.{SpelledIn, Lists, InsideOnly, Forgotten, MarkedFrom, MeantTo}
 
 -- inside cells only
 pub inside-none : (records : List ℕ) → InsideOnly records records

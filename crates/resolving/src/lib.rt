@@ -15,7 +15,7 @@ ghost use Rattle.rules.specs.Limits.{mostTokens};
 ghost use Rattle.rules.specs.Grammar.Trees.{Tokens, Declaration};
 ghost use Rattle.rules.specs.Declarations.{Name};
 ghost use Rattle.table.specs.Words.{wordAt};
-ghost use Rattle.declare.specs.Resolving.{SpelledIn, Lists, InsideOnly, Forgotten, MarkedFrom, MeantTo};
+ghost use Rattle.resolving.specs.Resolving.{SpelledIn, Lists, InsideOnly, Forgotten, MarkedFrom, MeantTo};
 
 // Leaves no meaning at the n tokens.
 fn forget(records: &mut [u8], n: usize)

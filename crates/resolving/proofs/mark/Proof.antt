@@ -1,10 +1,10 @@
--- `declare::resolving::mark` meets its contract: what is marked is right by the declarations that are passed.
+-- `resolving::mark` meets its contract: what is marked is right by the declarations that are passed.
 -- Assumes nothing.
 use borrow.Author.Needs.{needs}
 use native.Mathlib.Omega.{arith}
-use Rattle.declare.proofs.Marking.{MarkedTo, none-marked, outer-inside, outer-link, next-declared, one-less, all-marked}
-use Rattle.declare.proofs.resolving.mark.Statement.{statement}
-use Rattle.declare.proofs.resolving.mark.Tie as tie
+use Rattle.resolving.specs.Laws.Marking.{MarkedTo, none-marked, outer-inside, outer-link, next-declared, one-less, all-marked}
+use Rattle.resolving.proofs.mark.Statement.{statement}
+use Rattle.resolving.proofs.mark.Tie as tie
 
 abbrev Inv-loop : tie.InvT-loop
 Inv-loop records₀ decls m k₀ records k = MarkedTo records₀ records decls m k

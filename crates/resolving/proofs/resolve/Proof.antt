@@ -1,10 +1,10 @@
--- `declare::resolving::resolve` meets its contract: token by token.
+-- `resolving::resolve` meets its contract: token by token.
 -- Assumes nothing.
 use borrow.Author.Needs.{needs}
 use Prim.Native.Nat.{_-_}
-use Rattle.declare.proofs.Marking.{Resolving, none-resolved, next-token, one-resolved, all-resolved}
-use Rattle.declare.proofs.resolving.resolve.Statement.{statement}
-use Rattle.declare.proofs.resolving.resolve.Tie as tie
+use Rattle.resolving.specs.Laws.Marking.{Resolving, none-resolved, next-token, one-resolved, all-resolved}
+use Rattle.resolving.proofs.resolve.Statement.{statement}
+use Rattle.resolving.proofs.resolve.Tie as tie
 
 abbrev Inv-loop : tie.InvT-loop
 Inv-loop records₀ n i₀ records i = Resolving records₀ records n i

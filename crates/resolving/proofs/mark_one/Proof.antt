@@ -1,9 +1,9 @@
--- `declare::resolving::mark_one` meets its contract: the spelling of the name takes the number.
+-- `resolving::mark_one` meets its contract: the spelling of the name takes the number.
 -- Assumes nothing.
 use borrow.Author.Needs.{needs}
-use Rattle.declare.proofs.Marking.{cell-room, declared-inside, link-inside, marked-one}
-use Rattle.declare.proofs.resolving.mark_one.Statement.{statement}
-use Rattle.declare.proofs.resolving.mark_one.Tie as tie
+use Rattle.resolving.specs.Laws.Marking.{cell-room, declared-inside, link-inside, marked-one}
+use Rattle.resolving.proofs.mark_one.Statement.{statement}
+use Rattle.resolving.proofs.mark_one.Tie as tie
 
 pub mark-one-spec : {M : Type 1} → statement M
 mark-one-spec =

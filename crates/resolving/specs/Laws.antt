@@ -1,0 +1,2 @@
+-- The laws of meanings.
+pub mod Marking
