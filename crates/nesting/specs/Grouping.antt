@@ -15,8 +15,8 @@ nest d f l k c g b p h w = record { depth = d; free = f; label = l; flag = k; co
 abbrev pub kept : ℕ → ℕ → ℕ → Bool → Bool → Bool → Frame
 kept l k d b c g = record { label = l; flag = k; own = d; comes = b; ended = c; group = g }
 
-abbrev pub settle : ℕ → ℕ → ℕ → Nest
-settle d f w = nest d f 0 0 false false false 0 false w
+abbrev pub settle : ℕ → ℕ → ℕ → ℕ → Nest
+settle d f l w = nest d f l 0 false false false 0 false w
 
 -- behind a BEGIN
 abbrev pub enter : Nest → ℕ → ℕ → Nest

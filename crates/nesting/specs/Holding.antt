@@ -1,6 +1,6 @@
--- Where a walk stands, as it is kept: the flags in the cells from 0 on, a frame in six cells from 64 on, and for each label, at the number of its token,
--- the label around it and its flag from the cell 256 on.
-use Prim.Native.Nat.{ℕ, _+_, _*_, _-_, _<_, _≤_}
+-- Where a walk stands, as it is kept: the flags in the cells from 0 on, a frame in six cells from 64 on, the labels around it from the cell 256 on, of each
+-- its token and its flag, and behind them hints, one for each spelling: of the labels with a spelling none stands above the one that the hint leads to.
+use Prim.Native.Nat.{ℕ, suc, _+_, _*_, _-_, _%_, _<_, _≤_}
 use mathlib.Core.Path.{_≡_}
 use mathlib.Core.Bool.{Bool, true, false}
 use mathlib.Core.List.{List, [], _∷_}
@@ -8,9 +8,10 @@ use lib.Dec.{eqb}
 use lib.ListN.{length}
 use Rattle.cells.specs.Cells.{cell, putCell}
 use Rattle.rules.specs.Grammar.Trees.{Tokens}
-use Rattle.rules.specs.Limits.{deepest}
+use Rattle.rules.specs.Limits.{deepest, mostTokens}
 use Rattle.paths.specs.Walk.{Marks, Slot}
 use Rattle.paths.specs.Least.{least}
+use Rattle.table.specs.Holds.{linkCell}
 use Rattle.table.specs.Words.{NameAt, wordAt}
 use Rattle.nesting.specs.Machine.{Frame, State}
 use Rattle.nesting.specs.declared.nests.Nest.{Nest}
@@ -30,24 +31,54 @@ frameCell j = 64 + 6 * j
 abbrev pub labelCell : ℕ → ℕ
 labelCell p = 256 + 2 * p
 
+abbrev pub hintsFrom : ℕ
+hintsFrom = labelCell mostTokens
+
+abbrev pub hintCell : ℕ → ℕ
+hintCell spelling = hintsFrom + spelling % mostTokens
+
 -- the bytes that are needed
 abbrev pub enough : ℕ
-enough = 33280
+enough = 49664
+
+-- tokens, and the spellings of those that are names
+pub record Book : Type 0 where
+  pub tokens : Tokens
+  pub spelling : ℕ → ℕ
+
+abbrev pub book : List ℕ → Tokens → Book
+book records ts = record { tokens = ts; spelling = linkCell records }
 
 -- only the cells from a up to b differ
 pub record Kept (old new : List ℕ) (a b : ℕ) : Type 0 where
   pub size : length new ≡ length old
   pub same : (j : ℕ) → (a ≤ j → j < b → ⊥) → cell 2 new j ≡ cell 2 old j
 
--- the innermost label is the token p, below i; at 0 there is none
-pub data Linked (ts : Tokens) (room : List ℕ) : ℕ → ℕ → List Slot → Type 0 where
-  unlinked : {i : ℕ} → Linked ts room i 0 []
-  linked : {i p q : ℕ} {l : Slot} {ls : List Slot} → 0 < p → p < i → NameAt ts p → wordAt ts p ≡ l .name → cell 2 room (labelCell p + 1) ≡ l .flag → l .flag < 64
-      → cell 2 room (labelCell p) ≡ q → Linked ts room p q ls → Linked ts room i p (l ∷ ls)
+-- p labels, the innermost last
+pub data Linked (ts : Book) (room : List ℕ) : ℕ → List Slot → Type 0 where
+  unlinked : Linked ts room 0 []
+  linked : {p : ℕ} {l : Slot} {ls : List Slot} → NameAt (ts .tokens) (cell 2 room (labelCell p)) → wordAt (ts .tokens) (cell 2 room (labelCell p)) ≡ l .name
+      → cell 2 room (labelCell p + 1) ≡ l .flag → l .flag < 64 → p ≤ cell 2 room (hintCell (ts .spelling (cell 2 room (labelCell p))))
+      → Linked ts room p ls → Linked ts room (suc p) (l ∷ ls)
 
--- the frame number j, from the outermost on
-pub record FrameAt (ts : Tokens) (room : List ℕ) (i j : ℕ) (f : Frame) : Type 0 where
-  pub labels : Linked ts room i (cell 2 room (frameCell j)) (f .labels)
+-- the first `top` labels are the same, and no hint leads below one of them where it did not before
+pub record Still (old new : List ℕ) (top : ℕ) : Type 0 where
+  pub cells : (q : ℕ) → 256 ≤ q → q < labelCell top → cell 2 new q ≡ cell 2 old q
+  pub hints : (m c : ℕ) → m < top → hintsFrom ≤ c → m ≤ cell 2 old c → m ≤ cell 2 new c
+
+-- the label number j is put, and its hint
+pub record LabelPut (records old new : List ℕ) (j i flag : ℕ) : Type 0 where
+  pub size : length new ≡ length old
+  pub low : (q : ℕ) → q < 256 → cell 2 new q ≡ cell 2 old q
+  pub still : Still old new j
+  pub token : cell 2 new (labelCell j) ≡ i
+  pub flag-is : cell 2 new (labelCell j + 1) ≡ flag
+  pub hint : cell 2 new (hintCell (linkCell records i)) ≡ j
+
+-- the frame number j, from the outermost on, with at most so many labels around it
+pub record FrameAt (ts : Book) (room : List ℕ) (top j : ℕ) (f : Frame) : Type 0 where
+  pub below : cell 2 room (frameCell j) ≤ top
+  pub labels : Linked ts room (cell 2 room (frameCell j)) (f .labels)
   pub flag : cell 2 room (frameCell j + 1) ≡ f .flag
   pub flag-low : f .flag < 64
   pub own : cell 2 room (frameCell j + 2) ≡ f .own
@@ -56,21 +87,24 @@ pub record FrameAt (ts : Tokens) (room : List ℕ) (i j : ℕ) (f : Frame) : Typ
   pub ended : cell 2 room (frameCell j + 4) ≡ bit (f .ended)
   pub group : cell 2 room (frameCell j + 5) ≡ bit (f .group)
 
-pub data Frames (ts : Tokens) (room : List ℕ) (i : ℕ) : List Frame → Type 0 where
-  no-frames : Frames ts room i []
-  frames : {f : Frame} {fs : List Frame} → FrameAt ts room i (length fs) f → Frames ts room i fs → Frames ts room i (f ∷ fs)
+-- no frame has more labels around it than those inside it
+pub data Frames (ts : Book) (room : List ℕ) : ℕ → List Frame → Type 0 where
+  no-frames : {top : ℕ} → Frames ts room top []
+  frames : {top : ℕ} {f : Frame} {fs : List Frame} → FrameAt ts room top (length fs) f → Frames ts room (cell 2 room (frameCell (length fs))) fs
+      → Frames ts room top (f ∷ fs)
 
 pub record Flagged (room : List ℕ) (w : Marks) : Type 0 where
   pub at : (j : ℕ) → j < 64 → cell 2 room j ≡ bit (w .flags j)
 
-pub record Shows (ts : Tokens) (room : List ℕ) (i : ℕ) (x : Nest) (z : State) : Type 0 where
+pub record Shows (ts : Book) (room : List ℕ) (i : ℕ) (x : Nest) (z : State) : Type 0 where
   pub space : enough ≤ length room
   pub few : i ≤ 8192
   pub depth-is : x .depth ≡ length (z .frames)
   pub shallow : x .depth ≤ deepest
   pub free-is : x .free ≡ z .free
   pub free-low : x .free ≤ x .depth + 2
-  pub labels : Linked ts room i (x .label) (z .labels)
+  pub label-low : x .label ≤ i
+  pub labels : Linked ts room (x .label) (z .labels)
   pub flag-is : x .flag ≡ z .flag
   pub flag-low : x .flag < 64
   pub comes-is : x .comes ≡ z .comes
@@ -80,16 +114,16 @@ pub record Shows (ts : Tokens) (room : List ℕ) (i : ℕ) (x : Nest) (z : State
   pub place-low : x .place < unseen
   pub hit-is : x .hit ≡ z .dest .hit
   pub low-is : x .low ≡ least unseen (z .marks .places)
-  pub frames : Frames ts room i (z .frames)
+  pub frames : Frames ts room (x .label) (z .frames)
   pub flags : Flagged room (z .marks)
 
 -- it shows some state
 abbrev pub Standing : List ℕ → Nest → Type 0
-Standing room x = (ts : Tokens) × (i : ℕ) × (z : State) × Shows ts room i x z
+Standing room x = (ts : Book) × (i : ℕ) × (z : State) × Shows ts room i x z
 
 -- what is done to the state that it shows
 abbrev pub Does : (State → State) → List ℕ → Nest → List ℕ → Nest → Type 0
-Does f old x new y = (ts : Tokens) (i : ℕ) (z : State) → Shows ts old i x z → Shows ts new i y (f z)
+Does f old x new y = (ts : Book) (i : ℕ) (z : State) → Shows ts old i x z → Shows ts new i y (f z)
 
 -- a flag is set if b
 pub record Set (old new : List ℕ) (k : ℕ) (b : Bool) : Type 0 where

@@ -73,7 +73,7 @@ opened false s = settled [] 0 (s .marks)
 abbrev pub closed : List Frame → State → State
 closed [] s = s
 closed (f ∷ fs) s =
-    settled fs (f .own) (cond (f .group) (marked (f .flag) (f .ended && s .marks .flags (f .own)) (s .marks)) (s .marks))
+    state fs (f .own) (cond (f .group) (marked (f .flag) (f .ended && s .marks .flags (f .own)) (s .marks)) (s .marks)) (f .labels) 0 false false idle
 
 -- `;`
 abbrev pub also : List Frame → State → State

@@ -17,7 +17,7 @@ ghost use Rattle.nesting.specs.Machine.{opened, closed, also, next, anot
 ghost use Rattle.nesting.specs.Holding.{bit, Standing, Does, Top, Pushed};
 ghost use Rattle.nesting.specs.Grouping.{settle, enter, Three, Resuming, Resumed};
 
-// The innermost label around it and the flag at its end, its own flag; whether control comes to the present group, whether all of its members so far have
+// How many labels are around it and the flag at its end, its own flag; whether control comes to the present group, whether all of its members so far have
 // ended, whether it is a block.
 pub struct Frame {
     pub label: usize,
@@ -30,7 +30,7 @@ pub struct Frame {
 
 // The innermost frame.
 fn top(room: &[u8], depth: usize) -> Frame
-    requires { ⌜ (0 < depth) × (depth ≤ 32) × (33280 ≤ length (now room)) ⌝ }
+    requires { ⌜ (0 < depth) × (depth ≤ 32) × (49664 ≤ length (now room)) ⌝ }
     ensures { λ r. ⌜ Top (now (room .entry)) depth r ⌝ }
 {
     let at = 64 + 6 * (depth - 1);
@@ -65,7 +65,7 @@ fn put3(room: &mut [u8], at: usize, a: usize, b: usize, c: usize)
 
 // The frame number j.
 fn push(room: &mut [u8], j: usize, f: Frame)
-    requires { ⌜ (j < 32) × (33280 ≤ length (now room)) × (f .label < 65536) × (f .flag < 65536) × (f .own < 65536) ⌝ }
+    requires { ⌜ (j < 32) × (49664 ≤ length (now room)) × (f .label < 65536) × (f .flag < 65536) × (f .own < 65536) ⌝ }
     ensures { λ _. ⌜ Pushed (now (room .entry)) (now (room .exit)) j f ⌝ }
 {
     let at = 64 + 6 * j;
@@ -74,13 +74,13 @@ fn push(room: &mut [u8], j: usize, f: Frame)
 }
 
 // Between two actions.
-fn settled(depth: usize, free: usize, low: usize) -> Nest
-    ensures { λ r. ⌜ r ≡ settle depth free low ⌝ }
+fn settled(depth: usize, free: usize, label: usize, low: usize) -> Nest
+    ensures { λ r. ⌜ r ≡ settle depth free label low ⌝ }
 {
     Nest {
         depth,
         free,
-        label: 0,
+        label,
         flag: 0,
         comes: false,
         choosing: false,
@@ -105,7 +105,7 @@ pub fn close(room: &mut [u8], s: Nest) -> Nest
     let own = f.own;
     let ended = both(f.ended, flag_at(room, own));
     mark(room, f.flag, both(f.group, ended));
-    settled(depth - 1, own, low)
+    settled(depth - 1, own, f.label, low)
 }
 
 // The frame, in which a member begins that control comes to or not; and whether all members before it have ended.
@@ -202,7 +202,7 @@ pub fn open(room: &mut [u8], s: Nest) -> Nest
     let free = s.free;
     let low = s.low;
     if DEEPEST <= depth {
-        return settled(0, 0, low);
+        return settled(0, 0, 0, low);
     }
     let choosing = s.choosing;
     let frame = Frame {

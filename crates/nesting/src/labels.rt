@@ -1,48 +1,89 @@
-// The labels around an action: each has, at the number of its token, the label around it and its flag.
+// The labels around an action, the innermost last: of each its token and its flag. Behind them stand hints: by spelling, where a label that has it was last
+// put. So no label above has the word, and a LEAVE looks from there outwards; labels of a body have different words, so it finds its own at once.
 use crate::nests::Nest;
 use crate::nests::mark;
 use cells::get16;
 use cells::put16;
+use rules::limits::MOST_TOKENS;
 use spelling::words::same_spelling;
+use table::records::link_at;
+ghost use mathlib.Core.Path.{_≡_};
 ghost use mathlib.Core.List.{List};
-ghost use Prim.Native.Nat.{ℕ, _+_, _*_, _<_};
+ghost use Prim.Native.Nat.{_+_, _*_, _<_, _≤_};
+ghost use lib.ListN.{length};
+ghost use Rattle.rules.specs.Limits.{mostTokens};
 ghost use Rattle.paths.specs.Walk.{Slot, flagOf};
+ghost use Rattle.table.specs.Holds.{linkCell};
 ghost use Rattle.table.specs.Words.{wordAt};
 ghost use Rattle.nesting.specs.Spelt.{Spelt};
-ghost use Rattle.nesting.specs.Holding.{Linked, Standing};
-ghost use Rattle.nesting.specs.Jumping.{Sought, Jumping, Left, Labels, FlagFound};
+ghost use Rattle.nesting.specs.Machine.{State};
+ghost use Rattle.nesting.specs.Holding.{hintsFrom, hintCell, enough, Book, book, Linked, Shows, LabelPut};
+ghost use Rattle.nesting.specs.Jumping.{Sought, Seeking, Jumping, Left, Labels, FlagFound};
 
 // No flag.
 const NONE: usize = 64;
 
-// The name that is the token i is a label.
-pub fn label(room: &mut [u8], i: usize, s: Nest) -> Nest
-    requires { ⌜ (0 < i) × (i < 8192) × Standing (now room) s ⌝ }
-    ensures { λ r. ⌜ Labels (now (room .entry)) (now (room .exit)) i s r ⌝ }
+// Cell of two bytes: the labels stand before it, and from it on the hints, a cell for each spelling.
+const HINTS: usize = 16640;
+
+// The cell of the hint for the name i.
+fn hint_cell(records: &[u8], i: usize) -> usize
+    requires { ⌜ 8 * i + 8 ≤ length (now records) ⌝ }
+    ensures { λ r. ⌜ (r ≡ hintCell (linkCell (now (records .entry)) i)) × (hintsFrom ≤ r) × (2 * r + 2 ≤ enough) ⌝ }
 {
-    let at = 256 + 2 * i;
-    let around = s.label;
-    let flag = s.flag;
-    put16(room, at, around as u16);
+    HINTS + link_at(records, i) % MOST_TOKENS
+}
+
+// The label number j: its name is the token i.
+pub fn put_label(records: &[u8], room: &mut [u8], j: usize, i: usize, flag: usize)
+    requires { ⌜ (enough ≤ length (now room)) × (j < mostTokens) × (i < mostTokens) × (8 * i + 8 ≤ length (now records)) × (flag < 65536) ⌝ }
+    ensures { λ _. ⌜ LabelPut (now (records .entry)) (now (room .entry)) (now (room .exit)) j i flag ⌝ }
+{
+    let at = 256 + 2 * j;
+    let hint = hint_cell(records, i);
+    put16(room, at, i as u16);
     put16(room, at + 1, flag as u16);
+    put16(room, hint, j as u16);
+}
+
+// The name that is the token i is a label.
+pub fn label(records: &[u8], room: &mut [u8], i: usize, s: Nest) -> Nest
+    requires { ⌜ (i < 8192) × (8 * i + 8 ≤ length (now records)) × ((ts : Book) × (z : State) × Shows ts (now room) i s z) ⌝ }
+    ensures { λ r. ⌜ Labels (now (records .entry)) (now (room .entry)) (now (room .exit)) i s r ⌝ }
+{
+    let count = s.label;
+    let flag = s.flag;
+    put_label(records, room, count, i, flag);
     let mut t = s;
-    t.label = i;
+    t.label = count + 1;
     t
 }
 
-// The flag of the innermost label, from this one on, that has the word of the name.
-fn flag_of(records: &[u8], room: &[u8], n: usize, label: usize, name: usize) -> usize
-    requires { ⌜ Sought (now records) (now room) n label name ⌝ }
-    ensures { λ r. ⌜ ((w : Spelt (now (records .entry)) n) (i : ℕ) (ls : List Slot) → Linked (w .tokens) (now (room .entry)) i label ls
+// How many of the labels may have the word of the name: up to the one that its hint leads to.
+fn lookable(records: &[u8], room: &[u8], n: usize, count: usize, name: usize) -> usize
+    requires { ⌜ Sought (now records) (now room) n count name ⌝ }
+    ensures { λ r. ⌜ Seeking (now (records .entry)) (now (room .entry)) n count name r ⌝ }
+{
+    let k = get16(room, hint_cell(records, name)) as usize;
+    if k < count {
+        return k + 1;
+    }
+    count
+}
+
+// The flag of the innermost label that has the word of the name.
+fn flag_of(records: &[u8], room: &[u8], n: usize, count: usize, name: usize) -> usize
+    requires { ⌜ Sought (now records) (now room) n count name ⌝ }
+    ensures { λ r. ⌜ ((w : Spelt (now (records .entry)) n) (ls : List Slot) → Linked (book (now (records .entry)) (w .tokens)) (now (room .entry)) count ls
         → FlagFound (flagOf ls (wordAt (w .tokens) name)) r) ⌝ }
 {
-    let mut p = label;
-    while 0 < p {
-        let at = p;
-        if same_spelling(records, name, at) {
-            return get16(room, 257 + 2 * at) as usize;
+    let mut j = lookable(records, room, n, count, name);
+    while 0 < j {
+        j -= 1;
+        let label = get16(room, 256 + 2 * j) as usize;
+        if same_spelling(records, name, label) {
+            return get16(room, 257 + 2 * j) as usize;
         }
-        p = get16(room, 256 + 2 * at) as usize;
     }
     NONE
 }

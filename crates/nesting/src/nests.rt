@@ -11,7 +11,7 @@ ghost use Rattle.cells.specs.Cells.{cell};
 ghost use Rattle.nesting.specs.Holding.{Standing, Does, Set, Taken};
 ghost use Rattle.nesting.specs.Machine.{reached, transferred, destined, looped, chosen};
 
-// How many BEGINs are open, the first free flag, the innermost label; the flag at the end of the action here, whether control comes to it; whether it is a
+// How many BEGINs are open, the first free flag, how many labels are around; the flag at the end of the action here, whether control comes to it; whether it is a
 // DECODE; of its destination, whether it has begun, its place, whether it writes the output; and the lowest place so far.
 pub struct Nest {
     pub depth: usize,

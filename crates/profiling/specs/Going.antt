@@ -9,7 +9,7 @@ use Rattle.paths.specs.Least.{least}
 use Rattle.table.specs.Words.{NameAt, wordAt}
 use Rattle.profiling.specs.Spelt.{whole}
 use Rattle.nesting.specs.Machine.{State, outset, run}
-use Rattle.nesting.specs.Holding.{unseen, enough, Shows}
+use Rattle.nesting.specs.Holding.{unseen, enough, Book, book, Shows}
 use Rattle.profiling.specs.Walking.{Scene, Finds, marksOf}
 use Rattle.nesting.specs.declared.nests.Nest.{Nest}
 use Rattle.profiling.specs.declared.tasks.Task.{Task}
@@ -25,15 +25,16 @@ pub record Beginning (records decls table room : List ℕ) (t : Task) (name from
   pub past : 0 < name
   pub behind : name < from
   pub few : name < 8192
+  pub record-room : 8 * name + 8 ≤ length records
   pub from-few : from ≤ 8192
   pub is-name : (g : Scene records decls table t) → NameAt (g .written .tokens) name
   pub space : enough ≤ length room
 
-abbrev pub Begins : List ℕ → ℕ → Nest → Type 0
-Begins room name r = (ts : Tokens) (i : ℕ) → NameAt ts name → name < i → i ≤ 8192 → Shows ts room i r (outset (wordAt ts name))
+abbrev pub Begins : List ℕ → List ℕ → ℕ → Nest → Type 0
+Begins records room name r = (ts : Tokens) (i : ℕ) → NameAt ts name → name < i → i ≤ 8192 → Shows (book records ts) room i r (outset (wordAt ts name))
 
 abbrev pub Tells : List ℕ → Nest → Found → Type 0
-Tells room s r = (ts : Tokens) (i : ℕ) (z : State) → Shows ts room i s z → (r .ends ≡ z .marks .flags 1) × (r .low ≡ least unseen (z .marks .places))
+Tells room s r = (ts : Book) (i : ℕ) (z : State) → Shows ts room i s z → (r .ends ≡ z .marks .flags 1) × (r .low ≡ least unseen (z .marks .places))
 
 -- what the walk of a body comes to
 pub record Walked (records decls table : List ℕ) (t : Task) (name from : ℕ) (r : Found) : Type 0 where
@@ -43,7 +44,7 @@ pub record Walked (records decls table : List ℕ) (t : Task) (name from : ℕ) 
 -- at the token i, in a mode
 pub record SoFar {records decls table : List ℕ} {t : Task} (g : Scene records decls table t) (room : List ℕ) (name from : ℕ) (s : Nest) (mode i : ℕ) : Type 0 where
   pub state : State
-  pub shows : Shows (g .written .tokens) room i s state
+  pub shows : Shows (book records (g .written .tokens)) room i s state
   pub runs : run (whole (g .written)) (g .test) (t .out) (g .known) mode state (drop i (g .written .tokens)) ≡ marksOf g name from
 
 pub record Going (records decls table first room : List ℕ) (t : Task) (name from : ℕ) (s : Nest) (mode i : ℕ) : Type 0 where

@@ -18,7 +18,7 @@ use Rattle.reading.specs.Kinds.{nextNo}
 use Rattle.scopes.specs.Walks.{nextWord}
 use Rattle.profiling.specs.Spelt.{SpeltDescription, whole}
 use Rattle.nesting.specs.Machine.{State, acted, named, activated, aimed, run, outset}
-use Rattle.nesting.specs.Holding.{unseen, bit, Shows}
+use Rattle.nesting.specs.Holding.{unseen, bit, book, Shows}
 use Rattle.nesting.specs.declared.nests.Nest.{Nest}
 use Rattle.profiling.specs.declared.tasks.Task.{Task}
 use Rattle.profiling.specs.declared.walks.Found.{Found}
@@ -53,7 +53,7 @@ pub record Scene (records decls table : List ℕ) (t : Task) : Type 0 where
 pub record Acting (records decls table room : List ℕ) (t : Task) (i : ℕ) (s : Nest) : Type 0 where
   pub scene : Scene records decls table t
   pub state : State
-  pub shows : Shows (scene .written .tokens) room i s state
+  pub shows : Shows (book records (scene .written .tokens)) room i s state
   pub past : 0 < i
   pub within : i < t .n
   pub few : i < 8192
@@ -62,26 +62,26 @@ pub record Acting (records decls table room : List ℕ) (t : Task) (i : ℕ) (s 
 -- what it did
 abbrev pub Acted : List ℕ → List ℕ → List ℕ → List ℕ → List ℕ → Task → ℕ → ℕ → Nest → Nest → Type 0
 Acted records decls table old new t i mode s r =
-    (g : Scene records decls table t) (z : State) → Shows (g .written .tokens) old i s z
-    → Shows (g .written .tokens) new (i + 1) r
+    (g : Scene records decls table t) (z : State) → Shows (book records (g .written .tokens)) old i s z
+    → Shows (book records (g .written .tokens)) new (i + 1) r
     (acted (whole (g .written)) (g .test) (t .out) (g .known) mode (kindByte records i) (tokenAt (g .written .tokens) i) (drop (i + 1) (g .written .tokens)) z)
 
 -- the name that is the token i, with what stands behind it
 abbrev pub Named : List ℕ → List ℕ → List ℕ → List ℕ → List ℕ → Task → ℕ → ℕ → Nest → Nest → Type 0
 Named records decls table old new t i mode s r =
-    (g : Scene records decls table t) (z : State) → Shows (g .written .tokens) old i s z
-    → Shows (g .written .tokens) new (i + 1) r
+    (g : Scene records decls table t) (z : State) → Shows (book records (g .written .tokens)) old i s z
+    → Shows (book records (g .written .tokens)) new (i + 1) r
     (named (whole (g .written)) (g .test) (t .out) (g .known) mode (tokenAt (g .written .tokens) i) (nextNo (drop (i + 1) (g .written .tokens))) z)
 
 abbrev pub Activates : List ℕ → List ℕ → List ℕ → List ℕ → List ℕ → Task → ℕ → Nest → Nest → Type 0
 Activates records decls table old new t i s r =
-    (g : Scene records decls table t) (z : State) (j : ℕ) → Shows (g .written .tokens) old j s z
-    → Shows (g .written .tokens) new j r (activated (whole (g .written)) (g .test) (t .out) (g .known) (wordAt (g .written .tokens) i) z)
+    (g : Scene records decls table t) (z : State) (j : ℕ) → Shows (book records (g .written .tokens)) old j s z
+    → Shows (book records (g .written .tokens)) new j r (activated (whole (g .written)) (g .test) (t .out) (g .known) (wordAt (g .written .tokens) i) z)
 
 abbrev pub Aims : List ℕ → List ℕ → List ℕ → List ℕ → List ℕ → Task → ℕ → Nest → Nest → Type 0
 Aims records decls table old new t i s r =
-    (g : Scene records decls table t) (z : State) (j : ℕ) → Shows (g .written .tokens) old j s z
-    → Shows (g .written .tokens) new j r (aimed (eqb (nextNo (drop (i + 1) (g .written .tokens))) (kindNo Name)) (nextWord (drop (i + 1) (g .written .tokens))) z)
+    (g : Scene records decls table t) (z : State) (j : ℕ) → Shows (book records (g .written .tokens)) old j s z
+    → Shows (book records (g .written .tokens)) new j r (aimed (eqb (nextNo (drop (i + 1) (g .written .tokens))) (kindNo Name)) (nextWord (drop (i + 1) (g .written .tokens))) z)
 
 -- the body at `from` of the name that is the token `name`
 abbrev pub marksOf : {records decls table : List ℕ} {t : Task} → Scene records decls table t → ℕ → ℕ → Marks

@@ -104,7 +104,7 @@ pub fn name(
     }
     let next = kind_of(records, t.n, i + 1);
     if next == BECOMES {
-        return label(room, i, s);
+        return label(records, room, i, s);
     }
     if next == LPAR {
         return activate(records, decls, table, room, t, i, s);

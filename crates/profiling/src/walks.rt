@@ -2,6 +2,7 @@
 use crate::steps::step;
 use crate::tasks::Task;
 use cells::put16;
+use nesting::labels::put_label;
 use nesting::nests::Nest;
 use nesting::nests::flag_at;
 use reading::kinds::mode;
@@ -21,7 +22,7 @@ pub struct Found {
 }
 
 fn clear_flags(room: &mut [u8])
-    requires { ⌜ 33280 ≤ length (now room) ⌝ }
+    requires { ⌜ 49664 ≤ length (now room) ⌝ }
     ensures { λ _. ⌜ Cleared (now (room .entry)) (now (room .exit)) 64 ⌝ }
 {
     let mut k: usize = 0;
@@ -33,18 +34,16 @@ fn clear_flags(room: &mut [u8])
 }
 
 // At the start of a body, whose own name is the outermost label.
-fn begin(room: &mut [u8], name: usize) -> Nest
-    requires { ⌜ (33280 ≤ length (now room)) × (0 < name) × (name < 8192) ⌝ }
-    ensures { λ r. ⌜ Begins (now (room .exit)) name r ⌝ }
+fn begin(records: &[u8], room: &mut [u8], name: usize) -> Nest
+    requires { ⌜ (49664 ≤ length (now room)) × (0 < name) × (name < 8192) × (8 * name + 8 ≤ length (now records)) ⌝ }
+    ensures { λ r. ⌜ Begins (now (records .entry)) (now (room .exit)) name r ⌝ }
 {
     clear_flags(room);
-    let at = 256 + 2 * name;
-    put16(room, at, 0);
-    put16(room, at + 1, 1);
+    put_label(records, room, 0, name, 1);
     Nest {
         depth: 0,
         free: 2,
-        label: name,
+        label: 1,
         flag: 1,
         comes: true,
         choosing: false,
@@ -80,7 +79,7 @@ pub fn walk(
     ensures { λ r. ⌜ Walked (now (records .entry)) (now (decls .entry)) (now (table .entry)) t name from r ⌝ }
 {
     let n = t.n;
-    let mut s = begin(room, name);
+    let mut s = begin(records, room, name);
     let mut reading: usize = 0;
     let mut i = from;
     while i < n {

@@ -10,14 +10,13 @@ use borrow.Author.Tests.{lt-ltb, le-ltb}
 use lib.Dec.{eqb, ltb}
 use lib.ListN.{length}
 use Rattle.cells.specs.Cells.{cell, putCell}
-use Rattle.rules.specs.Grammar.Trees.{Tokens}
 use Rattle.rules.specs.Limits.{deepest}
 use Rattle.paths.specs.Least.{least}
-use Rattle.paths.specs.Walk.{Marks, Slot, marked, cleared}
+use Rattle.paths.specs.Walk.{Marks, marked, cleared}
 use Rattle.nesting.specs.Machine.{Frame, frame, State, state, settled, idle, begun, opened, closed, also, next, another}
-use Rattle.nesting.specs.Holding.{unseen, bit, frameCell, Linked, unlinked, linked, FrameAt, Frames, no-frames, frames, Flagged, Shows, Standing, Does, Set, Taken, Top, Pushed}
+use Rattle.nesting.specs.Holding.{unseen, bit, frameCell, Book, Linked, unlinked, FrameAt, Frames, no-frames, frames, Flagged, Shows, Standing, Does, Set, Taken, Top, Pushed}
 use Rattle.nesting.specs.Grouping.{nest, kept, settle, enter, Three, Resuming, Resumed}
-use Rattle.nesting.specs.Laws.Holding.{bit-test, put-size, put-same, put-here, linked-kept, frames-kept, flagged-set, flagged-cleared, flagged-kept}
+use Rattle.nesting.specs.Laws.Holding.{bit-test, put-size, put-same, put-here, linked-kept, frames-kept, frame-later, flagged-set, flagged-cleared, flagged-kept}
 use Rattle.nesting.specs.declared.nests.Nest.{Nest}
 use Rattle.nesting.specs.declared.frames.Frame.{Frame as Kept-frame}
 
@@ -56,13 +55,15 @@ six-put {old} {mid} {new} {j} a b e g h = record {
 }
 
 -- the innermost frame, as it is read
-record Inner (ts : Tokens) (room : List ℕ) (i : ℕ) (x : Nest) (z : State) (f : Kept-frame) : Type 0 where
+record Inner (ts : Book) (room : List ℕ) (i : ℕ) (x : Nest) (z : State) (f : Kept-frame) : Type 0 where
   frame-is : Frame
   others : List Frame
   is : z .frames ≡ frame-is ∷ others
-  rest : Frames ts room i others
+  rest : Frames ts room (f .label) others
+  itself : Frames ts room (f .label) (frame-is ∷ others)
+  below : f .label ≤ x .label
   size : x .depth ≡ suc (length others)
-  labels : Linked ts room i (f .label) (frame-is .labels)
+  labels : Linked ts room (f .label) (frame-is .labels)
   flag : f .flag ≡ frame-is .flag
   flag-low : f .flag < 64
   own : f .own ≡ frame-is .own
@@ -71,22 +72,25 @@ record Inner (ts : Tokens) (room : List ℕ) (i : ℕ) (x : Nest) (z : State) (f
   ended : f .ended ≡ frame-is .ended
   group : f .group ≡ frame-is .group
 
-inner : {ts : Tokens} {room : List ℕ} {i : ℕ} {x : Nest} {z : State} {f : Kept-frame} → Shows ts room i x z → (x .depth ≡ 0 → ⊥) → Top room (x .depth) f
+inner : {ts : Book} {room : List ℕ} {i : ℕ} {x : Nest} {z : State} {f : Kept-frame} → Shows ts room i x z → (x .depth ≡ 0 → ⊥) → Top room (x .depth) f
     → Inner ts room i x z f
 inner {ts} {room} {i} {x} {z} {f} s n t = by (z .frames) refl (s .frames)
   where
-    by : (fs : List Frame) → z .frames ≡ fs → Frames ts room i fs → Inner ts room i x z f
+    by : (fs : List Frame) → z .frames ≡ fs → Frames ts room (x .label) fs → Inner ts room i x z f
     by fs e no-frames = absurd (n (s .depth-is ∙ ap length e))
     by fs e (frames {f = g} {fs = others} a r) =
         let size : x .depth ≡ suc (length others) = s .depth-is ∙ ap length e in
         let at : x .depth - 1 ≡ length others = omega arith in
+        let count : f .label ≡ cell 2 room (frameCell (length others)) = t .label ∙ ap (λ k. cell 2 room (frameCell k)) at in
         record {
           frame-is = g;
           others = others;
           is = e;
-          rest = r;
+          rest = subst (λ p. Frames ts room p others) (sym count) r;
+          itself = frames {fs = others} (frame-later (f .label) (omega arith) a) r;
+          below = omega (arith, a .below);
           size = size;
-          labels = subst (λ p. Linked ts room i p (g .labels)) (sym (t .label ∙ ap (λ k. cell 2 room (frameCell k)) at)) (a .labels);
+          labels = subst (λ p. Linked ts room p (g .labels)) (sym count) (a .labels);
           flag = t .flag ∙ (ap (λ k. cell 2 room (frameCell k + 1)) at ∙ a .flag);
           flag-low = omega (arith, t .flag ∙ (ap (λ k. cell 2 room (frameCell k + 1)) at ∙ a .flag), a .flag-low);
           own = t .own ∙ (ap (λ k. cell 2 room (frameCell k + 2)) at ∙ a .own);
@@ -95,10 +99,6 @@ inner {ts} {room} {i} {x} {z} {f} s n t = by (z .frames) refl (s .frames)
           ended = t .ended ∙ (ap (λ k. eqb (cell 2 room (frameCell k + 4)) 1) at ∙ (ap (λ k. eqb k 1) (a .ended) ∙ bit-test (g .ended)));
           group = t .group ∙ (ap (λ k. eqb (cell 2 room (frameCell k + 5)) 1) at ∙ (ap (λ k. eqb k 1) (a .group) ∙ bit-test (g .group)));
         }
-
-pub linked-low : {ts : Tokens} {room : List ℕ} {i p : ℕ} {ls : List Slot} → Linked ts room i p ls → i ≤ 8192 → p < 65536
-linked-low unlinked h = omega arith
-linked-low (linked a b n w f k q r) h = omega arith
 
 -- what the functions ask
 module _ {room : List ℕ} {x : Nest} (st : Standing room x) where
@@ -117,13 +117,13 @@ module _ {room : List ℕ} {x : Nest} (st : Standing room x) where
           inside = omega (arith, y .size);
           shallow = s .shallow;
           space = omega (arith, s .space, put-size room mid (f .own) 0 (k .put));
-          label-fits = linked-low (y .labels) (s .few);
+          label-fits = omega (arith, y .below, s .label-low, s .few);
           flag-fits = omega (arith, y .flag-low);
           own-fits = omega (arith, y .own-low, y .size, s .shallow);
         }
 
 -- a member begins
-module _ {ts : Tokens} {old mid new : List ℕ} {i : ℕ} {x r : Nest} {z : State} {f : Kept-frame} {was b c : Bool} (s : Shows ts old i x z) (n : x .depth ≡ 0 → ⊥)
+module _ {ts : Book} {old mid new : List ℕ} {i : ℕ} {x r : Nest} {z : State} {f : Kept-frame} {was b c : Bool} (s : Shows ts old i x z) (n : x .depth ≡ 0 → ⊥)
     (t : Top old (x .depth) f) (k : Taken old mid (f .own) was) (res : Resumed mid new x f b c r) where
   abbrev y : Inner ts old i x z f
   y = inner s n t
@@ -141,14 +141,16 @@ module _ {ts : Tokens} {old mid new : List ℕ} {i : ℕ} {x r : Nest} {z : Stat
   was-is : was ≡ z .marks .flags (f .own)
   was-is = k .was ∙ (ap (λ v. eqb v 1) (s .flags .at (f .own) own-small) ∙ bit-test (z .marks .flags (f .own)))
 
-  frame-there : FrameAt ts new i (length (y .others)) (frame (y .frame-is .labels) (y .frame-is .flag) (y .frame-is .own) b c (y .frame-is .group))
+  count-there : cell 2 new (frameCell (length (y .others))) ≡ f .label
+  count-there = let at : x .depth - 1 ≡ length (y .others) = omega (arith, y .size) in ap (λ j. cell 2 new (frameCell j)) (sym at) ∙ res .pushed .label
+
+  frame-there : FrameAt ts new (f .label) (length (y .others)) (frame (y .frame-is .labels) (y .frame-is .flag) (y .frame-is .own) b c (y .frame-is .group))
   frame-there =
       let at : x .depth - 1 ≡ length (y .others) = omega (arith, y .size) in
       let p = res .pushed in
       record {
-        labels =
-            subst (λ q. Linked ts new i q (y .frame-is .labels)) (sym (p .label) ∙ ap (λ j. cell 2 new (frameCell j)) at)
-            (linked-kept (λ q a l. far-same q (omega arith) (inr a)) (y .labels));
+        below = omega (arith, count-there);
+        labels = subst (λ q. Linked ts new q (y .frame-is .labels)) (sym count-there) (linked-kept (λ q a. far-same q (omega arith) (inr a)) (y .labels));
         flag = ap (λ j. cell 2 new (frameCell j + 1)) (sym at) ∙ (p .flag ∙ y .flag);
         flag-low = omega (arith, y .flag, y .flag-low);
         own = ap (λ j. cell 2 new (frameCell j + 2)) (sym at) ∙ (p .own ∙ y .own);
@@ -172,11 +174,12 @@ module _ {ts : Tokens} {old mid new : List ℕ} {i : ℕ} {x r : Nest} {z : Stat
       (record {
         space = omega (arith, s .space, mid-size, res .pushed .kept .size);
         few = s .few;
+        label-low = omega (arith, y .below, s .label-low);
         depth-is = y .size;
         shallow = s .shallow;
         free-is = s .free-is;
         free-low = s .free-low;
-        labels = linked-kept (λ q a l. far-same q (omega arith) (inr a)) (y .labels);
+        labels = linked-kept (λ q a. far-same q (omega arith) (inr a)) (y .labels);
         flag-is = y .own;
         flag-low = own-small;
         comes-is = refl;
@@ -186,7 +189,9 @@ module _ {ts : Tokens} {old mid new : List ℕ} {i : ℕ} {x r : Nest} {z : Stat
         place-low = omega arith;
         hit-is = refl;
         low-is = s .low-is;
-        frames = frames frame-there (frames-kept (λ q a l. far-same q a (inl l)) (λ q a l. far-same q (omega arith) (inr a)) (y .rest));
+        frames =
+            frames {fs = y .others} frame-there (subst (λ q. Frames ts new q (y .others)) (sym count-there)
+            (frames-kept (λ q a l. far-same q a (inl l)) (λ q a. far-same q (omega arith) (inr a)) (y .rest)));
         flags = subst (λ d. Flagged new (cleared d (z .marks))) (y .own) kept-flags;
       })
 
@@ -197,7 +202,7 @@ module _ {ts : Tokens} {old mid new : List ℕ} {i : ℕ} {x r : Nest} {z : Stat
 unframed : (f : List Frame → State → State) {room : List ℕ} {x : Nest} → ((z : State) → f [] z ≡ z) → x .depth ≡ 0 → Does (λ z. f (z .frames) z) room x room x
 unframed f {room} {x} none e ts i z s = by (z .frames) refl (s .frames)
   where
-    by : (fs : List Frame) → z .frames ≡ fs → Frames ts room i fs → Shows ts room i x (f (z .frames) z)
+    by : (fs : List Frame) → z .frames ≡ fs → Frames ts room (x .label) fs → Shows ts room i x (f (z .frames) z)
     by fs q no-frames = subst (Shows ts room i x) (sym (ap (λ l. f l z) q ∙ none z)) s
     by fs q (frames a r) = absurd (omega (arith, s .depth-is, ap length q))
 
@@ -243,6 +248,7 @@ module _ {old : List ℕ} {x : Nest} {f : Kept-frame} (n : x .depth ≡ 0 → �
       (record {
         space = s .space;
         few = s .few;
+        label-low = omega (arith, y .below, s .label-low);
         depth-is = y .size;
         shallow = s .shallow;
         free-is = s .free-is;
@@ -257,13 +263,13 @@ module _ {old : List ℕ} {x : Nest} {f : Kept-frame} (n : x .depth ≡ 0 → �
         place-low = omega arith;
         hit-is = refl;
         low-is = s .low-is;
-        frames = subst (Frames ts old i) (y .is) (s .frames);
+        frames = y .itself;
         flags = s .flags;
       })
 
   -- END
   module _ {new : List ℕ} {was c g : Bool} (look : was ≡ eqb (cell 2 old (f .own)) 1) (e : c ≡ (f .ended && was)) (h : g ≡ (f .group && c)) (set : Set old new (f .flag) g) where
-    pub close-shown : {r : Nest} → r ≡ settle (x .depth - 1) (f .own) (x .low) → Does (λ z. closed (z .frames) z) old x new r
+    pub close-shown : {r : Nest} → r ≡ settle (x .depth - 1) (f .own) (f .label) (x .low) → Does (λ z. closed (z .frames) z) old x new r
     close-shown {r} is ts i z s =
         let y = inner s n t in
         let q = y .frame-is in
@@ -273,15 +279,16 @@ module _ {old : List ℕ} {x : Nest} {f : Kept-frame} (n : x .depth ≡ 0 → �
         let c-is : c ≡ (q .ended && z .marks .flags (q .own)) = e ∙ ap₂ _&&_ (y .ended) was-is in
         let high : (j : ℕ) → 64 ≤ j → cell 2 new j ≡ cell 2 old j = λ j l. set .same j (λ d o. omega (arith, y .flag-low)) in
         let down : x .depth - 1 ≡ length (y .others) = omega (arith, y .size) in
-        subst (λ w. Shows ts new i w (closed (z .frames) z)) (sym is) (subst (λ l. Shows ts new i (settle (x .depth - 1) (f .own) (x .low)) (closed l z)) (sym (y .is))
+        subst (λ w. Shows ts new i w (closed (z .frames) z)) (sym is) (subst (λ l. Shows ts new i (settle (x .depth - 1) (f .own) (f .label) (x .low)) (closed l z)) (sym (y .is))
         (record {
           space = omega (arith, s .space, set .size);
           few = s .few;
+          label-low = omega (arith, y .below, s .label-low);
           depth-is = down;
           shallow = omega (arith, s .shallow);
           free-is = y .own;
           free-low = omega (arith, y .own-low);
-          labels = unlinked;
+          labels = linked-kept (λ j a. high j (omega arith)) (y .labels);
           flag-is = refl;
           flag-low = omega arith;
           comes-is = refl;
@@ -291,7 +298,7 @@ module _ {old : List ℕ} {x : Nest} {f : Kept-frame} (n : x .depth ≡ 0 → �
           place-low = omega arith;
           hit-is = refl;
           low-is = s .low-is ∙ low (q .group) (z .marks) (q .flag) (q .ended && z .marks .flags (q .own));
-          frames = frames-kept (λ j a b. high j a) (λ j a b. high j (omega arith)) (y .rest);
+          frames = frames-kept (λ j a b. high j a) (λ j a. high j (omega arith)) (y .rest);
           flags = ends (q .group) (y .group) (z .marks) (q .flag) (q .ended && z .marks .flags (q .own)) (s .flags) (y .flag) c-is;
         }))
       where
@@ -306,13 +313,14 @@ module _ {old : List ℕ} {x : Nest} {f : Kept-frame} (n : x .depth ≡ 0 → �
         ends false i w k d a j o = flagged-kept (λ v l. set .same v (λ u b. false≢true (sym (h ∙ ap (λ y. y && c) i) ∙ b))) a
 
 -- BEGIN
-pub too-deep : {room : List ℕ} {x r : Nest} → 32 ≤ x .depth → r ≡ settle 0 0 (x .low) → Does (λ z. opened (ltb (length (z .frames)) deepest) z) room x room r
+pub too-deep : {room : List ℕ} {x r : Nest} → 32 ≤ x .depth → r ≡ settle 0 0 0 (x .low) → Does (λ z. opened (ltb (length (z .frames)) deepest) z) room x room r
 too-deep {room} {x} {r} h e ts i z s =
     let test : ltb (length (z .frames)) deepest ≡ false = le-ltb (length (z .frames)) deepest (omega (arith, s .depth-is)) in
     subst (λ b. Shows ts room i r (opened b z)) (sym test) (subst (λ w. Shows ts room i w (settled [] 0 (z .marks))) (sym e)
     (record {
       space = s .space;
       few = s .few;
+      label-low = omega arith;
       depth-is = refl;
       shallow = omega arith;
       free-is = refl;
@@ -333,24 +341,28 @@ too-deep {room} {x} {r} h e ts i z s =
 
 module _ {old : List ℕ} {x : Nest} (l : x .depth < 32) where
   pub to-open : Standing old x
-      → (x .depth < 32) × (33280 ≤ length old) × (x .label < 65536) × (x .flag < 65536) × (x .free < 65536)
-  to-open st = let s = st .3 in (l, s .space, linked-low (s .labels) (s .few), omega (arith, s .flag-low), omega (arith, s .free-low))
+      → (x .depth < 32) × (49664 ≤ length old) × (x .label < 65536) × (x .flag < 65536) × (x .free < 65536)
+  to-open st = let s = st .3 in (l, s .space, omega (arith, s .label-low, s .few), omega (arith, s .flag-low), omega (arith, s .free-low))
 
   module _ {mid : List ℕ} {g : Bool} (p : Pushed old mid (x .depth) (kept (x .label) (x .flag) (x .free) (x .comes) true g)) where
-    module _ {ts : Tokens} {i : ℕ} {z : State} (s : Shows ts old i x z) where
+    module _ {ts : Book} {i : ℕ} {z : State} (s : Shows ts old i x z) where
       aside : (q : ℕ) → (q < frameCell (x .depth)) ⊎ (256 ≤ q) → cell 2 mid q ≡ cell 2 old q
       aside q (inl a) = p .kept .same q (λ b e. omega arith)
       aside q (inr a) = p .kept .same q (λ b e. omega arith)
 
-      label-linked : Linked ts mid i (x .label) (z .labels)
-      label-linked = linked-kept (λ q a b. aside q (inr a)) (s .labels)
+      label-linked : Linked ts mid (x .label) (z .labels)
+      label-linked = linked-kept (λ q a. aside q (inr a)) (s .labels)
 
-      one-more : Frames ts mid i (frame (z .labels) (z .flag) (z .free) (z .comes) true g ∷ z .frames)
+      count-kept : cell 2 mid (frameCell (length (z .frames))) ≡ x .label
+      count-kept = ap (λ j. cell 2 mid (frameCell j)) (sym (s .depth-is)) ∙ p .label
+
+      one-more : Frames ts mid (x .label) (frame (z .labels) (z .flag) (z .free) (z .comes) true g ∷ z .frames)
       one-more =
           let d = s .depth-is in
-          frames {fs = z .frames}
+          frames {top = x .label} {fs = z .frames}
           (record {
-            labels = subst (λ q. Linked ts mid i q (z .labels)) (sym (p .label) ∙ ap (λ j. cell 2 mid (frameCell j)) d) label-linked;
+            below = omega (arith, count-kept);
+            labels = subst (λ q. Linked ts mid q (z .labels)) (sym count-kept) label-linked;
             flag = ap (λ j. cell 2 mid (frameCell j + 1)) (sym d) ∙ (p .flag ∙ s .flag-is);
             flag-low = omega (arith, s .flag-is, s .flag-low);
             own = ap (λ j. cell 2 mid (frameCell j + 2)) (sym d) ∙ (p .own ∙ s .free-is);
@@ -359,7 +371,8 @@ module _ {old : List ℕ} {x : Nest} (l : x .depth < 32) where
             ended = ap (λ j. cell 2 mid (frameCell j + 4)) (sym d) ∙ p .ended;
             group = ap (λ j. cell 2 mid (frameCell j + 5)) (sym d) ∙ p .group;
           })
-          (frames-kept (λ q a b. aside q (inl (omega (arith, d)))) (λ q a b. aside q (inr a)) (s .frames))
+          (subst (λ q. Frames ts mid q (z .frames)) (sym count-kept)
+          (frames-kept (λ q a b. aside q (inl (omega (arith, d)))) (λ q a. aside q (inr a)) (s .frames)))
 
       not-deep : ltb (length (z .frames)) deepest ≡ true
       not-deep = lt-ltb (length (z .frames)) deepest (omega (arith, s .depth-is))
@@ -376,6 +389,7 @@ module _ {old : List ℕ} {x : Nest} (l : x .depth < 32) where
         (record {
           space = omega (arith, s .space, p .kept .size);
           few = s .few;
+          label-low = s .label-low;
           depth-is = add-one (x .depth) ∙ ap suc (s .depth-is);
           shallow = omega arith;
           free-is = s .free-is;
@@ -390,7 +404,7 @@ module _ {old : List ℕ} {x : Nest} (l : x .depth < 32) where
           place-low = omega arith;
           hit-is = refl;
           low-is = s .low-is;
-          frames = subst (λ b. Frames ts mid i (frame (z .labels) (z .flag) (z .free) (z .comes) true b ∷ z .frames)) (gi ∙ ap not c) (one-more s);
+          frames = subst (λ b. Frames ts mid (x .label) (frame (z .labels) (z .flag) (z .free) (z .comes) true b ∷ z .frames)) (gi ∙ ap not c) (one-more s);
           flags = flags-there s;
         })))
 
@@ -406,11 +420,12 @@ module _ {old : List ℕ} {x : Nest} (l : x .depth < 32) where
           (record {
             space = omega (arith, s .space, p .kept .size, put-size mid new (x .free) 0 put);
             few = s .few;
+            label-low = s .label-low;
             depth-is = add-one (x .depth) ∙ ap suc (s .depth-is);
             shallow = omega arith;
             free-is = add-one (x .free) ∙ ap suc (s .free-is);
             free-low = omega (arith, s .free-low);
-            labels = linked-kept (λ q a b. high q (omega arith)) (label-linked s);
+            labels = linked-kept (λ q a. high q (omega arith)) (label-linked s);
             flag-is = s .free-is;
             flag-low = omega (arith, s .free-low);
             comes-is = s .comes-is;
@@ -421,7 +436,7 @@ module _ {old : List ℕ} {x : Nest} (l : x .depth < 32) where
             hit-is = refl;
             low-is = s .low-is;
             frames =
-                frames-kept (λ q a b. high q a) (λ q a b. high q (omega arith))
-                (subst (λ b. Frames ts mid i (frame (z .labels) (z .flag) (z .free) (z .comes) true b ∷ z .frames)) (gi ∙ ap not c) (one-more s));
+                frames-kept (λ q a b. high q a) (λ q a. high q (omega arith))
+                (subst (λ b. Frames ts mid (x .label) (frame (z .labels) (z .flag) (z .free) (z .comes) true b ∷ z .frames)) (gi ∙ ap not c) (one-more s));
             flags = subst (λ d. Flagged new (cleared d (z .marks))) (s .free-is) cleaned;
           })))

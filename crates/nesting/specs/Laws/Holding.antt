@@ -10,12 +10,13 @@ use lib.Dec.{eqb}
 use lib.ListN.{length}
 use Rattle.cells.specs.Cells.{cell, putCell}
 use Rattle.cells.specs.Laws.{length-put, le-put-same}
-use Rattle.rules.specs.Grammar.Trees.{Tokens}
+use Rattle.rules.specs.Limits.{mostTokens}
+use Rattle.table.specs.Holds.{linkCell}
 use Rattle.paths.specs.Walk.{Marks, Slot, marked, cleared, added}
 use Rattle.paths.specs.Least.{least, least-append}
 use Rattle.scopes.specs.Laws.Labels.{put-elsewhere}
 use Rattle.nesting.specs.Machine.{Frame, State, reached, transferred, destined, looped, chosen}
-use Rattle.nesting.specs.Holding.{unseen, bit, frameCell, labelCell, Linked, unlinked, linked, FrameAt, Frames, no-frames, frames, Flagged, Shows, Does, Set}
+use Rattle.nesting.specs.Holding.{unseen, bit, frameCell, labelCell, hintsFrom, hintCell, Book, Linked, unlinked, linked, Still, LabelPut, FrameAt, Frames, no-frames, frames, Flagged, Shows, Does, Set}
 use Rattle.nesting.specs.Grouping.{nest}
 use Rattle.nesting.specs.declared.nests.Nest.{Nest}
 
@@ -44,21 +45,27 @@ put-set {old} {new} {k} put h t = record {
 pub set-none : {old : List ℕ} {k : ℕ} {b : Bool} → b ≡ false → Set old old k b
 set-none f = record { size = refl; is = λ t. absurd (false≢true (sym f ∙ t)); same = λ j n. refl }
 
-pub linked-kept : {ts : Tokens} {old new : List ℕ} {i p : ℕ} {ls : List Slot} → ((j : ℕ) → 256 ≤ j → j < labelCell i → cell 2 new j ≡ cell 2 old j)
-    → Linked ts old i p ls → Linked ts new i p ls
-linked-kept s unlinked = unlinked
-linked-kept s (linked {i} {p} a b n w f k q r) =
-    linked a b n w (s (labelCell p + 1) (omega arith) (omega arith) ∙ f) k (s (labelCell p) (omega arith) (omega arith) ∙ q)
-    (linked-kept (λ j x y. s j x (omega arith)) r)
+still-lower : {old new : List ℕ} {top p : ℕ} → Still old new top → p ≤ top → Still old new p
+still-lower s h = record { cells = λ q a b. s .cells q a (omega arith); hints = λ m c a b d. s .hints m c (omega arith) b d }
 
-pub linked-later : {ts : Tokens} {room : List ℕ} {i p : ℕ} {ls : List Slot} (j : ℕ) → i ≤ j → Linked ts room i p ls → Linked ts room j p ls
-linked-later j h unlinked = unlinked
-linked-later j h (linked a b n w f k q r) = linked {i = j} a (omega arith) n w f k q r
+still-all : {old new : List ℕ} → ((q : ℕ) → 256 ≤ q → cell 2 new q ≡ cell 2 old q) → (top : ℕ) → Still old new top
+still-all s top = record { cells = λ q a b. s q a; hints = λ m c a b d. rw (s c (omega arith)) d }
 
-frame-kept : {ts : Tokens} {old new : List ℕ} {i j : ℕ} {f : Frame} → ((q : ℕ) → frameCell j ≤ q → q < frameCell j + 6 → cell 2 new q ≡ cell 2 old q)
-    → ((q : ℕ) → 256 ≤ q → q < labelCell i → cell 2 new q ≡ cell 2 old q) → FrameAt ts old i j f → FrameAt ts new i j f
-frame-kept {ts} {old} {new} {i} {j} {f} s l x = record {
-  labels = subst (λ q. Linked ts new i q (f .labels)) (sym (s (frameCell j) (omega arith) (omega arith))) (linked-kept l (x .labels));
+pub linked-still : {ts : Book} {old new : List ℕ} {top p : ℕ} {ls : List Slot} → Still old new top → p ≤ top → Linked ts old p ls → Linked ts new p ls
+linked-still s h unlinked = unlinked
+linked-still s h (linked {p} {l} n w f k q r) =
+    let e = s .cells (labelCell p) (omega arith) (omega arith) in
+    linked {p = p} {l = l} (rw e n) (rw e w) (s .cells (labelCell p + 1) (omega arith) (omega arith) ∙ f) k (rw e (s .hints p _ (omega arith) (omega arith) q))
+    (linked-still s (omega arith) r)
+
+pub linked-kept : {ts : Book} {old new : List ℕ} {p : ℕ} {ls : List Slot} → ((q : ℕ) → 256 ≤ q → cell 2 new q ≡ cell 2 old q) → Linked ts old p ls → Linked ts new p ls
+linked-kept {p = p} s l = linked-still (still-all s p) (omega arith) l
+
+frame-still : {ts : Book} {old new : List ℕ} {top j : ℕ} {f : Frame} → ((q : ℕ) → frameCell j ≤ q → q < frameCell j + 6 → cell 2 new q ≡ cell 2 old q)
+    → Still old new top → FrameAt ts old top j f → FrameAt ts new top j f
+frame-still {ts} {old} {new} {top} {j} {f} s l x = record {
+  below = rw (s (frameCell j) (omega arith) (omega arith)) (x .below);
+  labels = subst (λ q. Linked ts new q (f .labels)) (sym (s (frameCell j) (omega arith) (omega arith))) (linked-still l (x .below) (x .labels));
   flag = s (frameCell j + 1) (omega arith) (omega arith) ∙ x .flag;
   flag-low = x .flag-low;
   own = s (frameCell j + 2) (omega arith) (omega arith) ∙ x .own;
@@ -68,24 +75,76 @@ frame-kept {ts} {old} {new} {i} {j} {f} s l x = record {
   group = s (frameCell j + 5) (omega arith) (omega arith) ∙ x .group;
 }
 
-pub frames-kept : {ts : Tokens} {old new : List ℕ} {i : ℕ} {fs : List Frame} → ((q : ℕ) → 64 ≤ q → q < frameCell (length fs) → cell 2 new q ≡ cell 2 old q)
-    → ((q : ℕ) → 256 ≤ q → q < labelCell i → cell 2 new q ≡ cell 2 old q) → Frames ts old i fs → Frames ts new i fs
-frames-kept s l no-frames = no-frames
-frames-kept s l (frames {fs = fs} x r) = frames (frame-kept (λ q a b. s q (omega arith) (omega arith)) l x) (frames-kept (λ q a b. s q a (omega arith)) l r)
+pub frames-still : {ts : Book} {old new : List ℕ} {top : ℕ} {fs : List Frame} → ((q : ℕ) → 64 ≤ q → q < frameCell (length fs) → cell 2 new q ≡ cell 2 old q)
+    → Still old new top → Frames ts old top fs → Frames ts new top fs
+frames-still s l no-frames = no-frames
+frames-still {ts} {new = new} s l (frames {fs = fs} x r) =
+    frames {fs = fs} (frame-still (λ q a b. s q (omega arith) (omega arith)) l x)
+    (subst (λ p. Frames ts new p fs) (sym (s (frameCell (length fs)) (omega arith) (omega arith)))
+    (frames-still (λ q a b. s q a (omega arith)) (still-lower l (x .below)) r))
 
-pub frames-later : {ts : Tokens} {room : List ℕ} {i : ℕ} {fs : List Frame} (j : ℕ) → i ≤ j → Frames ts room i fs → Frames ts room j fs
-frames-later j h no-frames = no-frames
-frames-later j h (frames a r) =
-    frames (record {
-      labels = linked-later j h (a .labels);
-      flag = a .flag;
-      flag-low = a .flag-low;
-      own = a .own;
-      own-low = a .own-low;
-      comes = a .comes;
-      ended = a .ended;
-      group = a .group;
-    }) (frames-later j h r)
+pub frames-kept : {ts : Book} {old new : List ℕ} {top : ℕ} {fs : List Frame} → ((q : ℕ) → 64 ≤ q → q < frameCell (length fs) → cell 2 new q ≡ cell 2 old q)
+    → ((q : ℕ) → 256 ≤ q → cell 2 new q ≡ cell 2 old q) → Frames ts old top fs → Frames ts new top fs
+frames-kept {top = top} s l f = frames-still s (still-all l top) f
+
+-- with more labels around what is inside it
+pub frame-later : {ts : Book} {room : List ℕ} {top j : ℕ} {f : Frame} (more : ℕ) → cell 2 room (frameCell j) ≤ more → FrameAt ts room top j f → FrameAt ts room more j f
+frame-later more h a = record {
+  below = h;
+  labels = a .labels;
+  flag = a .flag;
+  flag-low = a .flag-low;
+  own = a .own;
+  own-low = a .own-low;
+  comes = a .comes;
+  ended = a .ended;
+  group = a .group;
+}
+
+pub frames-later : {ts : Book} {room : List ℕ} {top : ℕ} {fs : List Frame} (more : ℕ) → top ≤ more → Frames ts room top fs → Frames ts room more fs
+frames-later more h no-frames = no-frames
+frames-later more h (frames {fs = fs} a r) = let b = a .below in frames {fs = fs} (frame-later more (omega arith) a) r
+
+-- a label and its hint are put
+pub label-put : (records : List ℕ) {old x y new : List ℕ} {j i flag hint : ℕ} → 49664 ≤ length old → j < mostTokens → i < mostTokens → flag < 65536
+    → hint ≡ hintCell (linkCell records i) → hintsFrom ≤ hint → 2 * hint + 2 ≤ 49664 → x ≡ putCell 2 old (256 + 2 * j) i → y ≡ putCell 2 x (256 + 2 * j + 1) flag
+    → new ≡ putCell 2 y hint j → LabelPut records old new j i flag
+label-put records {old} {x} {y} {new} {j} {i} {flag} {hint} room few fits low is from end px py pn = record {
+  size = zn ∙ (zy ∙ zx);
+  low = λ q l. others q (λ e. omega arith) (λ e. omega arith) (λ e. omega arith);
+  still = record {
+    cells = λ q a b. others q (λ e. omega arith) (λ e. omega arith) (λ e. omega arith);
+    hints = λ m c a b d. by m c a d (ℕ-discrete c hint) (λ e. others c (λ o. omega arith) (λ o. omega arith) e);
+  };
+  token = sn (256 + 2 * j) (λ e. omega arith) ∙ (sy (256 + 2 * j) (λ e. omega arith) ∙ put-here old x (256 + 2 * j) i px (omega arith) (omega arith));
+  flag-is = sn (256 + 2 * j + 1) (λ e. omega arith) ∙ put-here x y (256 + 2 * j + 1) flag py (omega (arith, zx)) low;
+  hint = ap (cell 2 new) (sym is) ∙ there;
+}
+  where
+    zx : length x ≡ length old
+    zx = put-size old x (256 + 2 * j) i px
+
+    zy : length y ≡ length x
+    zy = put-size x y (256 + 2 * j + 1) flag py
+
+    zn : length new ≡ length y
+    zn = put-size y new hint j pn
+
+    sn : (q : ℕ) → (q ≡ hint → ⊥) → cell 2 new q ≡ cell 2 y q
+    sn = put-same y new hint j pn
+
+    sy : (q : ℕ) → (q ≡ 256 + 2 * j + 1 → ⊥) → cell 2 y q ≡ cell 2 x q
+    sy = put-same x y (256 + 2 * j + 1) flag py
+
+    others : (q : ℕ) → (q ≡ 256 + 2 * j → ⊥) → (q ≡ 256 + 2 * j + 1 → ⊥) → (q ≡ hint → ⊥) → cell 2 new q ≡ cell 2 old q
+    others q a b c = sn q c ∙ (sy q b ∙ put-same old x (256 + 2 * j) i px q a)
+
+    there : cell 2 new hint ≡ j
+    there = put-here y new hint j pn (omega (arith, zx, zy)) (omega arith)
+
+    by : (m c : ℕ) → m < j → m ≤ cell 2 old c → Dec (c ≡ hint) → ((c ≡ hint → ⊥) → cell 2 new c ≡ cell 2 old c) → m ≤ cell 2 new c
+    by m c l d (yes e) f = omega (arith, there, ap (cell 2 new) e)
+    by m c l d (no e) f = omega (arith, f e)
 
 -- the flags
 pub flagged-set : {old new : List ℕ} {w : Marks} {k : ℕ} {b : Bool} → Set old new k b → Flagged old w → Flagged new (marked k b w)
@@ -108,22 +167,23 @@ pub flagged-kept : {old new : List ℕ} {w : Marks} → ((j : ℕ) → j < 64 �
 flagged-kept s f = record { at = λ j h. s j h ∙ f .at j h }
 
 -- a flag set, and a place more: all else is shown as before
-module _ {ts : Tokens} {old : List ℕ} {i : ℕ} {x : Nest} {z : State} (s : Shows ts old i x z) where
+module _ {ts : Book} {old : List ℕ} {i : ℕ} {x : Nest} {z : State} (s : Shows ts old i x z) where
   module _ {new : List ℕ} {k : ℕ} {b : Bool} (set : Set old new k b) (low : k < 64) where
     high : (j : ℕ) → 64 ≤ j → cell 2 new j ≡ cell 2 old j
     high j h = set .same j (λ e t. omega arith)
 
-    pub set-frames : Frames ts new i (z .frames)
-    set-frames = frames-kept (λ q a c. high q a) (λ q a c. high q (omega arith)) (s .frames)
+    pub set-frames : Frames ts new (x .label) (z .frames)
+    set-frames = frames-kept (λ q a c. high q a) (λ q a. high q (omega arith)) (s .frames)
 
-    pub set-labels : Linked ts new i (x .label) (z .labels)
-    set-labels = linked-kept (λ q a c. high q (omega arith)) (s .labels)
+    pub set-labels : Linked ts new (x .label) (z .labels)
+    set-labels = linked-kept (λ q a. high q (omega arith)) (s .labels)
 
 -- the state shown, with parts replaced
 pub reach-shown : {old new : List ℕ} {x : Nest} → Set old new (x .flag) (x .comes) → Does (λ z. reached z (z .marks)) old x new x
 reach-shown {old} {new} {x} set ts i z s = record {
   space = omega (arith, s .space, set .size);
   few = s .few;
+  label-low = s .label-low;
   depth-is = s .depth-is;
   shallow = s .shallow;
   free-is = s .free-is;
@@ -154,6 +214,7 @@ pub transfer-shown : {old new : List ℕ} {x : Nest} {b : Bool} {low : ℕ} → 
 transfer-shown {old} {new} {x} {b} {low} f e set ts i z s = record {
   space = omega (arith, s .space, set .size);
   few = s .few;
+  label-low = s .label-low;
   depth-is = s .depth-is;
   shallow = s .shallow;
   free-is = s .free-is;
@@ -184,6 +245,7 @@ module _ (room : List ℕ) (x : Nest) where
   looped-shown ts i z s = record {
     space = s .space;
     few = s .few;
+    label-low = s .label-low;
     depth-is = s .depth-is;
     shallow = s .shallow;
     free-is = s .free-is;
@@ -206,6 +268,7 @@ module _ (room : List ℕ) (x : Nest) where
   chosen-shown c ts i z s = record {
     space = s .space;
     few = s .few;
+    label-low = s .label-low;
     depth-is = s .depth-is;
     shallow = s .shallow;
     free-is = s .free-is;
@@ -230,6 +293,7 @@ module _ (room : List ℕ) (x : Nest) where
     part-shown q t e f l ts i z s = record {
       space = s .space;
       few = s .few;
+      label-low = s .label-low;
       depth-is = s .depth-is;
       shallow = s .shallow;
       free-is = s .free-is;

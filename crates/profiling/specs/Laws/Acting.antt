@@ -10,7 +10,6 @@ use lib.Dec.{eqb, ltb}
 use lib.ListN.{length, drop}
 use Rattle.cells.specs.Cells.{cell}
 use Rattle.rules.specs.Text.Scan.{sameBytes}
-use Rattle.rules.specs.Grammar.Trees.{Tokens}
 use Rattle.rules.specs.Limits.{deepest}
 use Rattle.rules.specs.Whole.Sets.{member, owner}
 use Rattle.paths.specs.Walk.{marked, added}
@@ -27,15 +26,15 @@ use Rattle.profiling.specs.Spelt.{whole}
 use Rattle.profiling.specs.Laws.Spelt.{reading, spelt}
 use Rattle.nesting.specs.Laws.Spelt.{place-small}
 use Rattle.nesting.specs.Machine.{State, opened, closed, also, next, another, transferred, reached, chosen, looped, left, aimed, destined, activated, labelled, named, acted}
-use Rattle.nesting.specs.Holding.{unseen, Flagged, Shows, Standing, Does, Set}
+use Rattle.nesting.specs.Holding.{unseen, Book, book, Flagged, Shows, Standing, Does, Set}
 use Rattle.nesting.specs.Grouping.{nest}
 use Rattle.profiling.specs.Walking.{numberOr, indexOf, Known, Scene, Acting, Acted, Named, Activates, Aims}
 use Rattle.nesting.specs.Jumping.{Jumping, Left, Labels}
-use Rattle.nesting.specs.Laws.Holding.{bit-test, linked-later, frames-later, flagged-set, set-labels, set-frames}
+use Rattle.nesting.specs.Laws.Holding.{bit-test, flagged-set, set-labels, set-frames}
 use Rattle.nesting.specs.declared.nests.Nest.{Nest}
 use Rattle.profiling.specs.declared.tasks.Task.{Task}
 
-pub shows-later : {ts : Tokens} {room : List ℕ} {i : ℕ} {x : Nest} {z : State} → i < 8192 → Shows ts room i x z → Shows ts room (i + 1) x z
+pub shows-later : {ts : Book} {room : List ℕ} {i : ℕ} {x : Nest} {z : State} → i < 8192 → Shows ts room i x z → Shows ts room (i + 1) x z
 shows-later {i = i} h s = record {
   space = s .space;
   few = omega arith;
@@ -43,7 +42,8 @@ shows-later {i = i} h s = record {
   shallow = s .shallow;
   free-is = s .free-is;
   free-low = s .free-low;
-  labels = linked-later (i + 1) (omega arith) (s .labels);
+  label-low = omega (arith, s .label-low);
+  labels = s .labels;
   flag-is = s .flag-is;
   flag-low = s .flag-low;
   comes-is = s .comes-is;
@@ -53,7 +53,7 @@ shows-later {i = i} h s = record {
   place-low = s .place-low;
   hit-is = s .hit-is;
   low-is = s .low-is;
-  frames = frames-later (i + 1) (omega arith) (s .frames);
+  frames = s .frames;
   flags = s .flags;
 }
 
@@ -93,6 +93,7 @@ module _ {records decls table old new : List ℕ} {t : Task} {i : ℕ} {x : Nest
       record {
         space = omega (arith, s .space, set .size);
         few = s .few;
+        label-low = s .label-low;
         depth-is = s .depth-is;
         shallow = s .shallow;
         free-is = s .free-is;
@@ -133,12 +134,12 @@ module _ {records decls table old : List ℕ} {t : Task} {i : ℕ} {x : Nest} (a
   acting-kinds = kinded acting-reads
 
   pub standing : Standing old x
-  standing = (a .scene .written .tokens, i, a .state, a .shows)
+  standing = (book records (a .scene .written .tokens), i, a .state, a .shows)
 
   pub name-elsewhere : {mode : ℕ} → (mode ≡ 0 → ⊥) → Named records decls table old old t i mode x x
   name-elsewhere {mode} n g z s = by mode n
     where
-      by : (m : ℕ) → (m ≡ 0 → ⊥) → Shows (g .written .tokens) old (i + 1) x
+      by : (m : ℕ) → (m ≡ 0 → ⊥) → Shows (book records (g .written .tokens)) old (i + 1) x
           (named (whole (g .written)) (g .test) (t .out) (g .known) m (tokenAt (g .written .tokens) i) (nextNo (drop (i + 1) (g .written .tokens))) z)
       by zero n = absurd (n refl)
       by (suc m) n = shows-later (a .few) s
@@ -157,15 +158,15 @@ module _ {records decls table old : List ℕ} {t : Task} {i : ℕ} {x : Nest} (a
           ap (λ m. named (whole (g .written)) (g .test) (t .out) (g .known) m (tokenAt (g .written .tokens) i) (nextNo (drop (i + 1) (g .written .tokens))) z) start
           ∙ (ap now (sym (behind (kinded (reading (g .written))))) ∙ e)
 
-    pub name-labels : {new : List ℕ} {r : Nest} → k ≡ 12 → Labels old new i x r → Named records decls table old new t i mode x r
+    pub name-labels : {new : List ℕ} {r : Nest} → k ≡ 12 → Labels records old new i x r → Named records decls table old new t i mode x r
     name-labels {new} {r} e l g z s =
-        subst (Shows (g .written .tokens) new (i + 1) r) (sym (at-start g z (labelled (wordAt (g .written .tokens) i) z) (ap (now g z) e)))
+        subst (Shows (book records (g .written .tokens)) new (i + 1) r) (sym (at-start g z (labelled (wordAt (g .written .tokens) i) z) (ap (now g z) e)))
         (l (g .written .tokens) z s (name-at (reading (g .written)) i (a .within) name))
 
     module _ (n : k ≡ 12 → ⊥) where
       pub name-activates : {new : List ℕ} {r : Nest} → k ≡ 3 → Activates records decls table old new t i x r → Named records decls table old new t i mode x r
       name-activates {new} {r} e l g z s =
-          subst (Shows (g .written .tokens) new (i + 1) r)
+          subst (Shows (book records (g .written .tokens)) new (i + 1) r)
           (sym (at-start g z (activated (whole (g .written)) (g .test) (t .out) (g .known) (wordAt (g .written .tokens) i) z) (ap (now g z) e)))
           (shows-later (a .few) (l g z i s))
 
@@ -196,19 +197,19 @@ module _ {records decls table old : List ℕ} {t : Task} {i : ℕ} {x : Nest} (a
             let place : p ≡ tokenAt ts i .info .place = q ∙ g .written .ready .holds .entry i (omega (arith, g .written .count, a .within)) .place in
             let stored : now g z k ≡ destined p h z =
             chained g z true e ∙ ap₂ (λ y w. destined y w z) (sym place) (sym (hit (reading (g .written)))) in
-            subst (Shows ts old (i + 1) r) (sym (at-start g z (destined p h z) stored)) (shows-later (a .few) (d old ts i z s))
+            subst (Shows (book records ts) old (i + 1) r) (sym (at-start g z (destined p h z) stored)) (shows-later (a .few) (d old (book records ts) i z s))
 
         pub name-rests : b ≡ false → Named records decls table old old t i mode x x
         name-rests e g z s =
             let rests : now g z k ≡ z = chained g z false e in
-            subst (Shows (g .written .tokens) old (i + 1) x) (sym (at-start g z z rests)) (shows-later (a .few) s)
+            subst (Shows (book records (g .written .tokens)) old (i + 1) x) (sym (at-start g z z rests)) (shows-later (a .few) s)
 
   -- LEAVE
   module _ {k : ℕ} (behind : (v : Kinded records (t .n)) → k ≡ nextNo (drop (i + 1) (v .tokens))) where
     pub jump-nowhere : (k ≡ 0 → ⊥) → Aims records decls table old old t i x x
     jump-nowhere n g z j s =
         let e : eqb (nextNo (drop (i + 1) (g .written .tokens))) 0 ≡ false = ne-eqb _ 0 (λ q. n (behind (kinded (reading (g .written))) ∙ q)) in
-        subst (λ b. Shows (g .written .tokens) old j x (aimed b (nextWord (drop (i + 1) (g .written .tokens))) z)) (sym e) s
+        subst (λ b. Shows (book records (g .written .tokens)) old j x (aimed b (nextWord (drop (i + 1) (g .written .tokens))) z)) (sym e) s
 
     module _ (e : k ≡ 0) where
       target-in : (v : Kinded records (t .n)) → i + 1 < t .n
@@ -239,8 +240,8 @@ module _ {records decls table old : List ℕ} {t : Task} {i : ℕ} {x : Nest} (a
           let ts = g .written .tokens in
           let word : nextWord (drop (i + 1) ts) ≡ wordAt ts (i + 1) = ap nextWord (next-token v (i + 1) (target-in v)) in
           let test : eqb (nextNo (drop (i + 1) ts)) 0 ≡ true = eq-eqb _ 0 (sym (behind v) ∙ e) in
-          subst (λ b. Shows ts new j r (aimed b (nextWord (drop (i + 1) ts)) z)) (sym test)
-          (subst (λ w. Shows ts new j r (left w z)) (sym word) (l (spelt (g .written)) j z s))
+          subst (λ b. Shows (book records ts) new j r (aimed b (nextWord (drop (i + 1) ts)) z)) (sym test)
+          (subst (λ w. Shows (book records ts) new j r (left w z)) (sym word) (l (spelt (g .written)) j z s))
 
   -- the arms by kinds
   module _ (mode : ℕ) {kind : ℕ} (is : kind ≡ kindByte records i) where
@@ -251,12 +252,12 @@ module _ {records decls table old : List ℕ} {t : Task} {i : ℕ} {x : Nest} (a
     arm : {new : List ℕ} {r : Nest} (q : ℕ) (f : State → State) → kind ≡ q → ((g : Scene records decls table t) (z : State) → done g z q ≡ f z) → Does f old x new r
         → Acted records decls table old new t i mode x r
     arm {new} {r} q f e same d g z s =
-        subst (Shows (g .written .tokens) new (i + 1) r) (sym (ap (done g z) (sym is ∙ e) ∙ same g z)) (shows-later (a .few) (d (g .written .tokens) i z s))
+        subst (Shows (book records (g .written .tokens)) new (i + 1) r) (sym (ap (done g z) (sym is ∙ e) ∙ same g z)) (shows-later (a .few) (d (book records (g .written .tokens)) i z s))
 
     module _ {new : List ℕ} {r : Nest} where
       pub name-acts : kind ≡ 0 → Named records decls table old new t i mode x r → Acted records decls table old new t i mode x r
       unfolding acted
-      name-acts e d g z s = subst (Shows (g .written .tokens) new (i + 1) r) (sym (ap (done g z) (sym is ∙ e))) (d g z s)
+      name-acts e d g z s = subst (Shows (book records (g .written .tokens)) new (i + 1) r) (sym (ap (done g z) (sym is ∙ e))) (d g z s)
 
       pub begin-acts : kind ≡ 19 → Does (λ z. opened (ltb (length (z .frames)) deepest) z) old x new r → Acted records decls table old new t i mode x r
       unfolding acted
@@ -288,7 +289,7 @@ module _ {records decls table old : List ℕ} {t : Task} {i : ℕ} {x : Nest} (a
 
       pub jump-acts : kind ≡ 26 → Aims records decls table old new t i x r → Acted records decls table old new t i mode x r
       unfolding acted
-      jump-acts e d g z s = subst (Shows (g .written .tokens) new (i + 1) r) (sym (ap (done g z) (sym is ∙ e))) (shows-later (a .few) (d g z i s))
+      jump-acts e d g z s = subst (Shows (book records (g .written .tokens)) new (i + 1) r) (sym (ap (done g z) (sym is ∙ e))) (shows-later (a .few) (d g z i s))
 
     module _ {r : Nest} where
       pub comma-acts : kind ≡ 9 → Does (λ z. another (z .frames) z) old x old r → Acted records decls table old old t i mode x r
@@ -323,7 +324,7 @@ module _ {records decls table old : List ℕ} {t : Task} {i : ℕ} {x : Nest} (a
           ne-eqb kind 30 a30,
           acted,
         ) in
-        subst (Shows (g .written .tokens) old (i + 1) x) (sym (ap (done g z) (sym is) ∙ same)) (shows-later (a .few) s)
+        subst (Shows (book records (g .written .tokens)) old (i + 1) x) (sym (ap (done g z) (sym is) ∙ same)) (shows-later (a .few) s)
 
 pub test-does : {old new : List ℕ} {x y r : Nest} → ((room : List ℕ) → Does (chosen false) room x room y) → Does (λ z. reached z (z .marks)) old y new r
     → Does (λ z. reached (chosen false z) (z .marks)) old x new r

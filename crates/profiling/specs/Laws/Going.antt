@@ -19,7 +19,7 @@ use Rattle.reading.specs.Laws.Reading.{kinded, next-token, no-more}
 use Rattle.profiling.specs.Spelt.{whole}
 use Rattle.profiling.specs.Laws.Spelt.{reading}
 use Rattle.nesting.specs.Machine.{Frame, State, outset, none-open, acted, run}
-use Rattle.nesting.specs.Holding.{unseen, labelCell, unlinked, linked, no-frames, frames, Shows, Standing}
+use Rattle.nesting.specs.Holding.{unseen, book, unlinked, linked, LabelPut, no-frames, Shows, Standing}
 use Rattle.nesting.specs.Grouping.{nest}
 use Rattle.profiling.specs.Walking.{Scene, Acting, Acted, Finds, marksOf}
 use Rattle.profiling.specs.Going.{Cleared, Beginning, Begins, Tells, Walked, Going}
@@ -31,9 +31,9 @@ use Rattle.profiling.specs.declared.walks.Found.{Found}
 pub record Clearing (first room : List ℕ) (k : ℕ) : Type 0 where
   pub cleared : Cleared first room k
   pub few : k ≤ 64
-  pub space : 33280 ≤ length room
+  pub space : 49664 ≤ length room
 
-pub none-cleared : {old : List ℕ} → 33280 ≤ length old → Clearing old old 0
+pub none-cleared : {old : List ℕ} → 49664 ≤ length old → Clearing old old 0
 none-cleared h = record { cleared = record { size = refl; clear = λ j h. absurd (omega arith) }; few = omega arith; space = h }
 
 pub one-cleared : {first old new : List ℕ} {k : ℕ} → Clearing first old k → k < 64 → new ≡ putCell 2 old k 0 → Clearing first new (k + 1)
@@ -51,45 +51,38 @@ one-cleared {first} {old} {new} {k} c h p =
 pub all-cleared : {first old : List ℕ} {k : ℕ} → Clearing first old k → 64 ≤ k → Cleared first old 64
 all-cleared c h = record { size = c .cleared .size; clear = λ j l. c .cleared .clear j (omega arith) }
 
-pub begun-shown : {first old mid new : List ℕ} {name : ℕ} → 33280 ≤ length first → 0 < name → name < 8192 → Cleared first old 64 → mid ≡ putCell 2 old (256 + 2 * name) 0
-    → new ≡ putCell 2 mid (256 + 2 * name + 1) 1 → Begins new name (nest 0 2 name 1 true false false 0 false 65535)
-begun-shown {first} {old} {mid} {new} {name} room past few c p q ts i n below h =
-    let size = put-size old mid (256 + 2 * name) 0 p in
-    let size-now = put-size mid new (256 + 2 * name + 1) 1 q in
-    record {
-      space = omega (arith, c .size);
-      few = h;
-      depth-is = refl;
-      shallow = omega arith;
-      free-is = refl;
-      free-low = omega arith;
-      labels =
-          linked {i = i} {q = 0} past below n refl (put-here mid new (256 + 2 * name + 1) 1 q (omega (arith, c .size)) (omega arith)) (omega arith)
-          (put-same mid new (256 + 2 * name + 1) 1 q (labelCell name) (λ e. omega arith) ∙ put-here old mid (256 + 2 * name) 0 p (omega (arith, c .size)) (omega arith)) unlinked;
-      flag-is = refl;
-      flag-low = omega arith;
-      comes-is = refl;
-      choosing-is = refl;
-      begun-is = refl;
-      place-is = refl;
-      place-low = omega arith;
-      hit-is = refl;
-      low-is = refl;
-      frames = no-frames;
-      flags = record {
-        at = λ j l.
-            put-same mid new (256 + 2 * name + 1) 1 q j (λ e. omega arith) ∙ (put-same old mid (256 + 2 * name) 0 p j (λ e. omega arith) ∙ c .clear j l);
-      };
-    }
+pub begun-shown : {records first old new : List ℕ} {name : ℕ} → 49664 ≤ length first → 0 < name → Cleared first old 64 → LabelPut records old new 0 name 1
+    → Begins records new name (nest 0 2 1 1 true false false 0 false 65535)
+begun-shown {records} {first} {old} {new} {name} room past c p ts i n below h = record {
+  space = omega (arith, c .size, p .size);
+  few = h;
+  depth-is = refl;
+  shallow = omega arith;
+  free-is = refl;
+  free-low = omega arith;
+  label-low = omega arith;
+  labels = linked {p = 0} (rw (p .token) n) (ap (wordAt ts) (p .token)) (p .flag-is) (omega arith) (omega arith) unlinked;
+  flag-is = refl;
+  flag-low = omega arith;
+  comes-is = refl;
+  choosing-is = refl;
+  begun-is = refl;
+  place-is = refl;
+  place-low = omega arith;
+  hit-is = refl;
+  low-is = refl;
+  frames = no-frames;
+  flags = record { at = λ j l. p .low j (omega arith) ∙ c .clear j l };
+}
 
 pub found-tells : {room : List ℕ} {s : Nest} {b : Bool} → b ≡ eqb (cell 2 room 1) 1 → Tells room s (record { ends = b; low = s .low })
 found-tells e ts i z s = (e ∙ (ap (λ k. eqb k 1) (s .flags .at 1 (omega arith)) ∙ bit-test (z .marks .flags 1)), s .low-is)
 
 pub to-begin : {records decls table room : List ℕ} {t : Task} {name from : ℕ} → Beginning records decls table room t name from
-    → (33280 ≤ length room) × (0 < name) × (name < 8192)
-to-begin b = (b .space, b .past, b .few)
+    → (49664 ≤ length room) × (0 < name) × (name < 8192) × (8 * name + 8 ≤ length records)
+to-begin b = (b .space, b .past, b .few, b .record-room)
 
-pub goes : {records decls table room now : List ℕ} {t : Task} {name from : ℕ} {s : Nest} → Beginning records decls table room t name from → Begins now name s
+pub goes : {records decls table room now : List ℕ} {t : Task} {name from : ℕ} {s : Nest} → Beginning records decls table room t name from → Begins records now name s
     → Going records decls table now now t name from s 0 from
 goes {name = name} {from} {s} b d = record {
   scene = b .scene;
@@ -119,13 +112,13 @@ some-left (f ∷ fs) n = refl
 
 module _ {records decls table first room : List ℕ} {t : Task} {name from : ℕ} {s : Nest} {mode i : ℕ} (v : Going records decls table first room t name from s mode i) where
   pub going-stands : Standing room s
-  going-stands = let x = v .so-far (v .scene) in (v .scene .written .tokens, i, x .state, x .shows)
+  going-stands = let x = v .so-far (v .scene) in (book records (v .scene .written .tokens), i, x .state, x .shows)
 
   all-over : {r : Found} → t .n ≤ i → Tells room s r → (g : Scene records decls table t) → Finds g name from r
   unfolding run
   all-over {r} h tells g =
       let x = v .so-far g in
-      let y = tells (g .written .tokens) i (x .state) (x .shows) in
+      let y = tells (book records (g .written .tokens)) i (x .state) (x .shows) in
       let e : x .state .marks ≡ marksOf g name from =
       ap (run (whole (g .written)) (g .test) (t .out) (g .known) mode (x .state)) (sym (no-more (kinded (reading (g .written))) i h)) ∙ x .runs in
       record { ends = y .0 ∙ ap (λ w. w .flags 1) e; low = y .1 ∙ ap (λ w. least unseen (w .places)) e }
@@ -156,7 +149,7 @@ module _ {records decls table first room : List ℕ} {t : Task} {name from : ℕ
         after : State
         after = acted (whole (g .written)) (g .test) (t .out) (g .known) mode (kindByte records i) (tokenAt ts i) (drop (i + 1) ts) (v .so-far g .state)
 
-        shown : Shows ts now (i + 1) r after
+        shown : Shows (book records ts) now (i + 1) r after
         unfolding after
         shown = acts g (v .so-far g .state) (v .so-far g .shows)
 
@@ -178,7 +171,7 @@ module _ {records decls table first room : List ℕ} {t : Task} {name from : ℕ
 
       all-ended : {f : Found} → r .depth ≡ 0 → Tells now r f → (g : Scene records decls table t) → Finds g name from f
       all-ended e tells g =
-          let y = tells (ts g) (i + 1) (after g) (shown g) in
+          let y = tells (book records (ts g)) (i + 1) (after g) (shown g) in
           let closed : none-open (after g .frames) ≡ true = none-left (after g .frames) (sym (shown g .depth-is) ∙ e) in
           let w : marksOf g name from ≡ after g .marks =
           stepped g ∙ ap (λ b. elim b [ true ↦ after g .marks | false ↦ R g (modeOf mode (kindByte records i)) (after g) (drop (i + 1) (ts g)) ]) closed in
@@ -188,7 +181,7 @@ module _ {records decls table first room : List ℕ} {t : Task} {name from : ℕ
       ended e tells = record { fits = low-fits (v .scene) (all-ended e tells (v .scene)); finds = all-ended e tells }
 
       pub stands-after : Standing now r
-      stands-after = (ts (v .scene), i + 1, after (v .scene), shown (v .scene))
+      stands-after = (book records (ts (v .scene)), i + 1, after (v .scene), shown (v .scene))
 
       pub goes-on : {kind m : ℕ} → length now ≡ length room → kind ≡ kindByte records i → (r .depth ≡ 0 → ⊥) → (m ≡ modeOf mode kind) × (m ≤ mode + 1) → Going records decls table first now t name from r m (i + 1)
       goes-on {kind} {m} size k n q = record {

@@ -264,6 +264,7 @@ module _ {records decls table next room : List ℕ} {t : Task} {k : ℕ} (x : Pa
           past = omega (arith, declares (reading (y .written)) k (x .within) .stands .past);
           behind = past;
           few = omega (arith, y .written .ready .holds .few);
+          record-room = omega (arith, z .0, y .written .count, y .written .ready .holds .record-room);
           from-few = omega (arith, y .written .ready .holds .few, y .written .count);
           is-name = λ g.
               let u = name-there (x .within) at (reading (g .written)) in

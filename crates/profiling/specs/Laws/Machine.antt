@@ -206,7 +206,7 @@ module _ (ds : Table) (test : Word) (output : ℕ) (known : Word → Report) whe
       ≡ onwards fs (f .own) (cond (f .group) (marked (f .flag) (f .ended && w .flags (f .own)) w) w) ts
   unfolding run acted mode tests begins member
   end-read [] f d e w ls k b c x m i ts h = refl
-  end-read (g ∷ fs) f d e w ls k b c x m i ts h = refl
+  end-read (g ∷ fs) f d e w ls k b c x m i ts h = apart g fs (f .own) (cond (f .group) (marked (f .flag) (f .ended && w .flags (f .own)) w) w) (f .labels) 0 false false idle 0 h
 
   mutual
     unfolding run acted mode tests begins stores member walk walkMembers walkAlternatives walkCounted walkSelected walkMore
@@ -256,7 +256,7 @@ module _ (ds : Table) (test : Word) (output : ℕ) (known : Word → Report) whe
         → length fs + 2 + countedNest c ≤ deepest → Apart ts
         → R 0 (settled (frame ls k d b true false ∷ f ∷ fs) d w) (countedTokens c ts)
         ≡ R 0 (settled (f ∷ fs) d (walkCounted ds test output known c ls d k b w)) ts
-    counted-read (counted-end i) f fs ls d k b w ts h p = refl
+    counted-read (counted-end i) f fs ls d k b w ts h p = apart f fs d w ls 0 false false idle 0 p
     counted-read (counted-more i a c) f fs ls d k b w ts h p =
         action-read a (frame ls k d b true false) (f ∷ fs) ls d k b w (countedTokens c ts) (omega arith) (counted-apart c ts)
         ∙ counted-read c f fs ls d k b (walk ds test output known a ls d k b w) ts (omega arith) p
@@ -271,12 +271,13 @@ module _ (ds : Table) (test : Word) (output : ℕ) (known : Word → Report) whe
         ∙ more-read m f fs ls d k b (walk ds test output known a ls d k b w) ts (omega arith) p)
     selected-read (otherwise i e a g) f fs ls d k b w ts h p =
         action-read a (frame ls k d b true false) (f ∷ fs) ls d k b w (tk END g ∷ ts) (omega arith) by-end
+        ∙ apart f fs d (walk ds test output known a ls d k b w) ls 0 false false idle 0 p
 
     more-read : (m : SelectedMore) (f : Frame) (fs : List Frame) (ls : List Slot) (d k : ℕ) (b : Bool) (w : Marks) (ts : Tokens)
         → length fs + 2 + selectedMoreNest m ≤ deepest → Apart ts
         → R 0 (settled (frame ls k d b true false ∷ f ∷ fs) d w) (selectedMoreTokens m ts)
         ≡ R 0 (settled (f ∷ fs) d (walkMore ds test output known m ls d k b w)) ts
-    more-read (selected-end i) f fs ls d k b w ts h p = refl
+    more-read (selected-end i) f fs ls d k b w ts h p = apart f fs d w ls 0 false false idle 0 p
     more-read (selected-more i s) f fs ls d k b w ts h p = selected-read s f fs ls d k b w ts h p
 
   -- THE TOKENS OF A BODY, which is a block, read one by one
