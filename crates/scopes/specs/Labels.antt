@@ -1,6 +1,6 @@
 -- The labels around a token, on a stack of the numbers of their tokens. A scope is those from a base up to the top; where the top is below the base there
 -- is no group of two or more around.
-use Prim.Native.Nat.{ℕ, zero, suc, _+_, _-_, _*_, _<_, _≤_}
+use Prim.Native.Nat.{ℕ, zero, suc, _+_, _-_, _*_, _<_, _≤_, min}
 use mathlib.Core.Path.{_≡_}
 use mathlib.Core.List.{List, [], _∷_}
 use mathlib.Core.Option.{none, some}
@@ -38,10 +38,10 @@ pub record Scoped (ts : Tokens) (labels : List ℕ) (base top : ℕ) (s : Scope)
   pub around : base ≤ top → s ≡ some (namesFrom ts labels base (top - base))
   pub nowhere : top < base → s ≡ none
 
--- the key of a jump at the token i
-pub record JumpKey (text records labels : List ℕ) (n i base top r : ℕ) : Type 0 where
-  pub key : (v : Worded text records n) (s : Scope) → Scoped (v .tokens) labels base top s → r ≡ leastNumberKey
-      (jumpAt s (tokenAt (v .tokens) i) (drop (i + 1) (v .tokens)))
+-- the key of a jump at the token i, as far as it lowers the key that is known
+pub record JumpKey (text records labels : List ℕ) (n i base top known r : ℕ) : Type 0 where
+  pub key : (v : Worded text records n) (s : Scope) → Scoped (v .tokens) labels base top s → min known r ≡ min known
+      (leastNumberKey (jumpAt s (tokenAt (v .tokens) i) (drop (i + 1) (v .tokens))))
 
 -- a label more
 pub record Pushed (text records old new : List ℕ) (n i base top r : ℕ) : Type 0 where

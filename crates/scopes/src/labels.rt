@@ -104,7 +104,8 @@ fn jumps(kind: u8) -> bool
     }
 }
 
-// The key of 52 at the token i, whose kind this is: where it jumps to none of the labels from base up to top.
+// The key of 52 at the token i, whose kind this is: where it jumps to none of the labels from base up to top. Where a key is known that this one would not
+// lower, none is looked for.
 pub fn jump_key(
     text: &[u8],
     records: &[u8],
@@ -114,9 +115,10 @@ pub fn jump_key(
     kind: u8,
     base: usize,
     top: usize,
+    known: u32,
 ) -> u32
     requires { ⌜ Worded (now text) (now records) n × (Labelled (now records) (now labels) n top × ((i < n) × (kind ≡ kindByte (now records) i))) ⌝ }
-    ensures { λ r. ⌜ JumpKey (now (text .entry)) (now (records .entry)) (now (labels .entry)) n i base top r ⌝ }
+    ensures { λ r. ⌜ JumpKey (now (text .entry)) (now (records .entry)) (now (labels .entry)) n i base top known r ⌝ }
 {
     if !jumps(kind) {
         return NO_KEY;
@@ -127,10 +129,14 @@ pub fn jump_key(
     if top < base {
         return NO_KEY;
     }
+    let own = number_key(52, place_at(records, i));
+    if known <= own {
+        return NO_KEY;
+    }
     if among(text, records, labels, n, base, top, i + 1) {
         return NO_KEY;
     }
-    number_key(52, place_at(records, i))
+    own
 }
 
 // The top of the labels behind the `:=` at i: one more, if a name stands before it and there is a scope.

@@ -1,5 +1,5 @@
 -- The least key of a body, kept while it is walked. In the room stands first what is gathered of the bodies, then the labels and the frames.
-use Prim.Native.Nat.{ℕ, _+_, _-_, _<_, _≤_}
+use Prim.Native.Nat.{ℕ, _+_, _-_, _<_, _≤_, min}
 use mathlib.Core.Path.{_≡_}
 use mathlib.Core.List.{List, []}
 use mathlib.Core.Option.{none, some}
@@ -30,7 +30,7 @@ pub record SameMemo (old new : List ℕ) : Type 0 where
   pub memo : memoOf new ≡ memoOf old
   pub size : length new ≡ length old
 
--- the key at one token
+-- the key at one token, as far as it lowers the key that is known
 pub record Faulty (text records decls room : List ℕ) (m n i kind top : ℕ) : Type 0 where
   pub written : Written text records decls m n
   pub roomy : Roomy records decls room m n
@@ -38,9 +38,9 @@ pub record Faulty (text records decls room : List ℕ) (m n i kind top : ℕ) : 
   pub within : i < n
   pub kind-is : kind ≡ kindByte records i
 
-pub record FaultKey (text records decls room : List ℕ) (m n i base top r : ℕ) : Type 0 where
+pub record FaultKey (text records decls room : List ℕ) (m n i base top known r : ℕ) : Type 0 where
   pub key : (v : Written text records decls m n) (s : Scope) → Scoped (v .tokens) (labelsOf room) base top s
-      → r ≡ leastNumberKey (faultsAt (whole v) s (tokenAt (v .tokens) i) (drop (i + 1) (v .tokens)))
+      → min known r ≡ min known (leastNumberKey (faultsAt (whole v) s (tokenAt (v .tokens) i) (drop (i + 1) (v .tokens))))
 
 -- behind one token
 pub record TurnedIn (text records old new : List ℕ) (n i depth base top depth₁ base₁ top₁ : ℕ) : Type 0 where

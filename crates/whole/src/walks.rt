@@ -33,7 +33,7 @@ fn opens(kind: u8) -> bool
     }
 }
 
-// The least key at the token i, whose kind this is, with what is told of the group that begins behind it.
+// The least key at the token i, whose kind this is, as far as it lowers the key that is known; with what is told of the group that begins behind it.
 fn fault_at(
     text: &[u8],
     records: &[u8],
@@ -45,16 +45,17 @@ fn fault_at(
     kind: u8,
     base: usize,
     top: usize,
+    known: u32,
 ) -> Group
     requires { ⌜ Faulty (now text) (now records) (now decls) (now room) m n i kind top ⌝ }
-    ensures { λ r. ⌜ FaultKey (now (text .entry)) (now (records .entry)) (now (decls .entry)) (now (room .entry)) m n i base top (r .key)
+    ensures { λ r. ⌜ FaultKey (now (text .entry)) (now (records .entry)) (now (decls .entry)) (now (room .entry)) m n i base top known (r .key)
         × Told (now (records .entry)) n i kind (r .several) ⌝ }
 {
     if opens(kind) {
         return group_at(records, decls, &room[..LABELS], m, n, i + 1);
     }
     Group {
-        key: jump_key(text, records, &room[LABELS..], n, i, kind, base, top),
+        key: jump_key(text, records, &room[LABELS..], n, i, kind, base, top, known),
         several: false,
     }
 }
@@ -113,7 +114,7 @@ fn walk_key(
         if closes(depth, kind) {
             return key;
         }
-        let here = fault_at(text, records, decls, room, m, n, at, kind, base, top);
+        let here = fault_at(text, records, decls, room, m, n, at, kind, base, top, key);
         key = earlier(key, here.key);
         let several = here.several;
         let next = turn_in(text, records, room, n, at, kind, several, depth, base, top);

@@ -1,5 +1,5 @@
 -- Laws of labels: finding one on the stack, jumps, and pushing one.
-use Prim.Native.Nat.{ℕ, zero, suc, _+_, _-_, _*_, _<_, _≤_}
+use Prim.Native.Nat.{ℕ, zero, suc, _+_, _-_, _*_, _<_, _≤_, min}
 use mathlib.Core.Path.{_≡_, refl, sym, ap, ap₂, _∙_, subst}
 use mathlib.Core.Bool.{Bool, true, false, not, _||_, _&&_}
 use mathlib.Core.List.{List, _∷_}
@@ -133,27 +133,43 @@ module _ {records : List ℕ} {n next : ℕ} (i : ℕ) (behind : (v : Kinded rec
   target-word : (v : Kinded records n) → nextWord (drop (i + 1) (v .tokens)) ≡ wordAt (v .tokens) (i + 1)
   target-word v = ap nextWord (next-token v (i + 1) (target-in v))
 
-unjumped : (b : Bool) (place : ℕ) → b ≡ false → noKey ≡ leastNumberKey (when b 52 place)
-unjumped b place e = sym (ap (λ (x : Bool). leastNumberKey (when x 52 place)) e ∙ least-none numberKey)
+unjumped : (known : ℕ) (b : Bool) (place : ℕ) → b ≡ false → min known noKey ≡ min known (leastNumberKey (when b 52 place))
+unjumped known b place e = ap (min known) (sym (ap (λ (x : Bool). leastNumberKey (when x 52 place)) e ∙ least-none numberKey))
 
-module _ {text records : List ℕ} (labels : List ℕ) {n i k : ℕ} (base top : ℕ) (h : i < n) (q : k ≡ kindByte records i) {d : Bool} (e : d ≡ jumps k) where
+-- whether or not it jumps out, a key that is no later is known
+no-lower : (known : ℕ) (b : Bool) (place : ℕ) → place ≤ 32768 → known ≤ numberKey (fault 52 place) → min known noKey ≡ min known (leastNumberKey (when b 52 place))
+no-lower known true place small h = omega (arith, when-key true 52 place (omega arith) small)
+no-lower known false place small h = unjumped known false place refl
+
+module _ {text records : List ℕ} (labels : List ℕ) {n i k : ℕ} (base top known : ℕ) (h : i < n) (q : k ≡ kindByte records i) {d : Bool} (e : d ≡ jumps k) where
   jumps-here : (v : Worded text records n) → jumps (number (tokenAt (v .tokens) i)) ≡ d
   jumps-here v = ap jumps (sym (q ∙ by-kinds v .kind i h)) ∙ sym e
 
-  pub not-jumping : d ≡ false → JumpKey text records labels n i base top noKey
+  pub not-jumping : d ≡ false → JumpKey text records labels n i base top known noKey
   unfolding jumpAt
   not-jumping f = record {
     key = λ v s x.
         let t = tokenAt (v .tokens) i in
         let target = eqb (nextNo (drop (i + 1) (v .tokens))) 0 && aimsOut s (nextWord (drop (i + 1) (v .tokens))) in
-        unjumped (jumps (number t) && target) (t .info .place) (ap (λ (b : Bool). b && target) (jumps-here v ∙ f));
+        unjumped known (jumps (number t) && target) (t .info .place) (ap (λ (b : Bool). b && target) (jumps-here v ∙ f));
+  }
+
+  pub known-enough : {p own : ℕ} → p ≡ placeCell records i → own ≡ numberKey (fault 52 p) → known ≤ own → JumpKey text records labels n i base top known noKey
+  unfolding jumpAt
+  known-enough {p} g o l = record {
+    key = λ v s x.
+        let t = tokenAt (v .tokens) i in
+        let there : p ≡ t .info .place = g ∙ v .holds .entry i (omega (arith, v .count)) .place in
+        no-lower known (jumps (number t) && (eqb (nextNo (drop (i + 1) (v .tokens))) 0 && aimsOut s (nextWord (drop (i + 1) (v .tokens))))) (t .info .place)
+        (subst (λ (z : ℕ). z ≤ 32768) there (jump-place v h g))
+        (subst (λ (z : ℕ). known ≤ numberKey (fault 52 z)) there (subst (λ (z : ℕ). known ≤ z) o l));
   }
 
   module _ (t : d ≡ true) {next : ℕ} (behind : (v : Kinded records n) → next ≡ nextNo (drop (i + 1) (v .tokens))) where
-    pub no-target : (next ≡ 0 → ⊥) → JumpKey text records labels n i base top noKey
+    pub no-target : (next ≡ 0 → ⊥) → JumpKey text records labels n i base top known noKey
     unfolding jumpAt
     no-target f = record {
-      key = λ v s x. unjumped _ _ (ap₂ (λ (a b : Bool). a && (b && aimsOut s (nextWord (drop (i + 1) (v .tokens))))) (jumps-here v ∙ t)
+      key = λ v s x. unjumped known _ _ (ap₂ (λ (a b : Bool). a && (b && aimsOut s (nextWord (drop (i + 1) (v .tokens))))) (jumps-here v ∙ t)
           (ne-eqb (nextNo (drop (i + 1) (v .tokens))) 0 (λ z. f (behind (by-kinds v) ∙ z))));
     }
 
@@ -166,25 +182,25 @@ module _ {text records : List ℕ} (labels : List ℕ) {n i k : ℕ} (base top :
           (eq-eqb (nextNo (drop (i + 1) (v .tokens))) 0 (sym (behind (by-kinds v)) ∙ name))
           ∙ ap (aimsOut s) (target-word i behind name (by-kinds v))
 
-      pub free-to-jump : top < base → JumpKey text records labels n i base top noKey
+      pub free-to-jump : top < base → JumpKey text records labels n i base top known noKey
       unfolding jumpAt
-      free-to-jump l = record { key = λ v s x. unjumped _ _ (test v s ∙ ap (λ (y : Scope). aimsOut y (wordAt (v .tokens) (i + 1))) (x .nowhere l)) }
+      free-to-jump l = record { key = λ v s x. unjumped known _ _ (test v s ∙ ap (λ (y : Scope). aimsOut y (wordAt (v .tokens) (i + 1))) (x .nowhere l)) }
 
-      module _ (l : base ≤ top) {r : Bool} (known : (v : Worded text records n) → r ≡ isKnown (wordAt (v .tokens) (i + 1)) (namesFrom (v .tokens) labels base (top - base))) where
+      module _ (l : base ≤ top) {r : Bool} (listed : (v : Worded text records n) → r ≡ isKnown (wordAt (v .tokens) (i + 1)) (namesFrom (v .tokens) labels base (top - base))) where
         aims : (v : Worded text records n) (s : Scope) → Scoped (v .tokens) labels base top s → aimsOut s (wordAt (v .tokens) (i + 1)) ≡ not r
-        aims v s x = ap (λ (y : Scope). aimsOut y (wordAt (v .tokens) (i + 1))) (x .around l) ∙ ap not (sym (known v))
+        aims v s x = ap (λ (y : Scope). aimsOut y (wordAt (v .tokens) (i + 1))) (x .around l) ∙ ap not (sym (listed v))
 
-        pub aimed-inside : r ≡ true → JumpKey text records labels n i base top noKey
+        pub aimed-inside : r ≡ true → JumpKey text records labels n i base top known noKey
         unfolding jumpAt
-        aimed-inside f = record { key = λ v s x. unjumped _ _ (test v s ∙ (aims v s x ∙ ap not f)) }
+        aimed-inside f = record { key = λ v s x. unjumped known _ _ (test v s ∙ (aims v s x ∙ ap not f)) }
 
-        pub aimed-outside : {p key : ℕ} → r ≡ false → p ≡ placeCell records i → key ≡ numberKey (fault 52 p) → JumpKey text records labels n i base top key
+        pub aimed-outside : {p key : ℕ} → r ≡ false → p ≡ placeCell records i → key ≡ numberKey (fault 52 p) → JumpKey text records labels n i base top known key
         unfolding jumpAt
         aimed-outside {p} f g o = record {
-          key = λ v s x.
-              o ∙ (sym (when-key true 52 p (omega arith) (jump-place v h g))
+          key = λ v s x. ap (min known)
+              (o ∙ (sym (when-key true 52 p (omega arith) (jump-place v h g))
               ∙ ap₂ (λ (b : Bool) (z : ℕ). leastNumberKey (when b 52 z)) (sym (test v s ∙ (aims v s x ∙ ap not f)))
-              (g ∙ v .holds .entry i (omega (arith, v .count)) .place));
+              (g ∙ v .holds .entry i (omega (arith, v .count)) .place)));
         }
 
 -- another cell is put

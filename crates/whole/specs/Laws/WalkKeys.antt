@@ -49,10 +49,10 @@ module _ {text records decls room : List ℕ} {m n i kind top : ℕ} (x : Faulty
   opens-here : {c : Bool} (v : Written text records decls m n) → b ≡ c → opens (number (tokenAt (v .tokens) i)) ≡ c
   opens-here v t = ap opens (sym (x .kind-is ∙ by-kinds (worded v) .kind i (x .within))) ∙ (sym e ∙ t)
 
-  pub fault-group : {base r : ℕ} → b ≡ true → ((v : Reading records decls m n) → r ≡ leastNumberKey (groupAt (tableOf v) (drop (i + 1) (v .tokens))))
-      → FaultKey text records decls room m n i base top r
+  pub fault-group : {base known r : ℕ} → b ≡ true → ((v : Reading records decls m n) → r ≡ leastNumberKey (groupAt (tableOf v) (drop (i + 1) (v .tokens))))
+      → FaultKey text records decls room m n i base top known r
   unfolding faultsAt
-  fault-group t h = record { key = λ v s y. h (reading v) ∙ sym (rw (opens-here v t, faultsAt)) }
+  fault-group {known = known} t h = record { key = λ v s y. ap (min known) (h (reading v) ∙ sym (rw (opens-here v t, faultsAt))) }
 
   pub told-group : {several : Bool} → ((v : Kinded records n) → several ≡ more (drop (i + 1) (v .tokens))) → Told records n i kind several
   told-group h = record { tells = λ v o. h v }
@@ -60,9 +60,10 @@ module _ {text records decls room : List ℕ} {m n i kind top : ℕ} (x : Faulty
   pub told-nothing : b ≡ false → (several : Bool) → Told records n i kind several
   told-nothing t several = record { tells = λ v o. absurd (false≢true (sym t ∙ (e ∙ o))) }
 
-  pub fault-jump : {base r : ℕ} → b ≡ false → JumpKey text records (labelsOf room) n i base top r → FaultKey text records decls room m n i base top r
+  pub fault-jump : {base known r : ℕ} → b ≡ false → JumpKey text records (labelsOf room) n i base top known r
+      → FaultKey text records decls room m n i base top known r
   unfolding faultsAt
-  fault-jump t h = record { key = λ v s y. h .key (worded v) s y ∙ sym (rw (opens-here v t, faultsAt)) }
+  fault-jump {known = known} t h = record { key = λ v s y. h .key (worded v) s y ∙ ap (min known) (sym (rw (opens-here v t, faultsAt))) }
 
 -- a part of the room that goes on to its end
 pub all-labels : (room : List ℕ) → take (length room - labelsFrom) (drop labelsFrom room) ≡ labelsOf room
@@ -192,7 +193,7 @@ module _ {text records decls first room : List ℕ} {m n from key depth base top
             told = told;
           }
 
-    pub walk-on : {new : List ℕ} {r next depth₁ base₁ top₁ : ℕ} → FaultKey text records decls room m n i base top r → next ≡ min key r
+    pub walk-on : {new : List ℕ} {r next depth₁ base₁ top₁ : ℕ} → FaultKey text records decls room m n i base top key r → next ≡ min key r
         → TurnedIn text records room new n i depth base top depth₁ base₁ top₁ → Walking text records decls first new m n from next depth₁ base₁ top₁ (i + 1)
     walk-on {new} {r} {next} {depth₁} {base₁} {top₁} f q t = record {
       written = inv .written;
@@ -208,9 +209,10 @@ module _ {text records decls first room : List ℕ} {m n from key depth base top
           let o = t .turned .on (whole v) (worded v) (y .scopes) (y .scope) (y .standing) in
           let token : i + 1 - 1 ≡ i = omega arith in
           let rest = leastNumberKey (walk (whole v) (o .scopes) (o .scope) (tokenAt ts i) (drop (i + 1) ts)) in
-          let step : leastNumberKey (walk (whole v) (y .scopes) (y .scope) (tokenAt ts (i - 1)) (drop i ts)) ≡ min r rest =
-          ap leastNumberKey (o .walks) ∙ (least-append numberKey (faultsAt (whole v) (y .scope) (tokenAt ts i) (drop (i + 1) ts)) _
-          ∙ ap (λ (z : ℕ). min z rest) (sym (f .key v (y .scope) (y .standing .scoped)))) in
+          let here = leastNumberKey (faultsAt (whole v) (y .scope) (tokenAt ts i) (drop (i + 1) ts)) in
+          let step : leastNumberKey (walk (whole v) (y .scopes) (y .scope) (tokenAt ts (i - 1)) (drop i ts)) ≡ min here rest =
+          ap leastNumberKey (o .walks) ∙ least-append numberKey (faultsAt (whole v) (y .scope) (tokenAt ts i) (drop (i + 1) ts)) _ in
+          let same : min key r ≡ min key here = f .key v (y .scope) (y .standing .scoped) in
           let now : min next rest ≡ leastNumberKey (walk (whole v) [] none (tokenAt ts (from - 1)) (drop from ts)) = omega (arith, y .least) in
           record {
             scopes = o .scopes;
