@@ -10,7 +10,6 @@ use borrow.Author.Tests.{eqb-true}
 use lib.ListN.{length}
 use Rattle.cells.specs.Cells.{cell}
 use Rattle.rules.specs.Text.Scan.{sameBytes}
-use Rattle.rules.specs.Limits.{mostTokens}
 use Rattle.paths.specs.Least.{least}
 use Rattle.paths.specs.Walk.{Slot, slot, marked, markedAt, flagOf}
 use Rattle.table.specs.Holds.{linkCell}
@@ -24,10 +23,6 @@ use Rattle.nesting.specs.Grouping.{nest}
 use Rattle.nesting.specs.Jumping.{Sought, Seeking, Jumping, Left, Labels, FlagFound}
 use Rattle.nesting.specs.Laws.Holding.{linked-still, frames-still, frames-later, flagged-kept, flagged-set, set-none, set-labels, set-frames}
 use Rattle.nesting.specs.declared.nests.Nest.{Nest}
-
-module _ {ts : Book} {old : List ℕ} {i : ℕ} {x : Nest} {z : State} (s : Shows ts old i x z) where
-  pub label-fits : i < 8192 → (x .label < mostTokens) × (x .flag < 65536)
-  label-fits h = (omega (arith, s .label-low), omega (arith, s .flag-low))
 
 pub label-shown : {records old new : List ℕ} {i : ℕ} {x : Nest} → i < 8192 → LabelPut records old new (x .label) i (x .flag)
     → Labels records old new i x (nest (x .depth) (x .free) (x .label + 1) (x .flag) (x .comes) (x .choosing) (x .begun) (x .place) (x .hit) (x .low))

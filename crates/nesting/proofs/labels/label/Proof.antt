@@ -1,9 +1,8 @@
 -- `nesting::labels::label` meets its contract.
 use borrow.Author.Needs.{needs}
-use native.Mathlib.Omega.{arith}
 use Rattle.nesting.proofs.labels.label.Statement.{statement}
 use Rattle.nesting.proofs.labels.label.Tie as tie
-use Rattle.nesting.specs.Laws.Labels.{label-fits, label-shown}
+use Rattle.nesting.specs.Laws.Labels.{label-shown}
 
 pub label-spec : {M : Type 1} → statement M
 label-spec =
