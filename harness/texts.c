@@ -448,6 +448,29 @@ static void leaves_in_a_member(void)
     add("NO.OP() END END END", 6);
 }
 
+/* Each of them is reached. */
+static void leaves_behind_tests(void)
+{
+    start();
+    for (unsigned i = 0; tokens < MOST_TOKENS / 2; i++)
+        add_with("L%x:=", i, 2);
+    add("BEGIN ", 1);
+    add_until_full("IF A=>LEAVE L0 NEXT ", 6);
+    add("NO.OP() END END END", 6);
+}
+
+/* The label that they leave is around the member: each is a fault, and the first counts. */
+static void leaves_out_of_a_member(void)
+{
+    start();
+    add("L0:=BEGIN NO.OP();", 7);
+    for (unsigned i = 1; tokens < MOST_TOKENS / 2; i++)
+        add_with("L%x:=", i, 2);
+    add("BEGIN ", 1);
+    add_until_full("LEAVE L0 NEXT ", 3);
+    add("NO.OP() END END END END", 7);
+}
+
 /* ---- Selectors ---- */
 
 enum { ALTERNATIVES = 64 };
@@ -579,6 +602,8 @@ static const Hard hard[] = {
     {"labels that start from one head", labels_with_one_head},
     {"LEAVEs below many labels", leaves_below_labels},
     {"LEAVEs in a member", leaves_in_a_member},
+    {"LEAVEs behind tests", leaves_behind_tests},
+    {"LEAVEs out of a member", leaves_out_of_a_member},
     {"64 lists of constants", singles},
     {"64 lists, the last item overlaps", overlapping_singles},
     {"64 lists of ranges", ranges},
