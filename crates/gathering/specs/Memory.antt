@@ -30,10 +30,10 @@ pub record PutWords (old new : List ℕ) (c : ℕ) (w : List ℕ) : Type 0 where
 
 -- the entry of the declaration k: its mark, the carrier under its name, what it reads, what it writes
 abbrev pub markOf : List ℕ → ℕ → ℕ
-markOf b k = cell 8 b (9 * k) % 4
+markOf b k = cell 8 b (9 * k) % 65536
 
 abbrev pub carrierOf : List ℕ → ℕ → ℕ
-carrierOf b k = cell 8 b (9 * k) / 4
+carrierOf b k = cell 8 b (9 * k) / 65536 % 65536
 
 abbrev pub readsAt : List ℕ → ℕ → List ℕ
 readsAt b k = wordsAt b (9 * k + 1)

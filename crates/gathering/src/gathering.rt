@@ -1,4 +1,5 @@
 // What each body reads and writes, gathered once, by recursion down its activations. The remaining length of the chain falls.
+use crate::memory::ABOVE_MARK;
 use crate::memory::mark_in;
 use crate::memory::nothing;
 use crate::memory::put_word;
@@ -107,7 +108,7 @@ fn note_carriers(records: &[u8], decls: &[u8], memo: &mut [u8], m: usize, n: usi
     let mut k: usize = 0;
     while k < m {
         let c = own_carrier(records, decls, m, n, k);
-        put_word(memo, 9 * k, 4 * c);
+        put_word(memo, 9 * k, ABOVE_MARK * c);
         k += 1;
     }
 }

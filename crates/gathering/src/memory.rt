@@ -12,6 +12,9 @@ ghost use Rattle.cells.specs.Cells.{cell};
 ghost use Rattle.reading.specs.Bits.{holds};
 ghost use Rattle.gathering.specs.Memory.{Put, PutWords, Stored, wordsAt, markOf, carrierOf, readsAt, writesAt, markFor};
 
+// The first word of an entry has the mark in its lowest two bytes and the carrier in the two above, so that each is read by itself.
+pub const ABOVE_MARK: u64 = 65536;
+
 // What an action reads and writes, and whether it may stop.
 pub struct Touched {
     pub reads: Set,
@@ -49,19 +52,19 @@ fn put_set(memo: &mut [u8], c: usize, s: Set)
 // The mark in the cell c.
 pub fn mark_in(memo: &[u8], c: usize) -> u64
     requires { ⌜ 8 * c + 8 ≤ length (now memo) ⌝ }
-    ensures { λ r. ⌜ r ≡ cell 8 (now (memo .entry)) c % 4 ⌝ }
+    ensures { λ r. ⌜ r ≡ cell 8 (now (memo .entry)) c % 65536 ⌝ }
 {
-    get64(memo, c) % 4
+    get64(memo, c) % ABOVE_MARK
 }
 
 // The word of a declaration, with the mark of a body that is gathered.
 fn marked(word: u64, stops: bool) -> u64
-    ensures { λ r. ⌜ (r % 4 ≡ markFor stops) × (r / 4 ≡ word / 4) ⌝ }
+    ensures { λ r. ⌜ (r % 65536 ≡ markFor stops) × (r / 65536 ≡ word / 65536) ⌝ }
 {
     if stops {
-        return word / 4 * 4 + 2;
+        return word / ABOVE_MARK * ABOVE_MARK + 2;
     }
-    word / 4 * 4 + 1
+    word / ABOVE_MARK * ABOVE_MARK + 1
 }
 
 // The storage carrier under the name of the declaration k; from 256 on there is none.
@@ -69,7 +72,7 @@ pub fn carrier_at(memo: &[u8], k: usize) -> usize
     requires { ⌜ 72 * k + 72 ≤ length (now memo) ⌝ }
     ensures { λ r. ⌜ r ≡ carrierOf (now (memo .entry)) k ⌝ }
 {
-    (get64(memo, 9 * k) / 4) as usize
+    (get64(memo, 9 * k) / ABOVE_MARK % ABOVE_MARK) as usize
 }
 
 pub fn remember(memo: &mut [u8], k: usize, t: Touched)

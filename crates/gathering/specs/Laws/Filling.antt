@@ -88,7 +88,7 @@ module _ {records decls : List ℕ} {m n k : ℕ} (v : Reading records decls m n
     where
       other : (j : ℕ) → (j ≡ k → ⊥) → (markOf new j ≡ 0 → ⊥) → (x : Word) → numberOf (tableOf v) x ≡ some j → Entry new j (bodySets (tableOf v) longestChain x)
           (bodyStops (tableOf v) longestChain x)
-      other j ne n x e = entry-kept st j ne (o .right j (λ z. n (ap (λ (y : ℕ). y % 4) (st .elsewhere (9 * j) (λ p q. ne (omega arith))) ∙ z)) x e)
+      other j ne n x e = entry-kept st j ne (o .right j (λ z. n (ap (λ (y : ℕ). y % 65536) (st .elsewhere (9 * j) (λ p q. ne (omega arith))) ∙ z)) x e)
 
       by : (j : ℕ) → (markOf new j ≡ 0 → ⊥) → (x : Word) → numberOf (tableOf v) x ≡ some j → Dec (j < k) → Dec (k < j)
           → Entry new j (bodySets (tableOf v) longestChain x) (bodyStops (tableOf v) longestChain x)
@@ -108,8 +108,8 @@ stored-kept : {old new r w : List ℕ} {k : ℕ} (s : Bool) → Stored old new k
 stored-kept {new = new} {k = k} s st j n z = by (decLt j k) (decLt k j)
   where
     by : Dec (j < k) → Dec (k < j) → ⊥
-    by (yes l) _ = n (ap (λ (y : ℕ). y % 4) (sym (st .elsewhere (9 * j) (λ p q. omega arith))) ∙ z)
-    by (no _) (yes l) = n (ap (λ (y : ℕ). y % 4) (sym (st .elsewhere (9 * j) (λ p q. omega arith))) ∙ z)
+    by (yes l) _ = n (ap (λ (y : ℕ). y % 65536) (sym (st .elsewhere (9 * j) (λ p q. omega arith))) ∙ z)
+    by (no _) (yes l) = n (ap (λ (y : ℕ). y % 65536) (sym (st .elsewhere (9 * j) (λ p q. omega arith))) ∙ z)
     by (no p) (no q) = let e : j ≡ k = omega arith in is-marked s (sym (st .marked) ∙ (ap (markOf new) (sym e) ∙ z))
 
 -- storing keeps the carriers
@@ -117,8 +117,8 @@ stored-carriers : {old new r w : List ℕ} {k mark : ℕ} → Stored old new k r
 stored-carriers {old} {new} {k = k} st j = by (decLt j k) (decLt k j)
   where
     by : Dec (j < k) → Dec (k < j) → carrierOf new j ≡ carrierOf old j
-    by (yes l) _ = ap (λ (y : ℕ). y / 4) (st .elsewhere (9 * j) (λ p q. omega arith))
-    by (no _) (yes l) = ap (λ (y : ℕ). y / 4) (st .elsewhere (9 * j) (λ p q. omega arith))
+    by (yes l) _ = ap (λ (y : ℕ). y / 65536 % 65536) (st .elsewhere (9 * j) (λ p q. omega arith))
+    by (no _) (yes l) = ap (λ (y : ℕ). y / 65536 % 65536) (st .elsewhere (9 * j) (λ p q. omega arith))
     by (no p) (no q) = let e : j ≡ k = omega arith in ap (carrierOf new) e ∙ (st .carrier ∙ ap (carrierOf old) (sym e))
 
 carriers-kept : {records decls old new : List ℕ} {m n : ℕ} → Carrying records decls old m n → ((k : ℕ) → carrierOf new k ≡ carrierOf old k)
@@ -340,8 +340,8 @@ pub note-none : {records decls memo : List ℕ} {m n : ℕ} → Reading records 
 note-none x r = record { within = omega arith; size = refl; room = r; reading = x; gone = λ j l. absurd (omega arith); noted = λ j l. absurd (omega arith) }
 
 pub note-more : {records decls old memo new : List ℕ} {m n k c : ℕ} → Noting records decls old memo m n k → k < m → length new ≡ length memo
-    → ((v : Reading records decls m n) → CarrierOf v k c) → Put memo new (9 * k) (4 * c) → Noting records decls old new m n (k + 1)
-note-more {records} {decls} {memo = memo} {new} {m} {n} {k} {c} inv h s o p = record {
+    → c ≤ 256 → ((v : Reading records decls m n) → CarrierOf v k c) → Put memo new (9 * k) (65536 * c) → Noting records decls old new m n (k + 1)
+note-more {records} {decls} {memo = memo} {new} {m} {n} {k} {c} inv h s low o p = record {
   within = omega arith;
   size = s ∙ inv .size;
   room = omega (arith, inv .room);
@@ -351,14 +351,14 @@ note-more {records} {decls} {memo = memo} {new} {m} {n} {k} {c} inv h s o p = re
 }
   where
     marks : (j : ℕ) → j < k + 1 → Dec (j < k) → markOf new j ≡ 0
-    marks j l (yes q) = ap (λ (y : ℕ). y % 4) (p .elsewhere (9 * j) (λ e. omega arith)) ∙ inv .gone j q
-    marks j l (no q) = let e : j ≡ k = omega arith in ap (markOf new) e ∙ (ap (λ (y : ℕ). y % 4) (p .here) ∙ omega arith)
+    marks j l (yes q) = ap (λ (y : ℕ). y % 65536) (p .elsewhere (9 * j) (λ e. omega arith)) ∙ inv .gone j q
+    marks j l (no q) = let e : j ≡ k = omega arith in ap (markOf new) e ∙ (ap (λ (y : ℕ). y % 65536) (p .here) ∙ omega arith)
 
     carriers : (j : ℕ) → j < k + 1 → Dec (j < k) → (v : Reading records decls m n) → CarrierOf v j (carrierOf new j)
-    carriers j l (yes q) v = subst (CarrierOf v j) (ap (λ (y : ℕ). y / 4) (sym (p .elsewhere (9 * j) (λ e. omega arith)))) (inv .noted j q v)
+    carriers j l (yes q) v = subst (CarrierOf v j) (ap (λ (y : ℕ). y / 65536 % 65536) (sym (p .elsewhere (9 * j) (λ e. omega arith)))) (inv .noted j q v)
     carriers j l (no q) v =
         let e : k ≡ j = omega arith in
-        let here : c ≡ carrierOf new k = sym (ap (λ (y : ℕ). y / 4) (p .here) ∙ omega arith) in
+        let here : c ≡ carrierOf new k = sym (ap (λ (y : ℕ). y / 65536 % 65536) (p .here) ∙ omega arith) in
         subst (λ (y : ℕ). CarrierOf v y (carrierOf new y)) e (subst (CarrierOf v k) here (o v))
 
 module _ {records decls old memo : List ℕ} {m n k : ℕ} (inv : Noting records decls old memo m n k) (h : m ≤ k) where

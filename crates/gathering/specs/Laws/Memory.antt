@@ -43,17 +43,17 @@ words-kept old new c h = same-words (wordsAt new c) (wordsAt old c) (h c (omega 
     (h (c + 3) (omega arith) (omega arith))
 
 -- the word of a declaration takes a mark
-pub marks-stopping : {s : Bool} (word : ℕ) → s ≡ true → ((word / 4 * 4 + 2) % 4 ≡ markFor s) × ((word / 4 * 4 + 2) / 4 ≡ word / 4)
-marks-stopping word e = (let two : (word / 4 * 4 + 2) % 4 ≡ 2 = omega arith in two ∙ ap markFor (sym e), omega arith)
+pub marks-stopping : {s : Bool} (word : ℕ) → s ≡ true → ((word / 65536 * 65536 + 2) % 65536 ≡ markFor s) × ((word / 65536 * 65536 + 2) / 65536 ≡ word / 65536)
+marks-stopping word e = (let two : (word / 65536 * 65536 + 2) % 65536 ≡ 2 = omega arith in two ∙ ap markFor (sym e), omega arith)
 
-pub marks-gathered : {s : Bool} (word : ℕ) → s ≡ false → ((word / 4 * 4 + 1) % 4 ≡ markFor s) × ((word / 4 * 4 + 1) / 4 ≡ word / 4)
-marks-gathered word e = (let one : (word / 4 * 4 + 1) % 4 ≡ 1 = omega arith in one ∙ ap markFor (sym e), omega arith)
+pub marks-gathered : {s : Bool} (word : ℕ) → s ≡ false → ((word / 65536 * 65536 + 1) % 65536 ≡ markFor s) × ((word / 65536 * 65536 + 1) / 65536 ≡ word / 65536)
+marks-gathered word e = (let one : (word / 65536 * 65536 + 1) % 65536 ≡ 1 = omega arith in one ∙ ap markFor (sym e), omega arith)
 
 pub stored : {a₀ a₁ a₂ a₃ : List ℕ} {k f mark word : ℕ} (reads writes : List ℕ) → PutWords a₀ a₁ (9 * k + 1) reads → PutWords a₁ a₂ (9 * k + 5) writes
-    → word ≡ cell 8 a₂ (9 * k) → Put a₂ a₃ (9 * k) f → f % 4 ≡ mark → f / 4 ≡ word / 4 → Stored a₀ a₃ k reads writes mark
+    → word ≡ cell 8 a₂ (9 * k) → Put a₂ a₃ (9 * k) f → f % 65536 ≡ mark → f / 65536 ≡ word / 65536 → Stored a₀ a₃ k reads writes mark
 stored {a₀} {a₁} {a₂} {a₃} {k} reads writes p q before r e g = record {
-  marked = ap (λ (x : ℕ). x % 4) (r .here) ∙ e;
-  carrier = ap (λ (x : ℕ). x / 4) (r .here) ∙ (g ∙ ap (λ (x : ℕ). x / 4)
+  marked = ap (λ (x : ℕ). x % 65536) (r .here) ∙ e;
+  carrier = ap (λ (x : ℕ). x / 65536 % 65536) (r .here) ∙ (ap (λ (x : ℕ). x % 65536) g ∙ ap (λ (x : ℕ). x / 65536 % 65536)
       (before ∙ (q .elsewhere (9 * k) (λ x y. omega arith) ∙ p .elsewhere (9 * k) (λ x y. omega arith))));
   reads = λ c. words-kept a₁ a₃ (9 * k + 1) (λ j l h. r .elsewhere j (λ e. omega arith) ∙ q .elsewhere j (λ x y. omega arith)) c ∙ p .words c;
   writes = λ c. words-kept a₂ a₃ (9 * k + 5) (λ j l h. r .elsewhere j (λ e. omega arith)) c ∙ q .words c;
@@ -68,5 +68,5 @@ pub entry-kept : {old new : List ℕ} {k mark : ℕ} {reads writes : List ℕ} �
 entry-kept {old} {new} {k} p j n e = record {
   reads = λ c. words-kept old new (9 * j + 1) (λ i l h. p .elsewhere i (λ x y. n (omega arith))) c ∙ e .reads c;
   writes = λ c. words-kept old new (9 * j + 5) (λ i l h. p .elsewhere i (λ x y. n (omega arith))) c ∙ e .writes c;
-  stopping = ap (λ (x : ℕ). eqb (x % 4) 2) (p .elsewhere (9 * j) (λ x y. n (omega arith))) ∙ e .stopping;
+  stopping = ap (λ (x : ℕ). eqb (x % 65536) 2) (p .elsewhere (9 * j) (λ x y. n (omega arith))) ∙ e .stopping;
 }
