@@ -1,0 +1,4 @@
+pub mod Written
+pub mod Made
+pub mod Expressions
+pub mod Selectors
