@@ -6,18 +6,19 @@ use mathlib.Core.List.{List, [], _∷_}
 use native.Mathlib.Omega.{arith}
 use borrow.Author.Tests.{lt-ltb}
 use lib.ListN.{length}
-use Rattle.rules.specs.Text.Tokens.{Info, tk, Op, opKind, join, plus, minus, eql, neq, lss, leq, gtr, geq, and, eqv, or, xor}
-use Rattle.rules.specs.Text.Tokens.{Name, END, Equals, RPar, RBra, Arrow, BEGIN, Becomes}
-use Rattle.rules.specs.Grammar.Trees.{Tokens, bit, upto, Bits, all-bits, bits, bitsTokens}
-use Rattle.rules.specs.Grammar.Trees.{Operand, constant, access, parens, negated, operandTokens, Tail, no-more, with-op, tailTokens, Subscript, no-subscript, subscript, subscriptTokens}
-use Rattle.rules.specs.Grammar.Trees.{Joined, alone, joined, joinedTokens, Literal, exact, masked, literalTokens, Range, single, to, rangeTokens, Items, close, item, itemsTokens}
-use Rattle.rules.specs.Grammar.Trees.{Selector, one-of, any-of, selectorTokens, Action, block, labelled, if-then, decode, repeat, leave, restart, activate, stop, no-op, transfer, actionTokens}
+use Rattle.rules.specs.Text.Tokens.{Info, tk, kindNo, Name, END, Equals, Arrow, BEGIN, Becomes}
+use Rattle.rules.specs.Grammar.Trees.{Tokens, Bits, all-bits, bits, bitsTokens, Operand, operandTokens, Tail, tailTokens, Subscript, no-subscript, subscript, subscriptTokens}
+use Rattle.rules.specs.Grammar.Trees.{Joined, alone, joined, joinedTokens, Selector, selectorTokens}
+use Rattle.rules.specs.Grammar.Trees.{Action, block, labelled, if-then, decode, repeat, leave, restart, activate, stop, no-op, transfer, actionTokens}
 use Rattle.rules.specs.Grammar.Trees.{Members, end, also, next, membersTokens, Alternatives, counted, selected, alternativesTokens, Counted, counted-end, counted-more, countedTokens}
 use Rattle.rules.specs.Grammar.Trees.{Selected, select, otherwise, selectedTokens, SelectedMore, selected-end, selected-more, selectedMoreTokens}
 use Rattle.rules.specs.Limits.{deepest}
 use Rattle.rules.specs.Declarations.{Name as Word}
 use Rattle.rules.specs.Whole.Sets.{member}
 use Rattle.laws_grammar.specs.Cited.Nesting.{actionNest, membersNest, alternativesNest, countedNest, selectedNest, selectedMoreNest}
+use Rattle.trees.specs.Written.{level}
+use Rattle.trees.specs.Expressions.{Expressed, passes, bits-written, access-written, expression-written}
+use Rattle.trees.specs.Selectors.{settles, selector-written}
 use Rattle.bounds.specs.Walk.{endless, up, walk, walkMembers, walkAlternatives, walkCounted, walkSelected, walkMore}
 use Rattle.reading.specs.Kinds.{tests, begins, mode}
 use Rattle.reading.specs.Laws.Hearing.{Apart, by-comma, by-semi, by-end, by-next, members-apart, counted-apart, more-apart}
@@ -36,47 +37,12 @@ module _ (counts : Word → ℕ) where
     abbrev S : State
     S = state (f ∷ fs) x
 
-    bits-passed : (v : Bits) (m : ℕ) (ts : Tokens) → R m S (bitsTokens v ts) ≡ R m S ts
+    expressed : {m n : ℕ} {h : Tokens → Tokens} → Expressed suc level level m h n → (ts : Tokens) → R m S (h ts) ≡ R n S ts
     unfolding run acted takesStep turns mode tests begins member
-    bits-passed all-bits m ts = refl
-    bits-passed (bits l n (bit g)) m ts = refl
-    bits-passed (bits l n (upto y z g)) m ts = refl
-
-    op-passed : (op : Op) (i : Info) (m : ℕ) (ts : Tokens) → R m S (tk (opKind op) i ∷ ts) ≡ R m S ts
-    unfolding run acted takesStep turns mode tests begins member
-    op-passed join i m ts = refl
-    op-passed plus i m ts = refl
-    op-passed minus i m ts = refl
-    op-passed eql i m ts = refl
-    op-passed neq i m ts = refl
-    op-passed lss i m ts = refl
-    op-passed leq i m ts = refl
-    op-passed gtr i m ts = refl
-    op-passed geq i m ts = refl
-    op-passed and i m ts = refl
-    op-passed eqv i m ts = refl
-    op-passed or i m ts = refl
-    op-passed xor i m ts = refl
-
-    mutual
-      unfolding run acted takesStep turns mode tests begins member
-
-      operand-passed : (o : Operand) (m : ℕ) (ts : Tokens) → R (suc m) S (operandTokens o ts) ≡ R (suc m) S ts
-      operand-passed (constant i) m ts = refl
-      operand-passed (access i s v) m ts = subscript-passed s (suc m) (bitsTokens v ts) ∙ bits-passed v (suc m) ts
-      operand-passed (parens l o t r) m ts = operand-passed o m (tailTokens t (tk RPar r ∷ ts)) ∙ tail-passed t m (tk RPar r ∷ ts)
-      operand-passed (negated i o) m ts = operand-passed o m ts
-
-      tail-passed : (t : Tail) (m : ℕ) (ts : Tokens) → R (suc m) S (tailTokens t ts) ≡ R (suc m) S ts
-      tail-passed no-more m ts = refl
-      tail-passed (with-op op i o t) m ts = op-passed op i (suc m) (operandTokens o (tailTokens t ts)) ∙ (operand-passed o m (tailTokens t ts) ∙ tail-passed t m ts)
-
-      subscript-passed : (s : Subscript) (m : ℕ) (ts : Tokens) → R m S (subscriptTokens s ts) ≡ R m S ts
-      subscript-passed no-subscript m ts = refl
-      subscript-passed (subscript l o t r) m ts = operand-passed o m (tailTokens t (tk RBra r ∷ ts)) ∙ tail-passed t m (tk RBra r ∷ ts)
+    expressed = passes (λ m. R m S) suc level level refl
 
     expression-passed : (o : Operand) (t : Tail) (ts : Tokens) → R 1 S (operandTokens o (tailTokens t ts)) ≡ R 1 S ts
-    expression-passed o t ts = operand-passed o 0 (tailTokens t ts) ∙ tail-passed t 0 ts
+    expression-passed o t = expressed (expression-written o t 0)
 
     -- at a separator the mode does not matter
     apart : {ts : Tokens} (m : ℕ) → Apart ts → R m S ts ≡ R 0 S ts
@@ -99,9 +65,8 @@ module _ (counts : Word → ℕ) where
     unfolding run acted takesStep turns mode tests begins member
     part-passed n no-subscript all-bits alone e ts = refl
     part-passed n no-subscript all-bits (joined _ _ _ _ _) e ts = refl
-    part-passed n no-subscript (bits l k z) j e ts = bits-passed (bits l k z) 0 (joinedTokens j (tk Equals e ∷ ts))
-    part-passed n (subscript l o t r) v j e ts =
-        let rest = joinedTokens j (tk Equals e ∷ ts) in subscript-passed (subscript l o t r) 0 (bitsTokens v rest) ∙ bits-passed v 0 rest
+    part-passed n no-subscript (bits l k z) j e ts = expressed (bits-written (bits l k z) 0) (joinedTokens j (tk Equals e ∷ ts))
+    part-passed n (subscript l o t r) v j e ts = expressed (access-written (subscript l o t r) v 0) (joinedTokens j (tk Equals e ∷ ts))
 
     joined-passed : (j : Joined) (e : Info) (ts : Tokens) → R 0 S (joinedTokens j (tk Equals e ∷ ts)) ≡ R 1 (state (f ∷ fs) (up x 1)) ts
     unfolding run acted takesStep turns mode tests begins member
@@ -117,29 +82,11 @@ module _ (counts : Word → ℕ) where
     same-best : max best b ≡ best
     same-best = omega arith
 
-    literal-passed : (l : Literal) (m : ℕ) (ts : Tokens) → R m A (literalTokens l ts) ≡ R m A ts
-    unfolding run acted takesStep turns mode tests begins member
-    literal-passed (exact i) m ts = refl
-    literal-passed (masked i) m ts = refl
-
-    range-passed : (r : Range) (m : ℕ) (ts : Tokens) → R m A (rangeTokens r ts) ≡ R m A ts
-    unfolding run acted takesStep turns mode tests begins member
-    range-passed single m ts = refl
-    range-passed (to c l) m ts = literal-passed l m ts
-
-    items-passed : (v : Items) (m : ℕ) (i : Info) (ts : Tokens) → R m A (itemsTokens v (tk Becomes i ∷ ts)) ≡ R 0 A ts
-    unfolding run acted takesStep turns mode tests begins member
-    items-passed (close r) m i ts = refl
-    items-passed (item c y r v) m i ts =
-        let rest = itemsTokens v (tk Becomes i ∷ ts) in
-        ap (λ k. R 0 (state (frame b k ∷ fs) b) (literalTokens y (rangeTokens r rest))) same-best
-        ∙ (literal-passed y 0 (rangeTokens r rest) ∙ (range-passed r 0 rest ∙ items-passed v 0 i ts))
-
     selector-passed : (s : Selector) (i : Info) (ts : Tokens) → R 0 A (selectorTokens s (tk Becomes i ∷ ts)) ≡ R 0 A ts
     unfolding run acted takesStep turns mode tests begins member
-    selector-passed (one-of y r) i ts = literal-passed y 0 (rangeTokens r (tk Becomes i ∷ ts)) ∙ range-passed r 0 (tk Becomes i ∷ ts)
-    selector-passed (any-of c y r v) i ts =
-        let rest = itemsTokens v (tk Becomes i ∷ ts) in literal-passed y 1 (rangeTokens r rest) ∙ (range-passed r 1 rest ∙ items-passed v 1 i ts)
+    selector-passed s i ts =
+        settles (λ m. R m A) (λ k m. mode m (kindNo k)) refl (ap (λ k m i ts. R 0 (state (frame b k ∷ fs) b) ts) same-best)
+        (selector-written {square = level} s 0) (tk Becomes i ∷ ts) (λ m. refl) 0
 
   -- behind the END of a block: the end, unless it stands in another
   abbrev onwards : List Frame → ℕ → Tokens → ℕ
