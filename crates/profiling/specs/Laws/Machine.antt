@@ -6,18 +6,19 @@ use mathlib.Core.List.{List, [], _∷_}
 use native.Mathlib.Omega.{arith}
 use borrow.Author.Tests.{lt-ltb}
 use lib.ListN.{length}
-use Rattle.rules.specs.Text.Tokens.{Info, tk, Op, opKind, join, plus, minus, eql, neq, lss, leq, gtr, geq, and, eqv, or, xor}
-use Rattle.rules.specs.Text.Tokens.{Name, END, Equals, RPar, RBra, Arrow, BEGIN, Becomes}
-use Rattle.rules.specs.Grammar.Trees.{Tokens, bit, upto, Bits, all-bits, bits, bitsTokens}
-use Rattle.rules.specs.Grammar.Trees.{Operand, constant, access, parens, negated, operandTokens, Tail, no-more, with-op, tailTokens, Subscript, no-subscript, subscript, subscriptTokens}
-use Rattle.rules.specs.Grammar.Trees.{Joined, alone, joined, joinedTokens, Literal, exact, masked, literalTokens, Range, single, to, rangeTokens, Items, close, item, itemsTokens}
-use Rattle.rules.specs.Grammar.Trees.{Selector, one-of, any-of, selectorTokens, Action, block, labelled, if-then, decode, repeat, leave, restart, activate, stop, no-op, transfer, actionTokens}
+use Rattle.rules.specs.Text.Tokens.{Info, tk, kindNo, Name, END, Equals, Arrow, BEGIN, Becomes}
+use Rattle.rules.specs.Grammar.Trees.{Tokens, Bits, all-bits, bits, bitsTokens, Operand, operandTokens, Tail, tailTokens, Subscript, no-subscript, subscript, subscriptTokens}
+use Rattle.rules.specs.Grammar.Trees.{Joined, alone, joined, joinedTokens, Selector, selectorTokens}
+use Rattle.rules.specs.Grammar.Trees.{Action, block, labelled, if-then, decode, repeat, leave, restart, activate, stop, no-op, transfer, actionTokens}
 use Rattle.rules.specs.Grammar.Trees.{Members, end, also, next, membersTokens, Alternatives, counted, selected, alternativesTokens, Counted, counted-end, counted-more, countedTokens}
 use Rattle.rules.specs.Grammar.Trees.{Selected, select, otherwise, selectedTokens, SelectedMore, selected-end, selected-more, selectedMoreTokens}
 use Rattle.rules.specs.Limits.{deepest}
 use Rattle.rules.specs.Declarations.{Name as Word, Table}
 use Rattle.rules.specs.Steps.Actions.{access as accessOf, joinedAccesses}
 use Rattle.rules.specs.Whole.Sets.{member, owner, stores as storesOf}
+use Rattle.trees.specs.Written.{level}
+use Rattle.trees.specs.Expressions.{Expressed, passes, access-written, expression-written}
+use Rattle.trees.specs.Selectors.{settles, selector-written}
 use Rattle.laws_grammar.specs.Cited.Nesting.{actionNest, membersNest, alternativesNest, countedNest, selectedNest, selectedMoreNest}
 use Rattle.laws_orders.specs.Orders.Tests.{member-append}
 use Rattle.paths.specs.Early.{Report}
@@ -40,47 +41,12 @@ module _ (ds : Table) (test : Word) (output : ℕ) (known : Word → Report) whe
       abbrev S : State
       S = state (f ∷ fs) d w ls k b c x
 
-      bits-passed : (v : Bits) (m : ℕ) (ts : Tokens) → R m S (bitsTokens v ts) ≡ R m S ts
+      expressed : {m n : ℕ} {h : Tokens → Tokens} → Expressed suc level level m h n → (ts : Tokens) → R m S (h ts) ≡ R n S ts
       unfolding run acted mode tests begins member
-      bits-passed all-bits m ts = refl
-      bits-passed (bits l n (bit g)) m ts = refl
-      bits-passed (bits l n (upto y z g)) m ts = refl
-
-      op-passed : (op : Op) (i : Info) (m : ℕ) (ts : Tokens) → R m S (tk (opKind op) i ∷ ts) ≡ R m S ts
-      unfolding run acted mode tests begins member
-      op-passed join i m ts = refl
-      op-passed plus i m ts = refl
-      op-passed minus i m ts = refl
-      op-passed eql i m ts = refl
-      op-passed neq i m ts = refl
-      op-passed lss i m ts = refl
-      op-passed leq i m ts = refl
-      op-passed gtr i m ts = refl
-      op-passed geq i m ts = refl
-      op-passed and i m ts = refl
-      op-passed eqv i m ts = refl
-      op-passed or i m ts = refl
-      op-passed xor i m ts = refl
-
-      mutual
-        unfolding run acted mode tests begins member
-
-        operand-passed : (o : Operand) (m : ℕ) (ts : Tokens) → R (suc m) S (operandTokens o ts) ≡ R (suc m) S ts
-        operand-passed (constant i) m ts = refl
-        operand-passed (access i s v) m ts = subscript-passed s (suc m) (bitsTokens v ts) ∙ bits-passed v (suc m) ts
-        operand-passed (parens l o t r) m ts = operand-passed o m (tailTokens t (tk RPar r ∷ ts)) ∙ tail-passed t m (tk RPar r ∷ ts)
-        operand-passed (negated i o) m ts = operand-passed o m ts
-
-        tail-passed : (t : Tail) (m : ℕ) (ts : Tokens) → R (suc m) S (tailTokens t ts) ≡ R (suc m) S ts
-        tail-passed no-more m ts = refl
-        tail-passed (with-op op i o t) m ts = op-passed op i (suc m) (operandTokens o (tailTokens t ts)) ∙ (operand-passed o m (tailTokens t ts) ∙ tail-passed t m ts)
-
-        subscript-passed : (s : Subscript) (m : ℕ) (ts : Tokens) → R m S (subscriptTokens s ts) ≡ R m S ts
-        subscript-passed no-subscript m ts = refl
-        subscript-passed (subscript l o t r) m ts = operand-passed o m (tailTokens t (tk RBra r ∷ ts)) ∙ tail-passed t m (tk RBra r ∷ ts)
+      expressed = passes (λ m. R m S) suc level level refl
 
       expression-passed : (o : Operand) (t : Tail) (ts : Tokens) → R 1 S (operandTokens o (tailTokens t ts)) ≡ R 1 S ts
-      expression-passed o t ts = operand-passed o 0 (tailTokens t ts) ∙ tail-passed t 0 ts
+      expression-passed o t = expressed (expression-written o t 0)
 
     -- at a separator nothing counts but the frames and the marks
     apart : {ts : Tokens} (w : Marks) (ls : List Slot) (k : ℕ) (b c : Bool) (x : Dest) (m : ℕ) → Apart ts → R m (state (f ∷ fs) d w ls k b c x) ts ≡ R 0 (settled (f ∷ fs) d w) ts
@@ -109,8 +75,7 @@ module _ (ds : Table) (test : Word) (output : ℕ) (known : Word → Report) whe
       unfolding run mode tests begins member
       name-passed n s v j e ts x p h q =
           let rest = joinedTokens j (tk Equals e ∷ ts) in
-          ap (after 0 (subscriptTokens s (bitsTokens v rest))) q
-          ∙ (subscript-passed w ls k b false (parts p h) s 0 (bitsTokens v rest) ∙ bits-passed w ls k b false (parts p h) v 0 rest)
+          ap (after 0 (subscriptTokens s (bitsTokens v rest))) q ∙ expressed w ls k b false (parts p h) (access-written s v 0) rest
 
       first-acted : (n : Info) (s : Subscript) (v : Bits) (j : Joined) (e : Info) (ts : Tokens)
           → acted ds test output known 0 0 (tk Name n) (subscriptTokens s (bitsTokens v (joinedTokens j (tk Equals e ∷ ts)))) (D idle)
@@ -162,29 +127,10 @@ module _ (ds : Table) (test : Word) (output : ℕ) (known : Word → Report) whe
       abbrev A : State
       A = state (f ∷ fs) d w (f .labels) (f .flag) (f .comes) false idle
 
-      literal-passed : (l : Literal) (m : ℕ) (ts : Tokens) → R m A (literalTokens l ts) ≡ R m A ts
-      unfolding run acted mode tests begins member
-      literal-passed (exact i) m ts = refl
-      literal-passed (masked i) m ts = refl
-
-      range-passed : (r : Range) (m : ℕ) (ts : Tokens) → R m A (rangeTokens r ts) ≡ R m A ts
-      unfolding run acted mode tests begins member
-      range-passed single m ts = refl
-      range-passed (to c l) m ts = literal-passed l m ts
-
-      items-passed : (v : Items) (m : ℕ) (b : Info) (ts : Tokens) → R m A (itemsTokens v (tk Becomes b ∷ ts)) ≡ R 0 A ts
-      unfolding run acted mode tests begins member
-      items-passed (close r) m b ts = refl
-      items-passed (item c l r v) m b ts =
-          let rest = itemsTokens v (tk Becomes b ∷ ts) in
-          literal-passed l 0 (rangeTokens r rest) ∙ (range-passed r 0 rest ∙ items-passed v 0 b ts)
-
       selector-passed : (s : Selector) (b : Info) (ts : Tokens) → R 0 A (selectorTokens s (tk Becomes b ∷ ts)) ≡ R 0 A ts
       unfolding run acted mode tests begins member
-      selector-passed (one-of l r) b ts = literal-passed l 0 (rangeTokens r (tk Becomes b ∷ ts)) ∙ range-passed r 0 (tk Becomes b ∷ ts)
-      selector-passed (any-of c l r v) b ts =
-          let rest = itemsTokens v (tk Becomes b ∷ ts) in
-          literal-passed l 1 (rangeTokens r rest) ∙ (range-passed r 1 rest ∙ items-passed v 1 b ts)
+      selector-passed s b ts =
+          settles (λ m. R m A) (λ k m. mode m (kindNo k)) refl refl (selector-written {square = level} s 0) (tk Becomes b ∷ ts) (λ m. refl) 0
 
   -- behind the END of a block: the end, unless it stands in another
   abbrev onwards : List Frame → ℕ → Marks → Tokens → Marks
