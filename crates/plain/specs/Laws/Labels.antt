@@ -1,17 +1,17 @@
 -- Labels in a token list: a name with `:=` behind it. The labels of an action are those that stand in its tokens.
 -- Assumes nothing.
+use Prim.Native.Nat.{ℕ}
 use mathlib.Core.Path.{_≡_, refl, ap, _∙_}
-use mathlib.Core.Bool.{Bool, true, false, _&&_}
+use mathlib.Core.Bool.{Bool, true, false, _&&_, and-false}
 use mathlib.Core.List.{List, [], _∷_}
-use Rattle.rules.specs.Text.Tokens.{Kind, Info, Token, tk, same, Name, Const, LPar, RPar, LBra, RBra, Less, Greater, Colon, Becomes, Equals, Arrow, At}
-use Rattle.rules.specs.Text.Tokens.{BEGIN, END, NOT}
-use Rattle.rules.specs.Text.Tokens.{Op, opKind, join, plus, minus, eql, neq, lss, leq, gtr, geq, and, eqv, or, xor}
-use Rattle.rules.specs.Grammar.Trees.{Tokens, BitsEnd, bit, upto, bitsEndTokens, Bits, all-bits, bits, bitsTokens, Operand, constant, access, parens, negated, operandTokens}
-use Rattle.rules.specs.Grammar.Trees.{Tail, no-more, with-op, tailTokens, Subscript, no-subscript, subscript, subscriptTokens, Joined, alone, joined, joinedTokens}
-use Rattle.rules.specs.Grammar.Trees.{Literal, exact, masked, literalTokens, Range, single, to, rangeTokens, Items, close, item, itemsTokens, Selector, one-of, any-of, selectorTokens}
+use Rattle.rules.specs.Text.Tokens.{Kind, Info, Token, tk, same, Name, LPar, RPar, Becomes, Equals, Arrow, BEGIN, END}
+use Rattle.rules.specs.Grammar.Trees.{Tokens, Bits, Operand, operandTokens, Tail, tailTokens, Subscript, Joined, Literal, exact, masked, literalTokens, rangeTokens, one-of, any-of}
 use Rattle.rules.specs.Grammar.Trees.{Action, block, labelled, if-then, decode, repeat, leave, restart, activate, stop, no-op, transfer, actionTokens, Members, end, also, next, membersTokens}
 use Rattle.rules.specs.Grammar.Trees.{Alternatives, counted, selected, alternativesTokens, Counted, counted-end, counted-more, countedTokens}
 use Rattle.rules.specs.Grammar.Trees.{Selected, select, otherwise, selectedTokens, SelectedMore, selected-end, selected-more, selectedMoreTokens}
+use Rattle.trees.specs.Written.{nothing, token, level}
+use Rattle.trees.specs.Expressions.{Expressed, expression-equal, access-written, joined-written, expression-written}
+use Rattle.trees.specs.Selectors.{Chosen, chosen-passes, selector-written}
 use Rattle.rules.specs.Faults.Bodies.{labels, memberLabels, alternativeLabels, countedLabels, selectedLabels, moreLabels}
 
 -- whether `:=` is the first token
@@ -35,8 +35,8 @@ record Plain (f : Tokens → Tokens) : Type 0 where
   passes : (ts : Tokens) → startsBecomes ts ≡ false → labelsIn (f ts) ≡ labelsIn ts
   starts : (ts : Tokens) → startsBecomes ts ≡ false → startsBecomes (f ts) ≡ false
 
-nothing : Plain (λ ts. ts)
-nothing = record { passes = λ ts h. refl; starts = λ ts h. h }
+empty : Plain (λ ts. ts)
+empty = record { passes = λ ts h. refl; starts = λ ts h. h }
 
 then : {f g : Tokens → Tokens} → Plain f → Plain g → Plain (λ ts. f (g ts))
 then {f} {g} p q = record {
@@ -44,101 +44,24 @@ then {f} {g} p q = record {
   starts = λ ts h. p .starts (g ts) (q .starts ts h);
 }
 
-mark : (k : Kind) (i : Info) → same k Name ≡ false → same k Becomes ≡ false → {g : Tokens → Tokens} → Plain g → Plain (λ ts. tk k i ∷ g ts)
+-- a name is a label in front of `:=` only
+mark : (k : Kind) (i : Info) → same k Becomes ≡ false → {g : Tokens → Tokens} → Plain g → Plain (λ ts. tk k i ∷ g ts)
 unfolding labelsIn
-mark k i n b {g} q = record {
-  passes = λ ts h. ap (λ x. withLabel (x && startsBecomes (g ts)) i (labelsIn (g ts))) n ∙ q .passes ts h;
+mark k i b {g} q = record {
+  passes = λ ts h.
+      ap (λ x. withLabel (same k Name && x) i (labelsIn (g ts))) (q .starts ts h)
+      ∙ (ap (λ x. withLabel x i (labelsIn (g ts))) (and-false (same k Name)) ∙ q .passes ts h);
   starts = λ ts h. b;
 }
 
-name : (i : Info) {g : Tokens → Tokens} → Plain g → Plain (λ ts. tk Name i ∷ g ts)
-unfolding labelsIn
-name i {g} q = record { passes = λ ts h. ap (λ x. withLabel x i (labelsIn (g ts))) (q .starts ts h) ∙ q .passes ts h; starts = λ ts h. refl }
-
-bits-end-plain : (b : BitsEnd) → Plain (bitsEndTokens b)
-bits-end-plain (bit g) = mark Greater g refl refl nothing
-bits-end-plain (upto c n g) = mark Colon c refl refl (mark Const n refl refl (mark Greater g refl refl nothing))
-
-bits-plain : (b : Bits) → Plain (bitsTokens b)
-bits-plain all-bits = nothing
-bits-plain (bits l n e) = mark Less l refl refl (mark Const n refl refl (bits-end-plain e))
-
-op-name : (o : Op) → same (opKind o) Name ≡ false
-op-name join = refl
-op-name plus = refl
-op-name minus = refl
-op-name eql = refl
-op-name neq = refl
-op-name lss = refl
-op-name leq = refl
-op-name gtr = refl
-op-name geq = refl
-op-name and = refl
-op-name eqv = refl
-op-name or = refl
-op-name xor = refl
-
-op-becomes : (o : Op) → same (opKind o) Becomes ≡ false
-op-becomes join = refl
-op-becomes plus = refl
-op-becomes minus = refl
-op-becomes eql = refl
-op-becomes neq = refl
-op-becomes lss = refl
-op-becomes leq = refl
-op-becomes gtr = refl
-op-becomes geq = refl
-op-becomes and = refl
-op-becomes eqv = refl
-op-becomes or = refl
-op-becomes xor = refl
-
-mutual
-  operand-plain : (o : Operand) → Plain (operandTokens o)
-  operand-plain (constant i) = mark Const i refl refl nothing
-  operand-plain (access i s b) = name i (then (subscript-plain s) (bits-plain b))
-  operand-plain (parens l o t r) = mark LPar l refl refl (then (operand-plain o) (then (tail-plain t) (mark RPar r refl refl nothing)))
-  operand-plain (negated i o) = mark NOT i refl refl (operand-plain o)
-
-  tail-plain : (t : Tail) → Plain (tailTokens t)
-  tail-plain no-more = nothing
-  tail-plain (with-op op i o t) = mark (opKind op) i (op-name op) (op-becomes op) (then (operand-plain o) (tail-plain t))
-
-  subscript-plain : (s : Subscript) → Plain (subscriptTokens s)
-  subscript-plain no-subscript = nothing
-  subscript-plain (subscript l o t r) = mark LBra l refl refl (then (operand-plain o) (then (tail-plain t) (mark RBra r refl refl nothing)))
-
-joined-plain : (j : Joined) → Plain (joinedTokens j)
-joined-plain alone = nothing
-joined-plain (joined a n s b j) = mark At a refl refl (name n (then (subscript-plain s) (then (bits-plain b) (joined-plain j))))
+expressed : {m n : ℕ} {f : Tokens → Tokens} → Expressed level level level m f n → Plain f
+expressed nothing = empty
+expressed (token {k = k} s i w) = mark k i (expression-equal (λ k. same k Becomes) (λ k. false) refl s) (expressed w)
 
 -- the tokens of a selector are no names, so `:=` may follow
-record Nameless (f : Tokens → Tokens) : Type 0 where
-  passes : (ts : Tokens) → labelsIn (f ts) ≡ labelsIn ts
-
-literal-nameless : (l : Literal) → Nameless (literalTokens l)
+nameless : {m n : ℕ} {f : Tokens → Tokens} → Chosen level m f n → (ts : Tokens) → labelsIn (f ts) ≡ labelsIn ts
 unfolding labelsIn
-literal-nameless (exact i) = record { passes = λ ts. refl }
-literal-nameless (masked i) = record { passes = λ ts. refl }
-
-range-nameless : (r : Range) → Nameless (rangeTokens r)
-unfolding labelsIn
-range-nameless single = record { passes = λ ts. refl }
-range-nameless (to c l) = record { passes = literal-nameless l .passes }
-
-items-nameless : (is : Items) → Nameless (itemsTokens is)
-unfolding labelsIn
-items-nameless (close r) = record { passes = λ ts. refl }
-items-nameless (item c l r is) = record {
-  passes = λ ts. literal-nameless l .passes (rangeTokens r (itemsTokens is ts)) ∙ range-nameless r .passes (itemsTokens is ts) ∙ items-nameless is .passes ts;
-}
-
-selector-nameless : (s : Selector) → Nameless (selectorTokens s)
-unfolding labelsIn
-selector-nameless (one-of l r) = record { passes = λ ts. literal-nameless l .passes (rangeTokens r ts) ∙ range-nameless r .passes ts }
-selector-nameless (any-of b l r is) = record {
-  passes = λ ts. literal-nameless l .passes (rangeTokens r (itemsTokens is ts)) ∙ range-nameless r .passes (itemsTokens is ts) ∙ items-nameless is .passes ts;
-}
+nameless = chosen-passes (λ m. labelsIn) level refl
 
 -- THE LABELS OF A TREE
 literal-starts : (l : Literal) (ts : Tokens) → startsBecomes (literalTokens l ts) ≡ false
@@ -177,13 +100,14 @@ more-starts (selected-end i) ts = refl
 more-starts (selected-more i s) ts = refl
 
 expression-plain : (o : Operand) (t : Tail) → Plain (λ ts. operandTokens o (tailTokens t ts))
-expression-plain o t = then (operand-plain o) (tail-plain t)
+expression-plain o t = expressed (expression-written o t 0)
 
 transfer-plain : (n : Info) (s : Subscript) (b : Bits) (j : Joined) (e : Info) (o : Operand) (t : Tail) → Plain (actionTokens (transfer n s b j e o t))
-transfer-plain n s b j e o t = name n (then (subscript-plain s) (then (bits-plain b) (then (joined-plain j) (mark Equals e refl refl (expression-plain o t)))))
+transfer-plain n s b j e o t =
+    mark Name n refl (then (expressed (access-written s b 0)) (then (expressed (joined-written j 0)) (mark Equals e refl (expression-plain o t))))
 
 call-plain : (n l r : Info) → Plain (actionTokens (activate n l r))
-call-plain n l r = name n (mark LPar l refl refl (mark RPar r refl refl nothing))
+call-plain n l r = mark Name n refl (mark LPar l refl (mark RPar r refl empty))
 
 mutual
   unfolding labelsIn labels
@@ -196,8 +120,8 @@ mutual
   action-labels (decode i o t w b v) ts h =
       expression-plain o t .passes (tk Arrow w ∷ tk BEGIN b ∷ alternativesTokens v ts) refl ∙ alternatives-labels v ts h
   action-labels (repeat i a) ts h = action-labels a ts h
-  action-labels (leave i n) ts h = name n nothing .passes ts h
-  action-labels (restart i n) ts h = name n nothing .passes ts h
+  action-labels (leave i n) ts h = mark Name n refl empty .passes ts h
+  action-labels (restart i n) ts h = mark Name n refl empty .passes ts h
   action-labels (activate n l r) ts h = call-plain n l r .passes ts h
   action-labels (stop i l r) ts h = refl
   action-labels (no-op i l r) ts h = refl
@@ -218,7 +142,7 @@ mutual
 
   selected-labels : (s : Selected) (ts : Tokens) → startsBecomes ts ≡ false → labelsIn (selectedTokens s ts) ≡ selectedLabels s (labelsIn ts)
   selected-labels (select s b a m) ts h =
-      selector-nameless s .passes (tk Becomes b ∷ actionTokens a (selectedMoreTokens m ts))
+      nameless (selector-written s 0) (tk Becomes b ∷ actionTokens a (selectedMoreTokens m ts))
       ∙ action-labels a (selectedMoreTokens m ts) (more-starts m ts) ∙ ap (labels a) (more-labels m ts h)
   selected-labels (otherwise i b a e) ts h = action-labels a (tk END e ∷ ts) refl
 
