@@ -6,8 +6,10 @@ use mathlib.Core.List.{[], _∷_}
 use native.Mathlib.Omega.{arith}
 use native.Mathlib.Numerals.{add-one}
 use borrow.Author.Tests.{eq-eqb, ne-eqb}
-use Rattle.rules.specs.Text.Tokens.{kindNo, Info, Token, tk, RBra, Op, opKind, join, plus, minus, eql, neq, lss, leq, gtr, geq, and, eqv, or, xor, LBra}
-use Rattle.rules.specs.Grammar.Trees.{Tokens, bit, upto, Bits, all-bits, bits, bitsTokens, Operand, constant, access, parens, negated, operandTokens, Tail, no-more, with-op, tailTokens, Subscript, no-subscript, subscript, subscriptTokens}
+use Rattle.rules.specs.Text.Tokens.{kindNo, Info, Token, tk, RBra, LBra}
+use Rattle.rules.specs.Grammar.Trees.{Tokens, Operand, operandTokens, Tail, tailTokens}
+use Rattle.trees.specs.Written.{level}
+use Rattle.trees.specs.Expressions.{Expressed, passes, expression-written}
 use Rattle.places.specs.Brackets.{past, opened, down}
 
 pub past-all : (d : ℕ) → past d [] ≡ []
@@ -46,46 +48,11 @@ module _ (d k : ℕ) where
   unfolding opened
   opened-same n e = sym (rw (ne-eqb k 5 n, ne-eqb k 6 e, opened))
 
-past-bits : (d : ℕ) (b : Bits) (ts : Tokens) → past (suc d) (bitsTokens b ts) ≡ past (suc d) ts
+past-inside : {m n : ℕ} {f : Tokens → Tokens} → Expressed level level suc m f n → (ts : Tokens) → past (suc m) (f ts) ≡ past (suc n) ts
 unfolding past opened
-past-bits d all-bits ts = refl
-past-bits d (bits l n (bit g)) ts = refl
-past-bits d (bits l n (upto c m g)) ts = refl
-
-past-operator : (d : ℕ) (o : Op) (i : Info) (ts : Tokens) → past (suc d) (tk (opKind o) i ∷ ts) ≡ past (suc d) ts
-unfolding past opened
-past-operator d join i ts = refl
-past-operator d plus i ts = refl
-past-operator d minus i ts = refl
-past-operator d eql i ts = refl
-past-operator d neq i ts = refl
-past-operator d lss i ts = refl
-past-operator d leq i ts = refl
-past-operator d gtr i ts = refl
-past-operator d geq i ts = refl
-past-operator d and i ts = refl
-past-operator d eqv i ts = refl
-past-operator d or i ts = refl
-past-operator d xor i ts = refl
-
-mutual
-  unfolding past opened
-
-  past-operand : (d : ℕ) (o : Operand) (ts : Tokens) → past (suc d) (operandTokens o ts) ≡ past (suc d) ts
-  past-operand d (constant i) ts = refl
-  past-operand d (access i s b) ts = past-subscript d s (bitsTokens b ts) ∙ past-bits d b ts
-  past-operand d (parens l o t r) ts = past-operand d o _ ∙ past-tail d t _
-  past-operand d (negated i o) ts = past-operand d o ts
-
-  past-tail : (d : ℕ) (t : Tail) (ts : Tokens) → past (suc d) (tailTokens t ts) ≡ past (suc d) ts
-  past-tail d no-more ts = refl
-  past-tail d (with-op op i o t) ts = past-operator d op i (operandTokens o (tailTokens t ts)) ∙ past-operand d o _ ∙ past-tail d t ts
-
-  past-subscript : (d : ℕ) (s : Subscript) (ts : Tokens) → past (suc d) (subscriptTokens s ts) ≡ past (suc d) ts
-  past-subscript d no-subscript ts = refl
-  past-subscript d (subscript l o t r) ts = past-operand (suc d) o _ ∙ past-tail (suc d) t _
+past-inside = passes (λ m. past (suc m)) level level suc refl
 
 -- behind the `[` of a subscript one comes to what follows its `]`
 pub past-index : (o : Operand) (t : Tail) (r : Info) (ts : Tokens) → past 1 (operandTokens o (tailTokens t (tk RBra r ∷ ts))) ≡ ts
 unfolding past opened
-past-index o t r ts = past-operand 0 o _ ∙ past-tail 0 t _ ∙ past-none 0 ts refl
+past-index o t r ts = past-inside (expression-written o t 0) (tk RBra r ∷ ts) ∙ past-none 0 ts refl
