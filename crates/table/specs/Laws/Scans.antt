@@ -2,21 +2,21 @@
 -- Assumes nothing.
 use Prim.Native.Nat.{ℕ, zero, suc, _+_, _-_}
 use mathlib.Core.Path.{_≡_, refl, sym, ap, _∙_}
-use mathlib.Core.Bool.{Bool, true, false, not, _&&_, _||_, and-true, and-false, false≢true}
+use mathlib.Core.Bool.{Bool, true, false, _&&_, and-true, and-false}
 use mathlib.Core.List.{List, [], _∷_}
 use native.Mathlib.Omega.{arith}
 use native.Mathlib.Numerals.{add-one}
 use borrow.Author.Tests.{eq-eqb, ne-eqb}
 use lib.Dec.{eqb}
-use Rattle.rules.specs.Text.Tokens.{Kind, kindNo, Info, Token, tk, Op, opKind, join, plus, minus, eql, neq, lss, leq, gtr, geq, and, eqv, or, xor}
-use Rattle.rules.specs.Text.Tokens.{Name, Const, LPar, RPar, LBra, RBra, Less, Greater, Colon, At, NOT, Arrow, BEGIN, Becomes, Equals, END}
-use Rattle.rules.specs.Grammar.Trees.{Tokens, bit, upto, Bits, all-bits, bits, bitsTokens}
-use Rattle.rules.specs.Grammar.Trees.{Operand, constant, access, parens, negated, operandTokens, Tail, no-more, with-op, tailTokens, Subscript, no-subscript, subscript, subscriptTokens}
-use Rattle.rules.specs.Grammar.Trees.{Joined, alone, joined, joinedTokens, Literal, exact, masked, literalTokens, Range, single, to, rangeTokens, Items, close, item, itemsTokens}
-use Rattle.rules.specs.Grammar.Trees.{Selector, one-of, any-of, selectorTokens, Action, block, labelled, if-then, decode, repeat, leave, restart, activate, stop, no-op, transfer, actionTokens}
+use Rattle.rules.specs.Text.Tokens.{kindNo, Token, tk, Arrow, BEGIN, Becomes, Equals, END}
+use Rattle.rules.specs.Grammar.Trees.{Tokens, Bits, bitsTokens, Operand, operandTokens, Tail, tailTokens, Subscript, subscriptTokens, Joined, joinedTokens, Selector, selectorTokens}
+use Rattle.rules.specs.Grammar.Trees.{Action, block, labelled, if-then, decode, repeat, leave, restart, activate, stop, no-op, transfer, actionTokens}
 use Rattle.rules.specs.Grammar.Trees.{Members, end, also, next, membersTokens, Alternatives, counted, selected, alternativesTokens, Counted, counted-end, counted-more, countedTokens}
 use Rattle.rules.specs.Grammar.Trees.{Selected, select, otherwise, selectedTokens, SelectedMore, selected-end, selected-more, selectedMoreTokens}
 use Rattle.rules.specs.Whole.Sets.{member}
+use Rattle.trees.specs.Written.{level}
+use Rattle.trees.specs.Expressions.{Expressed, Deaf, passes, bits-written, subscript-written, joined-written, expression-written}
+use Rattle.trees.specs.Selectors.{chosen-passes, selector-written}
 use Rattle.table.specs.Scans.{no, separates, stops, down, outermost, halts, deeper, scan}
 
 pub scan-found : (g d : ℕ) (t : Token) (ts : Tokens) → halts g d (no t) ≡ true → scan g d (t ∷ ts) ≡ t ∷ ts
@@ -87,132 +87,42 @@ unfolding member
 missing k [] h = refl
 missing k (x ∷ xs) h = sym (rw (ne-eqb k x (h .0), sym (missing k xs (h .1))))
 
--- the goals, and the kinds that are none of them and nest nothing
 pub data Goal : ℕ → Type 0 where
   any-end : Goal 0
   equals : Goal 13
   arrow : Goal 14
 
-unfoldable plain : ℕ → Bool
-plain k = not (member k (9 ∷ 10 ∷ 12 ∷ 13 ∷ 14 ∷ 19 ∷ 20 ∷ 21 ∷ []))
-
-neither : (a b : Bool) → not (a || b) ≡ true → (a ≡ false) × (not b ≡ true)
-neither true b h = absurd (false≢true h)
-neither false b h = (refl, h)
-
-step : {g : ℕ} (k : Kind) (i : Info) (ts : Tokens) → plain (kindNo k) ≡ true → Goal g → (d : ℕ) → scan g d (tk k i ∷ ts) ≡ scan g d ts
-unfolding plain member separates stops halts deeper
-step k i ts h goal d =
-    let n = kindNo k in
-    let a = neither (eqb n 9) _ h in
-    let b = neither (eqb n 10) _ (a .1) in
-    let c = neither (eqb n 12) _ (b .1) in
-    let e = neither (eqb n 13) _ (c .1) in
-    let f = neither (eqb n 14) _ (e .1) in
-    let g = neither (eqb n 19) _ (f .1) in
-    let p = neither (eqb n 20) _ (g .1) in
-    let q = neither (eqb n 21) _ (p .1) in
-    by goal (a .0) (b .0) (c .0) (e .0) (f .0) (p .0) (q .0) (rw (g .0, p .0, deeper))
-  where
-    on : (g : ℕ) → stops g (kindNo k) ≡ false → deeper d (kindNo k) ≡ d → scan g d (tk k i ∷ ts) ≡ scan g d ts
-    on g e l = scan-on g d (tk k i) ts (ap (λ (b : Bool). b && outermost d) e) ∙ ap (λ x. scan g x ts) l
-
-    by : {g : ℕ} → Goal g → eqb (kindNo k) 9 ≡ false → eqb (kindNo k) 10 ≡ false → eqb (kindNo k) 12 ≡ false → eqb (kindNo k) 13 ≡ false → eqb (kindNo k) 14 ≡ false
-        → eqb (kindNo k) 20 ≡ false → eqb (kindNo k) 21 ≡ false → deeper d (kindNo k) ≡ d → scan g d (tk k i ∷ ts) ≡ scan g d ts
-    by any-end a b c e f p q l = on 0 (rw (a, b, p, q)) l
-    by equals a b c e f p q l = on 13 e l
-    by arrow a b c e f p q l = on 14 f l
-
-op-step : {g : ℕ} (o : Op) (i : Info) (ts : Tokens) → Goal g → (d : ℕ) → scan g d (tk (opKind o) i ∷ ts) ≡ scan g d ts
-unfolding plain member
-op-step join i ts = step _ i ts refl
-op-step plus i ts = step _ i ts refl
-op-step minus i ts = step _ i ts refl
-op-step eql i ts = step _ i ts refl
-op-step neq i ts = step _ i ts refl
-op-step lss i ts = step _ i ts refl
-op-step leq i ts = step _ i ts refl
-op-step gtr i ts = step _ i ts refl
-op-step geq i ts = step _ i ts refl
-op-step and i ts = step _ i ts refl
-op-step eqv i ts = step _ i ts refl
-op-step or i ts = step _ i ts refl
-op-step xor i ts = step _ i ts refl
-
 -- expressions and destinations are passed, whatever is looked for
+not-there : {g : ℕ} → Goal g → (d : ℕ) → Deaf (λ m. scan g d) level level level
+unfolding scan halts stops separates member deeper
+not-there any-end d = refl
+not-there equals d = refl
+not-there arrow d = refl
+
 module _ {g : ℕ} (goal : Goal g) (d : ℕ) where
+  expressed : {m n : ℕ} {f : Tokens → Tokens} → Expressed level level level m f n → (ts : Tokens) → scan g d (f ts) ≡ scan g d ts
+  expressed = passes (λ m. scan g d) level level level (not-there goal d)
+
   pub past-bits : (b : Bits) (ts : Tokens) → scan g d (bitsTokens b ts) ≡ scan g d ts
-  unfolding plain member
-  past-bits all-bits ts = refl
-  past-bits (bits l n (bit x)) ts = step Less l _ refl goal d ∙ (step Const n _ refl goal d ∙ step Greater x _ refl goal d)
-  past-bits (bits l n (upto c m x)) ts =
-      step Less l _ refl goal d ∙ (step Const n _ refl goal d ∙ (step Colon c _ refl goal d ∙ (step Const m _ refl goal d ∙ step Greater x _ refl goal d)))
+  past-bits b = expressed (bits-written b 0)
 
-  mutual
-    unfolding plain member
-
-    pub past-operand : (o : Operand) (ts : Tokens) → scan g d (operandTokens o ts) ≡ scan g d ts
-    past-operand (constant i) ts = step Const i _ refl goal d
-    past-operand (access i s b) ts = step Name i _ refl goal d ∙ (past-subscript s _ ∙ past-bits b ts)
-    past-operand (parens l o t r) ts = step LPar l _ refl goal d ∙ (past-operand o _ ∙ (past-tail t _ ∙ step RPar r _ refl goal d))
-    past-operand (negated i o) ts = step NOT i _ refl goal d ∙ past-operand o ts
-
-    pub past-tail : (t : Tail) (ts : Tokens) → scan g d (tailTokens t ts) ≡ scan g d ts
-    past-tail no-more ts = refl
-    past-tail (with-op op i o t) ts = op-step op i _ goal d ∙ (past-operand o _ ∙ past-tail t ts)
-
-    pub past-subscript : (s : Subscript) (ts : Tokens) → scan g d (subscriptTokens s ts) ≡ scan g d ts
-    past-subscript no-subscript ts = refl
-    past-subscript (subscript l o t r) ts = step LBra l _ refl goal d ∙ (past-operand o _ ∙ (past-tail t _ ∙ step RBra r _ refl goal d))
+  pub past-subscript : (s : Subscript) (ts : Tokens) → scan g d (subscriptTokens s ts) ≡ scan g d ts
+  past-subscript s = expressed (subscript-written s 0)
 
   pub past-joined : (j : Joined) (ts : Tokens) → scan g d (joinedTokens j ts) ≡ scan g d ts
-  unfolding plain member
-  past-joined alone ts = refl
-  past-joined (joined a n s b j) ts = step At a _ refl goal d ∙ (step Name n _ refl goal d ∙ (past-subscript s _ ∙ (past-bits b _ ∙ past-joined j ts)))
+  past-joined j = expressed (joined-written j 0)
 
   pub past-expression : (o : Operand) (t : Tail) (ts : Tokens) → scan g d (operandTokens o (tailTokens t ts)) ≡ scan g d ts
-  past-expression o t ts = past-operand o _ ∙ past-tail t ts
+  past-expression o t = expressed (expression-written o t 0)
 
 -- a selector has no `:=`; its commas stand inside a block
-past-literal : (l : Literal) (ts : Tokens) → scan 12 0 (literalTokens l ts) ≡ scan 12 0 ts
-unfolding scan halts stops deeper
-past-literal (exact i) ts = refl
-past-literal (masked i) ts = refl
-
-past-range : (r : Range) (ts : Tokens) → scan 12 0 (rangeTokens r ts) ≡ scan 12 0 ts
-unfolding scan halts stops deeper
-past-range single ts = refl
-past-range (to c l) ts = past-literal l ts
-
-past-items : (v : Items) (ts : Tokens) → scan 12 0 (itemsTokens v ts) ≡ scan 12 0 ts
-unfolding scan halts stops deeper
-past-items (close r) ts = refl
-past-items (item c l r v) ts = past-literal l _ ∙ (past-range r _ ∙ past-items v ts)
-
 pub past-selector : (s : Selector) (ts : Tokens) → scan 12 0 (selectorTokens s ts) ≡ scan 12 0 ts
 unfolding scan halts stops deeper
-past-selector (one-of l r) ts = past-literal l _ ∙ past-range r ts
-past-selector (any-of b l r v) ts = past-literal l _ ∙ (past-range r _ ∙ past-items v ts)
-
-inner-literal : (d : ℕ) (l : Literal) (ts : Tokens) → scan 0 (suc d) (literalTokens l ts) ≡ scan 0 (suc d) ts
-unfolding scan halts stops separates member deeper
-inner-literal d (exact i) ts = refl
-inner-literal d (masked i) ts = refl
-
-inner-range : (d : ℕ) (r : Range) (ts : Tokens) → scan 0 (suc d) (rangeTokens r ts) ≡ scan 0 (suc d) ts
-unfolding scan halts stops separates member deeper
-inner-range d single ts = refl
-inner-range d (to c l) ts = inner-literal d l ts
-
-inner-items : (d : ℕ) (v : Items) (ts : Tokens) → scan 0 (suc d) (itemsTokens v ts) ≡ scan 0 (suc d) ts
-unfolding scan halts stops separates member deeper
-inner-items d (close r) ts = refl
-inner-items d (item c l r v) ts = inner-literal d l _ ∙ (inner-range d r _ ∙ inner-items d v ts)
+past-selector s = chosen-passes (λ m. scan 12 0) level refl (selector-written s 0)
 
 inner-selector : (d : ℕ) (s : Selector) (ts : Tokens) → scan 0 (suc d) (selectorTokens s ts) ≡ scan 0 (suc d) ts
 unfolding scan halts stops separates member deeper
-inner-selector d (one-of l r) ts = inner-literal d l _ ∙ inner-range d r ts
-inner-selector d (any-of b l r v) ts = inner-literal d l _ ∙ (inner-range d r _ ∙ inner-items d v ts)
+inner-selector d s = chosen-passes (λ m. scan 0 (suc d)) level refl (selector-written s 0)
 
 -- an action ends at the first separator at its own depth
 mutual
