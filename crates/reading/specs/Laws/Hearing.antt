@@ -3,9 +3,12 @@ use Prim.Native.Nat.{ℕ, zero, suc}
 use mathlib.Core.Path.{_≡_, refl, sym, ap, _∙_}
 use mathlib.Core.Bool.{true, false}
 use mathlib.Core.List.{List, [], _∷_, _++_}
-use Rattle.rules.specs.Text.Tokens.{Info, tk, Op, opKind, join, plus, minus, eql, neq, lss, leq, gtr, geq, and, eqv, or, xor, Name, Comma, Semi, END, NEXT, Equals, RPar, RBra, Arrow, BEGIN, Becomes}
-use Rattle.rules.specs.Grammar.Trees.{Tokens, bit, upto, Bits, all-bits, bits, bitsTokens, Operand, constant, access, parens, negated, operandTokens, Tail, no-more, with-op, tailTokens, Subscript, no-subscript, subscript, subscriptTokens, Joined, alone, joined, joinedTokens, Literal, exact, masked, literalTokens, Range, single, to, rangeTokens, Items, close, item, itemsTokens, Selector, one-of, any-of, selectorTokens, Action, block, labelled, if-then, decode, repeat, leave, restart, activate, stop, no-op, transfer, actionTokens, Members, end, also, next, membersTokens, Alternatives, counted, selected, alternativesTokens, Counted, counted-end, counted-more, countedTokens, Selected, select, otherwise, selectedTokens, SelectedMore, selected-end, selected-more, selectedMoreTokens}
+use Rattle.rules.specs.Text.Tokens.{Info, tk, kindNo, Op, opKind, Name, Comma, Semi, END, NEXT, Equals, RPar, RBra, Arrow, BEGIN, Becomes}
+use Rattle.rules.specs.Grammar.Trees.{Tokens, bit, upto, Bits, all-bits, bits, bitsTokens, Operand, constant, access, parens, negated, operandTokens, Tail, no-more, with-op, tailTokens, Subscript, no-subscript, subscript, subscriptTokens, Joined, alone, joined, joinedTokens, Selector, selectorTokens, Action, block, labelled, if-then, decode, repeat, leave, restart, activate, stop, no-op, transfer, actionTokens, Members, end, also, next, membersTokens, Alternatives, counted, selected, alternativesTokens, Counted, counted-end, counted-more, countedTokens, Selected, select, otherwise, selectedTokens, SelectedMore, selected-end, selected-more, selectedMoreTokens}
 use Rattle.rules.specs.Whole.Sets.{member}
+use Rattle.trees.specs.Written.{level}
+use Rattle.trees.specs.Expressions.{operator, inner-equal}
+use Rattle.trees.specs.Selectors.{settles, selector-written}
 use Rattle.reading.specs.Kinds.{nextNo, tests, begins, stores, closes, mode}
 use Rattle.reading.specs.Events.{Event, reads, writes, actingEvent, nameEvent, event, heard}
 use Rattle.reading.specs.Laws.Events.{operandEvents, tailEvents, subscriptEvents, joinedEvents, actionEvents, membersEvents, alternativesEvents, countedEvents, selectedEvents, selectedMoreEvents}
@@ -39,19 +42,9 @@ bits-heard (bits l n (upto c k g)) d m ts = refl
 
 op-heard : (op : Op) (i : Info) (d m : ℕ) (ts : Tokens) → heard d m (tk (opKind op) i ∷ ts) ≡ heard d m ts
 unfolding heard event halts stops closes deeper mode separates tests begins member
-op-heard join i d m ts = refl
-op-heard plus i d m ts = refl
-op-heard minus i d m ts = refl
-op-heard eql i d m ts = refl
-op-heard neq i d m ts = refl
-op-heard lss i d m ts = refl
-op-heard leq i d m ts = refl
-op-heard gtr i d m ts = refl
-op-heard geq i d m ts = refl
-op-heard and i d m ts = refl
-op-heard eqv i d m ts = refl
-op-heard or i d m ts = refl
-op-heard xor i d m ts = refl
+op-heard op i d m ts =
+    ap (λ (f : ℕ → ℕ → Info → Tokens → List Event). f d m i ts)
+    (inner-equal (λ k d m i ts. heard d m (tk k i ∷ ts)) (λ k d m i ts. heard d m ts) refl (operator op))
 
 mutual
   unfolding heard event nameEvent halts stops closes deeper mode separates tests begins member operandEvents
@@ -99,29 +92,10 @@ joined-heard alone e d ts = refl
 joined-heard (joined a n s b j) e d ts = stored-heard n s b j e d ts (joinedEvents j (heard d 1 ts)) (joined-heard j e d ts)
 
 -- a selector names nothing, and `:=` stands behind it
-literal-heard : (l : Literal) (d m : ℕ) (ts : Tokens) → heard d m (literalTokens l ts) ≡ heard d m ts
-unfolding heard event halts stops closes deeper mode separates tests begins member
-literal-heard (exact i) d m ts = refl
-literal-heard (masked i) d m ts = refl
-
-range-heard : (r : Range) (d m : ℕ) (ts : Tokens) → heard d m (rangeTokens r ts) ≡ heard d m ts
-unfolding heard event halts stops closes deeper mode separates tests begins member
-range-heard single d m ts = refl
-range-heard (to c l) d m ts = literal-heard l d m ts
-
-items-heard : (v : Items) (d m : ℕ) (b : Info) (ts : Tokens) → heard (suc d) m (itemsTokens v (tk Becomes b ∷ ts)) ≡ heard (suc d) 0 ts
-unfolding heard event halts stops closes deeper mode separates tests begins member
-items-heard (close r) d m b ts = refl
-items-heard (item c l r v) d m b ts =
-    let rest = itemsTokens v (tk Becomes b ∷ ts) in
-    literal-heard l (suc d) 0 (rangeTokens r rest) ∙ (range-heard r (suc d) 0 rest ∙ items-heard v d 0 b ts)
-
 selector-heard : (s : Selector) (d : ℕ) (b : Info) (ts : Tokens) → heard (suc d) 0 (selectorTokens s (tk Becomes b ∷ ts)) ≡ heard (suc d) 0 ts
 unfolding heard event halts stops closes deeper mode separates tests begins member
-selector-heard (one-of l r) d b ts = literal-heard l (suc d) 0 (rangeTokens r (tk Becomes b ∷ ts)) ∙ range-heard r (suc d) 0 (tk Becomes b ∷ ts)
-selector-heard (any-of c l r v) d b ts =
-    let rest = itemsTokens v (tk Becomes b ∷ ts) in
-    literal-heard l (suc d) 1 (rangeTokens r rest) ∙ (range-heard r (suc d) 1 rest ∙ items-heard v d 1 b ts)
+selector-heard s d b ts =
+    settles (heard (suc d)) (λ k m. mode m (kindNo k)) refl refl (selector-written {square = level} s 0) (tk Becomes b ∷ ts) (λ m. refl) 0
 
 -- behind an action it does not matter whether it was one that reads, and a target stands before a separator
 apart-mode : {ts : Tokens} (d m : ℕ) → Apart ts → heard d m ts ≡ heard d 0 ts
