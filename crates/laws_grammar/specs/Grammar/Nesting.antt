@@ -1,5 +1,5 @@
 -- A description nests at most 32 deep exactly where no opener of its tokens is one too many.
-use mathlib.Core.Path.{_≡_, refl, sym, subst}
+use mathlib.Core.Path.{_≡_, refl, sym, ap, subst}
 use mathlib.Core.Bool.{Bool, true, false}
 use mathlib.Core.Logic.{_↔_}
 use mathlib.Core.List.{[], _∷_}
@@ -8,8 +8,9 @@ use native.Mathlib.Omega.{arith}
 use native.Mathlib.Nat.{le-of-suc-le-suc, not-suc-le-zero}
 use lib.Dec.{T}
 use lib.ListN.{length, take, getD}
-use Rattle.rules.specs.Text.Tokens.{Kind, Info, tk, Op, opKind, join, plus, minus, eql, neq, lss, leq, gtr, geq, and, eqv, or, xor, Name, Const, Masked, LPar, RPar, LBra, RBra, Less, Greater, Comma, Semi, Colon, Becomes, Equals, Arrow, At, Stars, BEGIN, END, NEXT, IF, DECODE, OTHERWISE, REPEAT, LEAVE, RESTART, MAIN, STOP, NO-OP, NOT}
+use Rattle.rules.specs.Text.Tokens.{Kind, Info, tk, Op, opKind, Name, Const, Masked, LPar, RPar, LBra, RBra, Less, Greater, Comma, Semi, Colon, Becomes, Equals, Arrow, At, Stars, BEGIN, END, NEXT, IF, DECODE, OTHERWISE, REPEAT, LEAVE, RESTART, MAIN, STOP, NO-OP, NOT}
 use Rattle.rules.specs.Grammar.Trees.{Tokens, BitsEnd, bit, upto, bitsEndTokens, Bits, all-bits, bits, bitsTokens, Operand, constant, access, parens, negated, operandTokens, Tail, no-more, with-op, tailTokens, Subscript, no-subscript, subscript, subscriptTokens, Joined, alone, joined, joinedTokens, Literal, exact, masked, literalTokens, Range, single, to, rangeTokens, Items, close, item, itemsTokens, Selector, one-of, any-of, selectorTokens, Action, block, labelled, if-then, decode, repeat, leave, restart, activate, stop, no-op, transfer, actionTokens, Members, end, also, next, membersTokens, Alternatives, counted, selected, alternativesTokens, Counted, counted-end, counted-more, countedTokens, Selected, select, otherwise, selectedTokens, SelectedMore, selected-end, selected-more, selectedMoreTokens, OwnBits, unnamed, named, ownBitsTokens, Meaning, body, mapped, meaningTokens, Given, carrier, given, givenTokens, Form, words, with-bits, bare-body, formTokens, MainBits, bitless, main-bits, mainBitsTokens, Declaration, plain, main, declarationTokens, Heading, no-heading, heading, headingTokens, Declarations, declared-all, declared-also, declarationsTokens, Description, description, descriptionTokens, flatten}
+use Rattle.trees.specs.Expressions.{operator, inner-equal}
 use Rattle.laws_grammar.specs.Cited.Rows.{recognise}
 use Rattle.laws_grammar.specs.Cited.Answer.{accepted}
 use Rattle.rules.specs.Grammar.Verdict.{anyInfo, opens, closes, down, counted-by, count, opened, Crowded}
@@ -105,19 +106,7 @@ bits-nests (bits l n e) = nests-token Less l (λ d. refl) (nests-token Const n (
 
 op-flat : (o : Op) (d : ℕ) → count d (opKind o) ≡ d
 unfolding count counted-by opens closes
-op-flat join d = refl
-op-flat plus d = refl
-op-flat minus d = refl
-op-flat eql d = refl
-op-flat neq d = refl
-op-flat lss d = refl
-op-flat leq d = refl
-op-flat gtr d = refl
-op-flat geq d = refl
-op-flat and d = refl
-op-flat eqv d = refl
-op-flat or d = refl
-op-flat xor d = refl
+op-flat o d = ap (λ (f : ℕ → ℕ). f d) (inner-equal (λ k n. count n k) (λ k n. n) refl (operator o))
 
 mutual
   unfolding count counted-by opens closes

@@ -5,8 +5,11 @@ use Prim.Native.Nat.{ℕ, suc, _+_, _<_}
 use native.Mathlib.Omega.{arith}
 use lib.ListN.{length, drop, getD}
 use lib.Seq.{drop-cons, drop-length}
-use Rattle.rules.specs.Text.Tokens.{Kind, Info, Token, tk, opKind, Name, Const, Masked, LPar, RPar, LBra, RBra, Less, Greater, Comma, Semi, Colon, Becomes, Equals, Arrow, At, Stars, BEGIN, END, NEXT, IF, DECODE, OTHERWISE, REPEAT, LEAVE, RESTART, MAIN, STOP, NO-OP, NOT}
-use Rattle.rules.specs.Grammar.Trees.{Tokens, BitsEnd, bit, upto, bitsEndTokens, Bits, all-bits, bits, bitsTokens, Operand, constant, access, parens, negated, operandTokens, Tail, no-more, with-op, tailTokens, Subscript, no-subscript, subscript, subscriptTokens, Joined, alone, joined, joinedTokens, Literal, exact, masked, literalTokens, Range, single, to, rangeTokens, Items, close, item, itemsTokens, Selector, one-of, any-of, selectorTokens, Action, block, labelled, if-then, decode, repeat, leave, restart, activate, stop, no-op, transfer, actionTokens, Members, end, also, next, membersTokens, Alternatives, counted, selected, alternativesTokens, Counted, counted-end, counted-more, countedTokens, Selected, select, otherwise, selectedTokens, SelectedMore, selected-end, selected-more, selectedMoreTokens, OwnBits, unnamed, named, ownBitsTokens, Meaning, body, mapped, meaningTokens, Given, carrier, given, givenTokens, Form, words, with-bits, bare-body, formTokens, MainBits, bitless, main-bits, mainBitsTokens, Declaration, plain, main, declarationTokens, Heading, no-heading, heading, headingTokens, Declarations, declared-all, declared-also, declarationsTokens, Description, descriptionTokens}
+use Rattle.rules.specs.Text.Tokens.{Kind, Info, Token, tk, Name, Const, LPar, RPar, LBra, RBra, Less, Comma, Semi, Colon, Becomes, Equals, Arrow, Stars, BEGIN, END, NEXT, IF, DECODE, OTHERWISE, REPEAT, LEAVE, RESTART, MAIN, STOP, NO-OP}
+use Rattle.rules.specs.Grammar.Trees.{Tokens, Bits, bitsTokens, Operand, operandTokens, Tail, tailTokens, Subscript, subscriptTokens, Joined, joinedTokens, Selector, selectorTokens, Action, block, labelled, if-then, decode, repeat, leave, restart, activate, stop, no-op, transfer, actionTokens, Members, end, also, next, membersTokens, Alternatives, counted, selected, alternativesTokens, Counted, counted-end, counted-more, countedTokens, Selected, select, otherwise, selectedTokens, SelectedMore, selected-end, selected-more, selectedMoreTokens, OwnBits, ownBitsTokens, Meaning, body, mapped, meaningTokens, Given, carrier, given, givenTokens, Form, words, with-bits, bare-body, formTokens, MainBits, mainBitsTokens, Declaration, plain, main, declarationTokens, Heading, no-heading, heading, headingTokens, Declarations, declared-all, declared-also, declarationsTokens, Description, descriptionTokens}
+use Rattle.trees.specs.Written.{level, nothing as empty, token as step}
+use Rattle.trees.specs.Expressions.{Expressed, bits-end-written, bits-written, operand-written, tail-written, subscript-written, joined-written, own-bits-written, main-bits-written}
+use Rattle.trees.specs.Selectors.{Chosen, selector-written}
 use Rattle.laws_grammar.specs.Cited.Rows.{recognise}
 use Rattle.laws_grammar.specs.Cited.Answer.{accepted}
 use Rattle.laws_grammar.specs.Grammar.Exact.{description-of-accepted}
@@ -25,48 +28,32 @@ token k i q = record { grows = λ xs ys. ap (λ (l : Tokens). tk k i ∷ l) (q .
 nothing : Writes (λ ts. ts)
 nothing = record { grows = λ xs ys. refl }
 
-pub bits-end-writes : (b : BitsEnd) → Writes (bitsEndTokens b)
-bits-end-writes (bit g) = token Greater g nothing
-bits-end-writes (upto c n g) = token Colon c (token Const n (token Greater g nothing))
+-- what trees writes token by token
+expressed : {m n : ℕ} {f : Tokens → Tokens} → Expressed level level level m f n → Writes f
+expressed empty = nothing
+expressed (step {k = k} s i w) = token k i (expressed w)
+
+chosen : {m n : ℕ} {f : Tokens → Tokens} → Chosen level m f n → Writes f
+chosen empty = nothing
+chosen (step {k = k} s i w) = token k i (chosen w)
 
 pub bits-writes : (b : Bits) → Writes (bitsTokens b)
-bits-writes all-bits = nothing
-bits-writes (bits l n e) = token Less l (token Const n (bits-end-writes e))
+bits-writes b = expressed (bits-written b 0)
 
-mutual
-  pub operand-writes : (o : Operand) → Writes (operandTokens o)
-  operand-writes (constant i) = token Const i nothing
-  operand-writes (access i s b) = token Name i (then (subscript-writes s) (bits-writes b))
-  operand-writes (parens l o t r) = token LPar l (then (operand-writes o) (then (tail-writes t) (token RPar r nothing)))
-  operand-writes (negated i o) = token NOT i (operand-writes o)
+pub operand-writes : (o : Operand) → Writes (operandTokens o)
+operand-writes o = expressed (operand-written o 0)
 
-  pub tail-writes : (t : Tail) → Writes (tailTokens t)
-  tail-writes no-more = nothing
-  tail-writes (with-op op i o t) = token (opKind op) i (then (operand-writes o) (tail-writes t))
+pub tail-writes : (t : Tail) → Writes (tailTokens t)
+tail-writes t = expressed (tail-written t 0)
 
-  pub subscript-writes : (s : Subscript) → Writes (subscriptTokens s)
-  subscript-writes no-subscript = nothing
-  subscript-writes (subscript l o t r) = token LBra l (then (operand-writes o) (then (tail-writes t) (token RBra r nothing)))
+pub subscript-writes : (s : Subscript) → Writes (subscriptTokens s)
+subscript-writes s = expressed (subscript-written s 0)
 
 pub joined-writes : (j : Joined) → Writes (joinedTokens j)
-joined-writes alone = nothing
-joined-writes (joined a n s b j) = token At a (token Name n (then (subscript-writes s) (then (bits-writes b) (joined-writes j))))
-
-pub literal-writes : (l : Literal) → Writes (literalTokens l)
-literal-writes (exact i) = token Const i nothing
-literal-writes (masked i) = token Masked i nothing
-
-pub range-writes : (r : Range) → Writes (rangeTokens r)
-range-writes single = nothing
-range-writes (to c l) = token Colon c (literal-writes l)
-
-pub items-writes : (v : Items) → Writes (itemsTokens v)
-items-writes (close r) = token RBra r nothing
-items-writes (item c l r v) = token Comma c (then (literal-writes l) (then (range-writes r) (items-writes v)))
+joined-writes j = expressed (joined-written j 0)
 
 pub selector-writes : (s : Selector) → Writes (selectorTokens s)
-selector-writes (one-of l r) = then (literal-writes l) (range-writes r)
-selector-writes (any-of b l r v) = token LBra b (then (literal-writes l) (then (range-writes r) (items-writes v)))
+selector-writes s = chosen (selector-written s 0)
 
 mutual
   pub action-writes : (a : Action) → Writes (actionTokens a)
@@ -106,12 +93,11 @@ mutual
   selected-more-writes (selected-more i s) = token Comma i (selected-writes s)
 
 pub own-bits-writes : (o : OwnBits) → Writes (ownBitsTokens o)
-own-bits-writes (unnamed g) = token Greater g nothing
-own-bits-writes (named n e) = token Const n (bits-end-writes e)
+own-bits-writes o = expressed (own-bits-written o 0)
 
 pub meaning-writes : (m : Meaning) → Writes (meaningTokens m)
 meaning-writes (body b a m) = token BEGIN b (then (action-writes a) (members-writes m))
-meaning-writes (mapped n l c e) = token Name n (token Less l (token Const c (bits-end-writes e)))
+meaning-writes (mapped n l c e) = token Name n (token Less l (token Const c (expressed (bits-end-written e 0))))
 
 pub given-writes : (g : Given) → Writes (givenTokens g)
 given-writes carrier = nothing
@@ -123,8 +109,7 @@ form-writes (with-bits l o g) = token Less l (then (own-bits-writes o) (given-wr
 form-writes (bare-body e b a m) = token Becomes e (token BEGIN b (then (action-writes a) (members-writes m)))
 
 pub main-bits-writes : (o : MainBits) → Writes (mainBitsTokens o)
-main-bits-writes bitless = nothing
-main-bits-writes (main-bits l o) = token Less l (own-bits-writes o)
+main-bits-writes o = expressed (main-bits-written o 0)
 
 pub declaration-writes : (d : Declaration) → Writes (declarationTokens d)
 declaration-writes (plain n f) = token Name n (form-writes f)
