@@ -10,7 +10,7 @@ use Rattle.rules.specs.Declarations.{Name as Word}
 use Rattle.rules.specs.Limits.{longestChain}
 use Rattle.rules.specs.Faults.Whole.{faults50}
 use Rattle.rules.specs.Whole.Sets.{anyName, chainOver}
-use Rattle.bounds.specs.WalkLaws.{countDown}
+use Rattle.bounds.specs.Cited.Counts.{countDown}
 use Rattle.table.specs.Words.{wordAt}
 use Rattle.reading.specs.Reading.{Reading, tableOf}
 use Rattle.reading.specs.Events.{heard}

@@ -6,8 +6,7 @@ use lib.ListN.{length}
 use Rattle.rules.specs.Limits.{longestChain}
 use Rattle.rules.specs.Declarations.{declarations}
 use Rattle.rules.specs.Faults.Whole.{mainName}
-use Rattle.bounds.specs.Walk.{endless}
-use Rattle.bounds.specs.WalkLaws.{countDown}
+use Rattle.bounds.specs.Cited.Counts.{endless, countDown}
 use Rattle.table.specs.Holds.{kindByte}
 use Rattle.table.specs.Words.{wordAt}
 use Rattle.links.specs.Mains.{MainIn}

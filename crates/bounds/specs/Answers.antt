@@ -3,22 +3,13 @@ use Prim.Native.Nat.{ℕ, min}
 use mathlib.Core.Path.{_≡_, refl, ap, _∙_}
 use mathlib.Core.Bool.{Bool, true, false}
 use native.Mathlib.Omega.{arith}
-use lib.Dec.{leb, eqb}
+use lib.Dec.{leb}
 use borrow.Author.Tests.{leb-true, leb-false, eq-eqb, ne-eqb}
 use Rattle.rules.specs.Limits.{longestChain, mostSteps}
 use Rattle.rules.specs.Declarations.{Table}
 use Rattle.rules.specs.Faults.Whole.{mainName}
-use Rattle.rules.specs.Bound.{costOf, turnsFrom, Bound, bound, no-bound, boundIf, boundOf}
-use Rattle.bounds.specs.Walk.{endless}
-use Rattle.bounds.specs.WalkLaws.{cut, countDown}
-
-abbrev pub boundWhen : Bool → ℕ → Bound
-boundWhen true n = no-bound
-boundWhen false n = bound n
-
--- a count that has come to `endless` is no bound
-abbrev pub boundBy : ℕ → Bound
-boundBy n = boundWhen (eqb n endless) n
+use Rattle.rules.specs.Bound.{costOf, turnsFrom, boundIf, boundOf}
+use Rattle.bounds.specs.Cited.Counts.{boundWhen, boundBy, endless, cut, countDown}
 
 bound-by : (t f : Bool) (n : ℕ) → leb n mostSteps ≡ f → boundBy (cut t n) ≡ boundIf t f n
 unfolding cut

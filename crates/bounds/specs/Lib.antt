@@ -1,3 +1,4 @@
+pub mod Cited
 pub mod Closing
 pub mod Owed
 pub mod Counted

@@ -21,7 +21,8 @@ use Rattle.laws_grammar.specs.Answers.{one-verdict, accepted-iff-lawful}
 use Rattle.laws_grammar.specs.Grammar.Exact.{unique}
 use Rattle.laws_accepted.specs.Accepted.Orderly.{accepted-orderly}
 use Rattle.bounds.specs.Counted.{steps-bounded, never-paused}
-use Rattle.bounds.specs.Reaching.{Reached, turns-reached}
+use Rattle.bounds.specs.Cited.Reached.{Reached}
+use Rattle.bounds.specs.Reaching.{turns-reached}
 
 -- what a bound says
 pub record Bounding (ds : Table) (n : ℕ) : Type 0 where

@@ -1,4 +1,4 @@
--- "A REPEAT or RESTART can be reached by activations": what that means, and that `turnsFrom` says just that.
+-- "A REPEAT or RESTART can be reached by activations": `turnsFrom` says just that.
 use Prim.Native.Nat.{ℕ, zero, suc}
 use mathlib.Core.Path.{_≡_, refl, sym, ap, _∙_, subst}
 use mathlib.Core.Bool.{Bool, true, false, _||_, or-assoc, or-false, false≢true}
@@ -14,20 +14,8 @@ use Rattle.rules.specs.Bound.{turns, turnsIn, anyTurns, turnsDown, turnsFrom}
 use Rattle.laws_orders.specs.Orders.Orderly.{Orderly}
 use Rattle.laws_orders.specs.Orders.Tests.{or-either, or-left, or-right}
 use Rattle.laws_accepted.specs.Accepted.Named.{same-equal, same-itself}
+use Rattle.bounds.specs.Cited.Reached.{Reaches, itself, onward, Turns, Reached}
 use Rattle.bounds.specs.Closing.{turns-of-body}
-
--- an action activates q
-abbrev pub Activates : Act → Name → Type 0
-Activates a q = anyName (sameBytes q) (callsIn a) ≡ true
-
--- activations lead from the body p to the body q
-pub data Reaches (ds : Table) : Name → Name → Type 0 where
-  itself : {p : Name} → Reaches ds p p
-  onward : {p q r : Name} → Activates (bodyAct ds p) q → Reaches ds q r → Reaches ds p r
-
--- a REPEAT or RESTART stands in an action
-abbrev pub Turns : Act → Type 0
-Turns a = turns (λ n. false) a ≡ true
 
 any-append : (p : Name → Bool) (xs ys : List Name) → anyName p (xs ++ ys) ≡ (anyName p xs || anyName p ys)
 unfolding anyName
@@ -148,15 +136,12 @@ module _ (f : Name → Bool) where
           (λ e. anyTurns-by bs e)
 
 module _ (ds : Table) where
-  abbrev pub Reached : Name → Type 0
-  Reached p = (q : Name) × Reaches ds p q × Turns (bodyAct ds q)
-
-  down : (k : ℕ) (p : Name) → turnsDown ds k p ≡ true → Reached p
+  down : (k : ℕ) (p : Name) → turnsDown ds k p ≡ true → Reached ds p
   unfolding turnsDown
   down zero p h = absurd (false≢true h)
   down (suc k) p h = by (down k) (why (turnsDown ds k) (bodyAct ds p) h)
     where
-      by : ((q : Name) → turnsDown ds k q ≡ true → Reached q) → Why (turnsDown ds k) (turns (λ n. false) (bodyAct ds p)) (callsIn (bodyAct ds p)) → Reached p
+      by : ((q : Name) → turnsDown ds k q ≡ true → Reached ds q) → Why (turnsDown ds k) (turns (λ n. false) (bodyAct ds p)) (callsIn (bodyAct ds p)) → Reached ds p
       by ih (inl e) = (p, itself, e)
       by ih (inr (q, c, e)) = let r = ih q e in (r .0, onward c (r .1), r .2)
 
@@ -166,5 +151,5 @@ module _ (ds : Table) where
     up p q (onward {q = r} c w) h = turns-of-body ds o p ∙ turns-by (turnsFrom ds) r (up r q w h) (bodyAct ds p) c
 
     -- a REPEAT or RESTART stands in p or in a body that activations reach from it, whether control gets there or not
-    pub turns-reached : (p : Name) → (turnsFrom ds p ≡ true) ↔ Reached p
+    pub turns-reached : (p : Name) → (turnsFrom ds p ≡ true) ↔ Reached ds p
     turns-reached p = (down longestChain p, λ r. up p (r .0) (r .1) (r .2))

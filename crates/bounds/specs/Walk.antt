@@ -1,16 +1,10 @@
 -- What a body costs, as one walk of its tree from left to right, as code can take it: a count that goes up with each step and stays at `endless` once it has
 -- come there, which REPEAT and RESTART do at once. Alternatives all begin with the count in front of them; the greatest count behind them goes on.
-use Prim.Native.Nat.{ℕ, _+_, min, max}
+use Prim.Native.Nat.{ℕ, _+_, max}
 use Rattle.rules.specs.Grammar.Trees.{Action, block, labelled, if-then, decode, repeat, leave, restart, activate, stop, no-op, transfer, Members, end, also, next}
 use Rattle.rules.specs.Grammar.Trees.{Alternatives, counted, selected, Counted, counted-end, counted-more, Selected, select, otherwise, SelectedMore, selected-end, selected-more}
 use Rattle.rules.specs.Declarations.{Name}
-
--- one more than a budget can hold
-abbrev pub endless : ℕ
-endless = 4294967296
-
-unfoldable pub up : ℕ → ℕ → ℕ
-up x k = min (x + k) endless
+use Rattle.bounds.specs.Cited.Counts.{endless, up}
 
 -- with the count of each body
 module _ (counts : Name → ℕ) where

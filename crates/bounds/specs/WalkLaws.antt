@@ -1,5 +1,5 @@
 -- The walk of a body comes to what the body costs, cut at `endless`, where also all is that can turn.
-use Prim.Native.Nat.{ℕ, suc, _+_, _≤_, min, max}
+use Prim.Native.Nat.{ℕ, suc, _+_, _≤_, max}
 use mathlib.Core.Path.{_≡_, refl, sym, _∙_, ap, ap₂}
 use mathlib.Core.Bool.{Bool, true, false, _||_, or-assoc, or-false}
 use mathlib.Core.Option.{Option, none, some}
@@ -10,12 +10,8 @@ use Rattle.rules.specs.Declarations.{Name, Table, bodyOf}
 use Rattle.rules.specs.Steps.Actions.{Act, par, actOf, inTurn, groups, whole, altsOf, countedAlts, selectedAlts, moreAlts}
 use Rattle.rules.specs.Steps.Runs.{bodyAct, actOr}
 use Rattle.rules.specs.Bound.{cost, costIn, dearest, turns, turnsIn, anyTurns, costDown, turnsDown}
-use Rattle.bounds.specs.Walk.{endless, up, walk, walkMembers, walkAlternatives, walkCounted, walkSelected, walkMore}
-
--- a cost, cut; endless where a REPEAT or RESTART can be reached
-unfoldable pub cut : Bool → ℕ → ℕ
-cut true n = endless
-cut false n = min n endless
+use Rattle.bounds.specs.Cited.Counts.{cut, countDown, endless, up}
+use Rattle.bounds.specs.Walk.{walk, walkMembers, walkAlternatives, walkCounted, walkSelected, walkMore}
 
 pub cut-low : (t : Bool) (n : ℕ) → cut t n ≤ endless
 unfolding cut
@@ -184,10 +180,6 @@ module _ (costs : Name → ℕ) (turning : Name → Bool) (counts : Name → ℕ
     pub no-body : bodyOf ds p ≡ none → 1 ≡ cut (T (bodyAct ds p)) (C (bodyAct ds p))
     unfolding bodyAct cost turns costIn turnsIn cut
     no-body e = rw e
-
--- the count of a body down chains of k activations
-abbrev pub countDown : Table → ℕ → Name → ℕ
-countDown ds k p = cut (turnsDown ds k p) (costDown ds k p)
 
 pub count-none : (ds : Table) (k : ℕ) (p : Name) → bodyOf ds p ≡ none → 1 ≡ countDown ds (suc k) p
 unfolding costDown turnsDown

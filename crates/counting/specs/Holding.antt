@@ -5,7 +5,7 @@ use mathlib.Core.List.{List, [], _∷_}
 use lib.ListN.{length}
 use Rattle.cells.specs.Cells.{cell}
 use Rattle.rules.specs.Limits.{deepest}
-use Rattle.bounds.specs.Walk.{endless}
+use Rattle.bounds.specs.Cited.Counts.{endless}
 use Rattle.counting.specs.Machine.{Frame, State}
 use Rattle.counting.specs.declared.counts.Nest.{Nest}
 

@@ -9,7 +9,7 @@ use Rattle.rules.specs.Grammar.Trees.{Tokens}
 use Rattle.rules.specs.Limits.{deepest}
 use Rattle.rules.specs.Declarations.{Name as Word}
 use Rattle.rules.specs.Whole.Sets.{member}
-use Rattle.bounds.specs.Walk.{endless, up}
+use Rattle.bounds.specs.Cited.Counts.{endless, up}
 use Rattle.table.specs.Scans.{no}
 use Rattle.reading.specs.Kinds.{nextNo, mode}
 

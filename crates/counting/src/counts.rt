@@ -2,7 +2,7 @@
 ghost use mathlib.Core.Path.{_≡_};
 ghost use mathlib.Core.List.{List};
 ghost use Prim.Native.Nat.{ℕ, _≤_, max};
-ghost use Rattle.bounds.specs.Walk.{up};
+ghost use Rattle.bounds.specs.Cited.Counts.{up};
 ghost use Rattle.counting.specs.Holding.{Does};
 ghost use Rattle.counting.specs.Machine.{counted, turned};
 

@@ -11,7 +11,7 @@ ghost use Prim.Native.Nat.{ℕ, _≤_};
 ghost use lib.ListN.{length};
 ghost use Rattle.rules.specs.Limits.{longestText};
 ghost use Rattle.rules.specs.Calls.Bound.{boundNumbers};
-ghost use Rattle.bounds.specs.Answers.{boundBy};
+ghost use Rattle.bounds.specs.Cited.Counts.{boundBy};
 ghost use Rattle.lent.specs.Numbers.{numbersOf};
 ghost use Rattle.lasting.specs.Bounded.{Told};
 

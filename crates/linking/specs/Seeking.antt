@@ -6,7 +6,7 @@ use mathlib.Core.Option.{Option, none, some}
 use lib.ListN.{length, getD}
 use Rattle.cells.specs.Cells.{cell}
 use Rattle.rules.specs.Stores.{Entry}
-use Rattle.traces.specs.Marking.{Cells}
+use Rattle.traces.specs.Cited.Marking.{Cells}
 use Rattle.matching.specs.Room.{matchingIn, Reached, Stands}
 
 abbrev pub OfWord : ℕ → Option Entry → Type 0

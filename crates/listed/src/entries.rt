@@ -6,7 +6,7 @@ ghost use Prim.Native.Nat.{_+_, _*_, _<_, _≤_};
 ghost use lib.ListN.{length, getD};
 ghost use Rattle.cells.specs.Cells.{cell};
 ghost use Rattle.rules.specs.Stores.{entry};
-ghost use Rattle.traces.specs.Answers.{sameEntry};
+ghost use Rattle.traces.specs.Cited.Entries.{sameEntry};
 ghost use Rattle.rules.specs.Entries.{entriesIn, isList};
 ghost use Rattle.listed.specs.Named.{entryOf};
 

@@ -4,8 +4,8 @@ use Prim.Native.Nat.{ℕ, zero, suc}
 use mathlib.Core.List.{List, [], _∷_, map}
 use mathlib.Core.Option.{some}
 use Rattle.rules.specs.Stores.{Entry, TraceVerdict}
-use Rattle.traces.specs.Marking.{Pos, at, never, lesser, greater, Cells, Marked, marked, behind, fit, put, untaken, verdict}
-use Rattle.traces.specs.Machine.{Event, stores, opens, turns, closes}
+use Rattle.traces.specs.Cited.Marking.{Pos, at, never, lesser, greater, Cells, Marked, marked, behind, fit, put, untaken, verdict}
+use Rattle.traces.specs.Cited.Events.{Event, stores, opens, turns, closes}
 
 -- of an open group: the floor with which each member begins, and the greatest with which one has ended
 pub record Group : Type 0 where

@@ -9,7 +9,7 @@ use lib.ListN.{length, getD}
 use Rattle.cells.specs.Cells.{cell}
 use Rattle.rules.specs.Limits.{mostWords}
 use Rattle.rules.specs.Stores.{Entry, entry}
-use Rattle.traces.specs.Marking.{Pos, at, never, Cells}
+use Rattle.traces.specs.Cited.Marking.{Pos, at, never, Cells}
 use Rattle.rules.specs.Entries.{mostEntries}
 use Rattle.matching.specs.Matching.{Group, group, Matching, matching}
 

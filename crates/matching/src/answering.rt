@@ -7,7 +7,7 @@ use cells::get16;
 use listed::entries::count;
 ghost use mathlib.Core.Path.{_≡_};
 ghost use lib.ListN.{length};
-ghost use Rattle.traces.specs.Marking as marking;
+ghost use Rattle.traces.specs.Cited.Marking as marking;
 ghost use Rattle.rules.specs.Entries.{entriesIn};
 ghost use Rattle.matching.specs.Named.{verdictOf};
 ghost use Rattle.matching.specs.Matching.{answerIn};

@@ -1,6 +1,6 @@
 // Numbers of entries, with one that stands for none and is greater than all.
 ghost use mathlib.Core.Path.{_≡_};
-ghost use Rattle.traces.specs.Marking as marking;
+ghost use Rattle.traces.specs.Cited.Marking as marking;
 ghost use Rattle.matching.specs.Room.{posOf};
 
 pub fn lesser(a: u16, b: u16) -> u16

@@ -9,8 +9,8 @@ use lib.ListN.{length}
 use Rattle.cells.specs.Cells.{cell, putCell}
 use Rattle.rules.specs.Grammar.Trees.{Tokens}
 use Rattle.rules.specs.Limits.{deepest, mostTokens}
-use Rattle.paths.specs.Walk.{Marks, Slot}
-use Rattle.paths.specs.Least.{least}
+use Rattle.paths.specs.Cited.Marks.{Marks, Slot}
+use Rattle.paths.specs.Cited.Least.{least}
 use Rattle.table.specs.Holds.{linkCell}
 use Rattle.table.specs.Words.{NameAt, wordAt}
 use Rattle.nesting.specs.Machine.{Frame, State}

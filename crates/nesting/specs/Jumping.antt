@@ -7,7 +7,7 @@ use lib.ListN.{length}
 use Rattle.rules.specs.Text.Tokens.{Name, kindNo}
 use Rattle.rules.specs.Limits.{mostTokens}
 use Rattle.rules.specs.Grammar.Trees.{Tokens}
-use Rattle.paths.specs.Walk.{Slot, flagOf}
+use Rattle.paths.specs.Cited.Marks.{Slot, flagOf}
 use Rattle.table.specs.Holds.{kindByte}
 use Rattle.table.specs.Words.{NameAt, wordAt}
 use Rattle.nesting.specs.Spelt.{Spelt}

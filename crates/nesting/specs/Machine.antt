@@ -9,8 +9,8 @@ use Rattle.rules.specs.Grammar.Trees.{Tokens}
 use Rattle.rules.specs.Limits.{deepest}
 use Rattle.rules.specs.Declarations.{Name as Word, Table}
 use Rattle.rules.specs.Whole.Sets.{member, owner}
-use Rattle.paths.specs.Early.{Report, activation}
-use Rattle.paths.specs.Walk.{Marks, Slot, slot, marked, cleared, added, flagOf, markedAt, unmarked}
+use Rattle.paths.specs.Cited.Early.{Report, activation}
+use Rattle.paths.specs.Cited.Marks.{Marks, Slot, slot, marked, cleared, added, flagOf, markedAt, unmarked}
 use Rattle.reading.specs.Kinds.{nextNo, stores, mode}
 use Rattle.table.specs.Scans.{no}
 use Rattle.scopes.specs.Walks.{nextWord}

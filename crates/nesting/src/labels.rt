@@ -12,7 +12,7 @@ ghost use mathlib.Core.List.{List};
 ghost use Prim.Native.Nat.{_+_, _*_, _<_, _≤_};
 ghost use lib.ListN.{length};
 ghost use Rattle.rules.specs.Limits.{mostTokens};
-ghost use Rattle.paths.specs.Walk.{Slot, flagOf};
+ghost use Rattle.paths.specs.Cited.Marks.{Slot, flagOf};
 ghost use Rattle.table.specs.Holds.{linkCell};
 ghost use Rattle.table.specs.Words.{wordAt};
 ghost use Rattle.nesting.specs.Spelt.{Spelt};

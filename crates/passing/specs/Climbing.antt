@@ -3,7 +3,7 @@ use Prim.Native.Nat.{ℕ, zero, suc}
 use mathlib.Core.Bool.{Bool, true, false}
 use mathlib.Core.List.{List, _∷_}
 use lib.Dec.{eqb}
-use Rattle.traces.specs.Machine.{Event, opens, turns, closes}
+use Rattle.traces.specs.Cited.Events.{Event, opens, turns, closes}
 use Rattle.telling.specs.Cited.Passing.{times}
 use Rattle.telling.specs.Cited.Cells.{Cells, cellGrouping}
 

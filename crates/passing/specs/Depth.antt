@@ -3,7 +3,7 @@ use Prim.Native.Nat.{ℕ, suc, _-_, _≤_}
 use mathlib.Core.List.{List, [], _∷_}
 use lib.ListN.{length}
 use Rattle.rules.specs.Stores.{Entry}
-use Rattle.traces.specs.Machine.{Event}
+use Rattle.traces.specs.Cited.Events.{Event}
 use Rattle.telling.specs.Cited.Passing.{Passing, opened, turned, closed}
 use Rattle.matching.specs.Matching.{toldAll}
 use Rattle.matching.specs.Room.{mostGroups, matchingIn, Sound}

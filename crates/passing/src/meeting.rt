@@ -9,7 +9,7 @@ ghost use mathlib.Core.List.{List};
 ghost use lib.ListN.{length};
 ghost use Rattle.rules.specs.Limits.{deepest};
 ghost use Rattle.rules.specs.Stores.{Entry};
-ghost use Rattle.traces.specs.Machine.{opens, closes};
+ghost use Rattle.traces.specs.Cited.Events.{opens, closes};
 ghost use Rattle.telling.specs.Cited.Passing.{times};
 ghost use Rattle.members.specs.Cells.{cellsIn};
 ghost use Rattle.matching.specs.Matching.{toldAll};

@@ -9,7 +9,7 @@ use Rattle.rules.specs.Whole.Sets.{callsIn, callsI, callsAlts, anyName, chainOv
 use Rattle.rules.specs.Limits.{longestChain}
 use Rattle.laws_orders.specs.Orders.Orderly.{Orderly}
 use Rattle.laws_orders.specs.Orders.Chains.{none-of, not-this}
-use Rattle.paths.specs.Early.{Report, passed, inTurn, beside, either, inside, turning, activation, early, earlyI, earlyAlts, bodyEarly}
+use Rattle.paths.specs.Cited.Early.{Report, passed, inTurn, beside, either, inside, turning, activation, early, earlyI, earlyAlts, bodyEarly}
 use Rattle.paths.specs.Reports.{Sub, sub-refl}
 use Rattle.paths.specs.Covered.{Closed}
 

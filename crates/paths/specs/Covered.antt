@@ -18,7 +18,7 @@ use Rattle.rules.specs.Whole.Sets.{member, stores}
 use Rattle.laws_orders.specs.Orders.Tests.{or-neither, or-left, or-right, member-left, member-right, member-either}
 use Rattle.laws_accepted.specs.Accepted.Named.{same-equal, same-itself}
 use Rattle.rules.specs.Paths.{at, OneOf, May, around, isEnd, endsTest, Writes}
-use Rattle.paths.specs.Early.{Report, report, nowhere, passed, inTurn, beside, either, inside, turning, activation, written, early, earlyI, earlyAlts}
+use Rattle.paths.specs.Cited.Early.{Report, report, nowhere, passed, inTurn, beside, either, inside, turning, activation, written, early, earlyI, earlyAlts}
 use Rattle.paths.specs.Reports.{and-true, Sub, sub-refl, sub-trans, either-left, either-right, turn-second, beside-first, beside-second, turning-sub}
 
 module _ (ds : Table) (test : Name) (output : ℕ) (known : Name → Report) where

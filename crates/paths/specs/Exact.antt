@@ -10,8 +10,7 @@ use Rattle.rules.specs.Text.Scan.{sameBytes}
 use Rattle.rules.specs.Grammar.Precedence.{Expr}
 use Rattle.rules.specs.Declarations.{Name, Table}
 use Rattle.rules.specs.Steps.Actions.{Access, Act, seq, par, label, ins, Ins, iff, decode, repeat, leave, restart, call, stop, noop, transfer, Alts, end, alt, transferPlace}
-use Rattle.rules.specs.Steps.Control.{Live, one, seqL, both, left, right, labL, loopL, callL, start, workI}
-use Rattle.rules.specs.Steps.Control.{Sig, ends, goes, leaves, restarts, stops, faults, lost, nextI}
+use Rattle.rules.specs.Steps.Control.{Live, one, seqL, both, left, right, labL, loopL, callL, start, workI, Sig, ends, goes, leaves, restarts, stops, faults, lost, nextI}
 use Rattle.rules.specs.Steps.Runs.{bodyAct}
 use Rattle.rules.specs.Whole.Sets.{member, stores}
 use Rattle.rules.specs.Limits.{longestChain}
@@ -19,7 +18,7 @@ use Rattle.rules.specs.Faults.Whole.{mainName}
 use Rattle.laws_orders.specs.Orders.Tests.{or-either, member-either}
 use Rattle.laws_accepted.specs.Accepted.Named.{and-both, same-equal, same-itself}
 use Rattle.rules.specs.Paths.{May, OneOf, spot, Path, outset, TooEarly}
-use Rattle.paths.specs.Early.{Report, report, nowhere, passed, inTurn, beside, either, inside, turning, activation, written, early, earlyI, earlyAlts, bodyEarly, earlyPlaces}
+use Rattle.paths.specs.Cited.Early.{Report, report, nowhere, passed, inTurn, beside, either, inside, turning, activation, written, early, earlyI, earlyAlts, bodyEarly, earlyPlaces}
 use Rattle.paths.specs.Going.{before, firstOf, secondOf, lastLeft, lastRight, labelled, turn, activated, Goes, Says, Comes, says-in, comes-in, says-on, comes-on, says-once}
 
 by : {A B C : Type 0} → A ⊎ B → (A → C) → (B → C) → C

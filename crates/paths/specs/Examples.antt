@@ -6,16 +6,14 @@ use mathlib.Core.Bool.{Bool, true, false, _&&_}
 use mathlib.Core.List.{List, [], _∷_, _++_}
 use lib.Dec.{T, eqb}
 use lib.ListN.{getD, replicate}
-use Rattle.rules.specs.Text.Bytes.{bytes}
+use Rattle.rules.specs.Text.Bytes.{bytes, classIn, classOf, inName, inConstant, inComment, fold, leading as run-Bytes}
 use Rattle.rules.specs.Answers.{judgement, placeOf, littleEndian, wordsFrom, bytesOf, bufferOf, wordLengths, longWord, runOn}
 use Rattle.rules.specs.Declarations.{howMany, fromLeft, fromRight, bitCount, restOf, declarations, numberFrom, numberOf, storageWords, totalWords}
-use Rattle.rules.specs.Declarations.{firstWord, reachStorage, lowBit, reachOn, reachUnder, reachOf, reachNumber, reach, bodyNumber, bodyOf}
-use Rattle.rules.specs.Declarations.{accessLow, accessBits}
+use Rattle.rules.specs.Declarations.{firstWord, reachStorage, lowBit, reachOn, reachUnder, reachOf, reachNumber, reach, bodyNumber, bodyOf, accessLow, accessBits}
 use Rattle.rules.specs.Faults.Bodies.{judgeName, judgeAccess, judge, judgeFactor, judgeIndex, faultsIn, judgeJoined, storedTwice}
 use Rattle.rules.specs.Faults.Bodies.{patternsMeet, reaches, itemsMeet, meetsAny, someMeet, past, countedFaults, selectedFaults, moreFaults}
 use Rattle.rules.specs.Faults.Bodies.{alternativesFaults, labels, memberLabels, alternativeLabels, countedLabels, selectedLabels, moreLabels}
-use Rattle.rules.specs.Faults.Bodies.{labelFaults, actionFaults, membersFaults, insideFaults, insideCounted, insideSelected, insideMore}
-use Rattle.rules.specs.Faults.Bodies.{declaredNames, faults40}
+use Rattle.rules.specs.Faults.Bodies.{labelFaults, actionFaults, membersFaults, insideFaults, insideCounted, insideSelected, insideMore, declaredNames, faults40}
 use Rattle.rules.specs.Faults.Declared.{isKnown, twice, large, tooMany, among, inside, badMapping, mappings, faults30}
 use Rattle.rules.specs.Faults.Fault.{leastFrom, least}
 use Rattle.rules.specs.Faults.Whole.{mains, mainName, chains, racesAny, groupFaults, membersOf, alternativesGroups, countedGroups, selectedGroups}
@@ -29,22 +27,19 @@ use Rattle.rules.specs.Steps.Control.{start, leftmost, workI, choose, nextI}
 use Rattle.rules.specs.Steps.Evaluation.{then, wordOr70, wordOf, fieldIn, fieldOf, evaluate, evaluateFactor, evaluateIndex, evaluateAccess}
 use Rattle.rules.specs.Steps.Evaluation.{evaluateAccesses, storeAll, transferred}
 use Rattle.rules.specs.Steps.Runs.{bodyAct, begin, runFrom, run}
-use Rattle.rules.specs.Text.Bytes.{classIn, classOf, inName, inConstant, inComment, fold, leading as run-Bytes}
-use Rattle.rules.specs.Text.Constants.{digitBits, digitValue, isDigitOf, isBasedDigit, all, any, valueFrom, freeDigit, freeFrom, bitsFrom}
-use Rattle.rules.specs.Text.Constants.{decimalBits, decimal, based}
+use Rattle.rules.specs.Text.Constants.{digitBits, digitValue, isDigitOf, isBasedDigit, all, any, valueFrom, freeDigit, freeFrom, bitsFrom, decimalBits, decimal, based}
 use Rattle.rules.specs.Text.Scan.{sameBytes, wordKind, markAt, wordLexeme, constantLexeme, markLexeme, lexemeBy, lexeme, scanFrom, scan}
 use Rattle.rules.specs.Values.{opBits, bitwise, opNumber, operate, notNumber, inverse, field, withField, total, cut}
 use Rattle.rules.specs.Whole.Sets.{owner, readsOf, factorReads, indexReads, subscriptReads, stores, setsOf, setsI, setsAlts, bodySets, touched, member}
-use Rattle.rules.specs.Whole.Sets.{member, meet, race, stopsIn, stopsI, stopsAlts, bodyStops, mayStop, callsIn, callsI, callsAlts, anyName}
-use Rattle.rules.specs.Whole.Sets.{chainOver}
+use Rattle.rules.specs.Whole.Sets.{member, meet, race, stopsIn, stopsI, stopsAlts, bodyStops, mayStop, callsIn, callsI, callsAlts, anyName, chainOver}
 use Rattle.laws_orders.specs.Orders.Orderly.{without, jumpsOut, jumpsI, jumpsAlts}
 use Rattle.laws_grammar.specs.Answers.{descriptionOf, check, runs}
 use Rattle.laws_grammar.specs.Cited.Rows.{lookup, too-deep, judge as judge-Rows, run as run-Rows, recognise}
 use Rattle.laws_grammar.specs.Grammar.Reading.{find, split, put, act, read}
 use native.Mathlib.Decide.{decLt}
-use Rattle.rules.specs.Paths.{storageOf, Profile, fails}
-use Rattle.rules.specs.Paths.{passes}
-use Rattle.paths.specs.Early.{early, earlyI, earlyAlts, bodyEarly, earlyPlaces, lowest, profile, answer}
+use Rattle.rules.specs.Paths.{storageOf, Profile, fails, passes}
+use Rattle.paths.specs.Cited.Early.{early, earlyI, earlyAlts, bodyEarly, earlyPlaces, lowest, profile}
+use Rattle.paths.specs.Texts.{answer}
 
 abbrev pub numbers : Profile → List ℕ
 numbers passes = 0 ∷ 0 ∷ []

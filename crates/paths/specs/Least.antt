@@ -1,4 +1,4 @@
--- The lowest place as a number that is kept on the way: M, over all places, stands for none.
+-- The lowest place as a number that is kept on the way.
 use Prim.Native.Nat.{ℕ, min, _≤_, _<_}
 use mathlib.Core.Path.{_≡_, refl, sym, _∙_, ap, ap₂}
 use mathlib.Core.Bool.{Bool, true, false, cond}
@@ -7,22 +7,19 @@ use native.Mathlib.Omega.{arith}
 use lib.Dec.{ltb}
 use borrow.Author.Tests.{lt-ltb, le-ltb}
 use Rattle.rules.specs.Paths.{Profile, passes, fails}
-use Rattle.paths.specs.Early.{lowest, verdict}
+use Rattle.paths.specs.Cited.Least.{least}
+use Rattle.paths.specs.Cited.Early.{lowest, verdict}
 
 module _ (M : ℕ) where
-  abbrev pub least : List ℕ → ℕ
-  least [] = M
-  least (p ∷ ps) = min p (least ps)
-
-  pub least-under : (ps : List ℕ) → least ps ≤ M
+  pub least-under : (ps : List ℕ) → least M ps ≤ M
   least-under [] = omega arith
   least-under (p ∷ ps) = omega (arith, least-under ps)
 
-  pub least-append : (xs ys : List ℕ) → least (xs ++ ys) ≡ min (least xs) (least ys)
+  pub least-append : (xs ys : List ℕ) → least M (xs ++ ys) ≡ min (least M xs) (least M ys)
   least-append [] ys = omega (arith, least-under ys)
   least-append (x ∷ xs) ys = ap (min x) (least-append xs ys) ∙ omega arith
 
-  lowest-is : (p : ℕ) (ps : List ℕ) → p ≤ M → lowest p ps ≡ min p (least ps)
+  lowest-is : (p : ℕ) (ps : List ℕ) → p ≤ M → lowest p ps ≡ min p (least M ps)
   unfolding lowest
   lowest-is p [] h = omega arith
   lowest-is p (q ∷ qs) h = lowest-is (min p q) qs (omega arith) ∙ omega arith
@@ -31,9 +28,9 @@ module _ (M : ℕ) where
   Under [] = Unit {0}
   Under (p ∷ ps) = (p < M) × Under ps
 
-  pub verdict-is : (ps : List ℕ) → Under ps → verdict ps ≡ cond (ltb (least ps) M) (fails 92 (least ps)) passes
+  pub verdict-is : (ps : List ℕ) → Under ps → verdict ps ≡ cond (ltb (least M ps) M) (fails 92 (least M ps)) passes
   verdict-is [] h = ap (λ b. cond b (fails 92 M) passes) (sym (le-ltb M M (omega arith)))
   verdict-is (p ∷ ps) h =
       let q : p < M = h .0 in
-      let l : ℕ = min p (least ps) in
+      let l : ℕ = min p (least M ps) in
       ap (fails 92) (lowest-is p ps (omega arith)) ∙ ap (λ b. cond b (fails 92 l) passes) (sym (lt-ltb l M (omega arith)))

@@ -1,4 +1,4 @@
--- THE RESUME PROFILE: what is proved of it. Definitions: Paths.antt. The analysis: Early.antt.
+-- THE RESUME PROFILE: what is proved of it. Definitions: Paths.antt. The analysis: Cited/Early.antt.
 use Prim.Native.Nat.{ℕ}
 use mathlib.Core.Path.{_≡_}
 use mathlib.Core.Bool.{true, false}
@@ -18,7 +18,8 @@ use Rattle.rules.specs.Answers.{Checks, accepted}
 use Rattle.laws_orders.specs.Orders.Owners.{ownerAt}
 use Rattle.laws_orders.specs.Orders.Fields.{word}
 use Rattle.rules.specs.Paths.{spot, Path, outset, Writes, TooEarly, storageOf, Profile, passes, Profiles, testEnded, ProfileAnswers}
-use Rattle.paths.specs.Early.{earlyPlaces, profile, answer}
+use Rattle.paths.specs.Cited.Early.{earlyPlaces, profile}
+use Rattle.paths.specs.Texts.{answer}
 use Rattle.paths.specs.Sound as sound
 use Rattle.paths.specs.Exact as exact
 use Rattle.paths.specs.Verdict as verdict

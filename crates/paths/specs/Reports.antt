@@ -9,7 +9,7 @@ use Rattle.rules.specs.Declarations.{Name}
 use Rattle.rules.specs.Whole.Sets.{member}
 use Rattle.laws_orders.specs.Orders.Tests.{or-either, or-left, or-right, member-left, member-right, member-either}
 use Rattle.laws_accepted.specs.Accepted.Named.{and-both}
-use Rattle.paths.specs.Early.{Report, inTurn, beside, either, inside, turning, activation}
+use Rattle.paths.specs.Cited.Early.{Report, inTurn, beside, either, inside, turning, activation}
 
 pub and-true : (a b : Bool) → a ≡ true → b ≡ true → (a && b) ≡ true
 and-true true b p q = q

@@ -11,7 +11,7 @@ use Rattle.rules.specs.Limits.{longestChain}
 use Rattle.laws_orders.specs.Orders.Orderly.{Orderly}
 use Rattle.rules.specs.Faults.Whole.{mainName}
 use Rattle.rules.specs.Paths.{at, May, around, endsTest, Spot, spot, Path, outset, Writes, TooEarly}
-use Rattle.paths.specs.Early.{Report, report, inside, activation, early, bodyEarly, earlyPlaces}
+use Rattle.paths.specs.Cited.Early.{Report, report, inside, activation, early, bodyEarly, earlyPlaces}
 use Rattle.paths.specs.Reports.{Sub, sub-refl}
 use Rattle.paths.specs.Covered.{Covers, CoversS, Closed, begins, step-covered, covers-writes}
 use Rattle.paths.specs.Closing.{early-closed, all-closed}

@@ -2,19 +2,31 @@
 use Prim.Native.Nat.{ℕ}
 use mathlib.Core.Path.{_≡_, refl, sym, _∙_, ap, subst}
 use mathlib.Core.List.{List}
-use mathlib.Core.Option.{some}
+use mathlib.Core.Option.{Option, none, some}
 use native.Mathlib.Omega.{arith}
 use Rattle.rules.specs.Text.Scan.{scan}
 use Rattle.rules.specs.Grammar.Trees.{Description, flatten}
-use Rattle.rules.specs.Declarations.{declarations}
+use Rattle.rules.specs.Declarations.{Name, declarations}
 use Rattle.laws_orders.specs.Orders.Orderly.{Orderly}
 use Rattle.rules.specs.Answers.{Verdict, Checks, accepted, refused}
 use Rattle.laws_grammar.specs.Grammar.Exact.{unique}
 use Rattle.laws_grammar.specs.Answers.{descriptionOf, description-of, check, checked, one-verdict, accepted-iff-lawful}
 use Rattle.laws_accepted.specs.Accepted.Orderly.{accepted-orderly}
 use Rattle.rules.specs.Paths.{Profile, fails, Profiles, folded, ProfileAnswers, not-accepted, profiled}
-use Rattle.paths.specs.Early.{profile, byDescription, byVerdict, answer}
+use Rattle.paths.specs.Cited.Early.{profile}
 use Rattle.paths.specs.Verdict.{right, one-answer}
+
+-- the answer of a text
+abbrev pub byDescription : Option Description → Name → Name → Profile
+byDescription none test output = fails 0 0
+byDescription (some d) test output = profile (declarations d) test output
+
+abbrev pub byVerdict : Verdict → Option Description → Name → Name → Profile
+byVerdict (refused m p) d test output = fails m p
+byVerdict (accepted n w) d test output = byDescription d test output
+
+unfoldable pub answer : List ℕ → List ℕ → List ℕ → Profile
+answer text test output = byVerdict (check text) (descriptionOf (scan text .tokens)) (folded test) (folded output)
 
 -- a description that is accepted is orderly
 pub accepted-is-orderly : (text : List ℕ) (n w : ℕ) → Checks text (accepted n w) → (d : Description) → flatten d ≡ scan text .tokens → Orderly (declarations d)

@@ -15,7 +15,7 @@ use Rattle.rules.specs.Whole.Sets.{member}
 use Rattle.laws_orders.specs.Orders.Orderly.{Orderly}
 use Rattle.laws_orders.specs.Orders.Tests.{or-either, or-left, or-right}
 use Rattle.rules.specs.Paths.{TooEarly, storageOf, Profile, passes, fails, Profiles, no-body, no-storage, early, in-time}
-use Rattle.paths.specs.Early.{earlyPlaces, lowest, verdict, onStorage, onBody, profile}
+use Rattle.paths.specs.Cited.Early.{earlyPlaces, lowest, verdict, onStorage, onBody, profile}
 use Rattle.paths.specs.Sound.{sound}
 use Rattle.paths.specs.Exact.{exact}
 

@@ -2,53 +2,14 @@
 -- depth. An action is given the number of the flag at its end; a label's end, or an IF's, is that of what it stands in. Where control is (`b`) and comes to
 -- an end, the flag is set. Flag 0 is idle: nobody asks whether a turn of a REPEAT ends.
 use Prim.Native.Nat.{ℕ, suc}
-use mathlib.Core.Bool.{Bool, true, false, cond, not, _||_, _&&_}
-use mathlib.Core.List.{List, [], _∷_, _++_}
-use mathlib.Core.Option.{Option, none, some}
-use lib.Dec.{eqb}
-use Rattle.rules.specs.Text.Scan.{sameBytes}
+use mathlib.Core.Bool.{Bool, true, cond, _&&_}
+use mathlib.Core.List.{List, [], _∷_}
 use Rattle.rules.specs.Grammar.Trees.{Action, block, labelled, if-then, decode, repeat, leave, restart, activate, stop, no-op, transfer, Members, end, also, next}
 use Rattle.rules.specs.Grammar.Trees.{Alternatives, counted, selected, Counted, counted-end, counted-more, Selected, select, otherwise, SelectedMore, selected-end, selected-more}
 use Rattle.rules.specs.Declarations.{Name, Table}
 use Rattle.rules.specs.Steps.Actions.{access, joinedAccesses}
-use Rattle.paths.specs.Early.{Report, activation, written}
-
-abbrev pub Flags : Type 0
-Flags = ℕ → Bool
-
--- the flags, and the places so far
-pub record Marks : Type 0 where
-  pub flags : Flags
-  pub places : List ℕ
-
-abbrev pub unmarked : Marks
-unmarked = record { flags = λ j. false; places = [] }
-
--- a label, and the flag at its end
-pub record Slot : Type 0 where
-  pub name : Name
-  pub flag : ℕ
-
-abbrev pub slot : Name → ℕ → Slot
-slot l k = record { name = l; flag = k }
-
-abbrev pub marked : ℕ → Bool → Marks → Marks
-marked k b w = record { flags = λ j. (eqb j k && b) || w .flags j; places = w .places }
-
-abbrev pub cleared : ℕ → Marks → Marks
-cleared d w = record { flags = λ j. not (eqb j d) && w .flags j; places = w .places }
-
-abbrev pub added : List ℕ → Marks → Marks
-added ps w = record { flags = w .flags; places = w .places ++ ps }
-
--- the innermost label of a name
-abbrev pub flagOf : List Slot → Name → Option ℕ
-flagOf [] l = none
-flagOf (s ∷ ls) l = cond (sameBytes l (s .name)) (some (s .flag)) (flagOf ls l)
-
-abbrev pub markedAt : Option ℕ → Bool → Marks → Marks
-markedAt none b w = w
-markedAt (some k) b w = marked k b w
+use Rattle.paths.specs.Cited.Marks.{Marks, unmarked, Slot, slot, marked, cleared, added, flagOf, markedAt}
+use Rattle.paths.specs.Cited.Early.{Report, activation, written}
 
 -- with what is known of the bodies
 module _ (ds : Table) (test : Name) (output : ℕ) (known : Name → Report) where

@@ -11,15 +11,14 @@ use Rattle.rules.specs.Text.Scan.{sameBytes}
 use Rattle.rules.specs.Grammar.Trees.{Action, block, labelled, if-then, decode, repeat, leave, restart, activate, stop, no-op, transfer, Members, end, also, next}
 use Rattle.rules.specs.Grammar.Trees.{Alternatives, counted, selected, Counted, counted-end, counted-more, Selected, select, otherwise, SelectedMore, selected-end, selected-more}
 use Rattle.rules.specs.Declarations.{Name, Table, bodyOf}
-use Rattle.rules.specs.Steps.Actions.{Act, par, actOf, Groups, groups, whole, altsOf, countedAlts, selectedAlts, moreAlts}
-use Rattle.rules.specs.Steps.Actions.{inTurn as joinedTo}
+use Rattle.rules.specs.Steps.Actions.{Act, par, actOf, Groups, groups, whole, altsOf, countedAlts, selectedAlts, moreAlts, inTurn as joinedTo}
 use Rattle.rules.specs.Steps.Runs.{bodyAct, actOr}
 use Rattle.laws_accepted.specs.Accepted.Named.{same-equal, same-itself}
 use Rattle.paths.specs.Bools.{mix, spread, iff-flags, alts-flags, label-flags, call-flags, pass-flags, stay-flags, leave-flags, turn-flags}
 use Rattle.paths.specs.Bools.{end-flags, next-flags, also-flags, also-next-flags}
-use Rattle.paths.specs.Early.{Report, report, nowhere, passed, inside, either, inTurn, beside, turning, activation, written, early, earlyI, earlyAlts, bodyEarly}
-use Rattle.paths.specs.Walk.{Flags, Marks, Slot, slot, marked, cleared, added, flagOf, markedAt, unmarked, walkBody}
-use Rattle.paths.specs.Walk.{walk, walkMembers, walkAlternatives, walkCounted, walkSelected, walkMore}
+use Rattle.paths.specs.Cited.Early.{Report, report, nowhere, passed, inside, either, inTurn, beside, turning, activation, written, early, earlyI, earlyAlts, bodyEarly}
+use Rattle.paths.specs.Cited.Marks.{Flags, Marks, Slot, slot, marked, cleared, added, flagOf, markedAt, unmarked}
+use Rattle.paths.specs.Walk.{walkBody, walk, walkMembers, walkAlternatives, walkCounted, walkSelected, walkMore}
 
 -- which flags the LEAVEs set, by their targets
 abbrev pub left : List Slot → (Name → Bool) → ℕ → Bool

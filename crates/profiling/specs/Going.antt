@@ -5,7 +5,7 @@ use mathlib.Core.List.{List}
 use lib.ListN.{length, drop}
 use Rattle.cells.specs.Cells.{cell}
 use Rattle.rules.specs.Grammar.Trees.{Tokens}
-use Rattle.paths.specs.Least.{least}
+use Rattle.paths.specs.Cited.Least.{least}
 use Rattle.table.specs.Words.{NameAt, wordAt}
 use Rattle.profiling.specs.Spelt.{whole}
 use Rattle.nesting.specs.Machine.{State, outset, run}

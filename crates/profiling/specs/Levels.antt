@@ -12,7 +12,7 @@ use Rattle.rules.specs.Text.Scan.{sameBytes}
 use Rattle.rules.specs.Grammar.Trees.{Tokens}
 use Rattle.rules.specs.Declarations.{Name as Word, numberOf}
 use Rattle.rules.specs.Limits.{longestChain}
-use Rattle.paths.specs.Early.{bodyEarly}
+use Rattle.paths.specs.Cited.Early.{bodyEarly}
 use Rattle.table.specs.Scans.{no}
 use Rattle.reading.specs.Reading.{Kinded}
 use Rattle.profiling.specs.Spelt.{SpeltDescription, whole}

@@ -9,9 +9,9 @@ use Rattle.cells.specs.Cells.{cell}
 use Rattle.rules.specs.Text.Tokens.{Name, kindNo}
 use Rattle.rules.specs.Text.Scan.{sameBytes}
 use Rattle.rules.specs.Declarations.{Name as Word, Table, numberOf}
-use Rattle.paths.specs.Early.{Report}
-use Rattle.paths.specs.Walk.{Marks}
-use Rattle.paths.specs.Least.{least}
+use Rattle.paths.specs.Cited.Early.{Report}
+use Rattle.paths.specs.Cited.Marks.{Marks}
+use Rattle.paths.specs.Cited.Least.{least}
 use Rattle.table.specs.Holds.{kindByte, tokenAt}
 use Rattle.table.specs.Words.{wordAt}
 use Rattle.reading.specs.Kinds.{nextNo}

@@ -5,8 +5,8 @@ use mathlib.Core.List.{List, []}
 use mathlib.Core.Option.{some}
 use Rattle.rules.specs.Declarations.{Name, numberOf}
 use Rattle.rules.specs.Faults.Whole.{faults50}
-use Rattle.paths.specs.Early.{earlyPlaces}
-use Rattle.paths.specs.Least.{least}
+use Rattle.paths.specs.Cited.Early.{earlyPlaces}
+use Rattle.paths.specs.Cited.Least.{least}
 use Rattle.profiling.specs.Spelt.{SpeltDescription, whole}
 use Rattle.nesting.specs.Holding.{unseen}
 use Rattle.profiling.specs.declared.tasks.Task.{Task}

@@ -7,7 +7,7 @@ use Rattle.rules.specs.Values.{field, cut}
 use Rattle.rules.specs.Declarations.{totalWords}
 use Rattle.rules.specs.Stores as rules
 use Rattle.rules.specs.Stores.{entriesOf}
-use Rattle.traces.specs.Machine.{stores}
+use Rattle.traces.specs.Cited.Events.{stores}
 use Rattle.telling.specs.Cited.Tracing.{storeReport, groupsOf}
 use Rattle.operands.specs.Cells.{cellFirst, cellLow, cellBits}
 use Rattle.evaluation.specs.Stores.{sizes, Put, StoresAt, StoresAnswer}

@@ -26,7 +26,7 @@ use Rattle.laws_orders.specs.Orders.Carriers.{printsOf}
 use Rattle.laws_orders.specs.Orders.Static.{bodies-ok}
 use Rattle.laws_accepted.specs.Accepted.Orderly.{accepted-orderly}
 use Rattle.laws_code.specs.Cited.Placed.{descriptionCode}
-use Rattle.traces.specs.Marking.{at, never}
+use Rattle.traces.specs.Cited.Marking.{at, never}
 use Rattle.traces.specs.Machine.{state, tellAll, answerOf}
 use Rattle.traces.specs.Traces.{left-to-right-decides}
 use Rattle.telling.specs.Cited.Cells.{Cells, memberOf, cellGrouping, AllMarked}

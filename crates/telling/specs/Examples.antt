@@ -9,7 +9,7 @@ use lib.ListN.{getD}
 use Rattle.rules.specs.Text.Tokens.{Info}
 use Rattle.rules.specs.Text.Scan.{plainInfo}
 use Rattle.rules.specs.Grammar.Trees.{Action, block, repeat, no-op, end, also, next}
-use Rattle.traces.specs.Machine.{opens, turns, closes}
+use Rattle.traces.specs.Cited.Events.{opens, turns, closes}
 use Rattle.telling.specs.Cited.Passing.{Grouping, Passing, opened, turned, closed, groupEvent, times, allPairs, meet, climb, leaveDeeper, passage}
 use Rattle.telling.specs.Cited.Cells.{Cells, upFrom, cellGrouping, Marked}
 

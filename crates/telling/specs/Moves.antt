@@ -3,7 +3,7 @@ use Prim.Native.Nat.{ℕ, suc}
 use mathlib.Core.Path.{_≡_, refl, sym, _∙_, ap, ap₂, subst}
 use mathlib.Core.Bool.{true, false}
 use mathlib.Core.List.{List, [], _∷_, _++_, append-assoc, map}
-use Rattle.traces.specs.Machine.{Event}
+use Rattle.traces.specs.Cited.Events.{Event}
 use Rattle.telling.specs.Cited.Passing.{Grouping, Passing, opened, turned, closed, pairEvents, allPairs}
 use Rattle.telling.specs.Passages.{into, Lasts, Firsts}
 

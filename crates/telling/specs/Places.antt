@@ -9,8 +9,7 @@ use lib.ListN.{length, length-append}
 use Rattle.rules.specs.Text.Scan.{sameBytes}
 use Rattle.rules.specs.Declarations.{Name, Table}
 use Rattle.rules.specs.Limits.{deepest}
-use Rattle.rules.specs.Steps.Control.{Live, one, seqL, both, left, right, labL, loopL, callL, start, leftmost}
-use Rattle.rules.specs.Steps.Control.{Sig, ends, goes, leaves, restarts, stops, faults, next}
+use Rattle.rules.specs.Steps.Control.{Live, one, seqL, both, left, right, labL, loopL, callL, start, leftmost, Sig, ends, goes, leaves, restarts, stops, faults, next}
 use Rattle.rules.specs.Steps.Runs.{bodyAct}
 use Rattle.rules.specs.Whole.Sets.{chainOver}
 use Rattle.laws_orders.specs.Orders.Tests.{impossible}
@@ -18,7 +17,7 @@ use Rattle.laws_orders.specs.Orders.Foot.{Prints}
 use Rattle.laws_orders.specs.Orders.Ok.{OkL, OkS, inBody, BodiesOk, start-ok, next-ok}
 use Rattle.laws_orders.specs.Orders.Depth.{Chained, ChainedS, call-chained, next-chained}
 use Rattle.laws_orders.specs.Cited.Flat.{Link, at, exit, Code, pc, Labels, bind, leaveTo, restartTo, ownLabel}
-use Rattle.traces.specs.Machine.{Event}
+use Rattle.traces.specs.Cited.Events.{Event}
 use Rattle.traces.specs.Telling.{stepEvents}
 use Rattle.telling.specs.Cited.Passing.{Grouping, passage}
 use Rattle.telling.specs.Cited.Tracing.{Told, return, nextT}

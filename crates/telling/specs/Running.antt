@@ -15,15 +15,14 @@ use Rattle.rules.specs.Steps.Runs.{Run, runWith, done, halted, paused, faulted,
 use Rattle.rules.specs.Steps.Orders.{EndsWell, endOf}
 use Rattle.laws_orders.specs.Orders.Budget.{onward as onwardRun}
 use Rattle.laws_orders.specs.Cited.Flat.{Link, at, exit, Instr, ifI, decodeI, goI, callI, stopI, moveI, Code, At, pc, over, halt, broken, go, push, find, picked, workM, nextM}
-use Rattle.laws_orders.specs.Cited.Flat.{return as returnM}
-use Rattle.laws_orders.specs.Cited.Flat.{Machine, runs, ended, stood, broke, put, putAfter, stepM, Labels, outer, bind, leaveTo, restartTo, ownLabel}
+use Rattle.laws_orders.specs.Cited.Flat.{return as returnM, Machine, runs, ended, stood, broke, put, putAfter, stepM, Labels, outer, bind, leaveTo, restartTo, ownLabel}
 use Rattle.laws_orders.specs.Orders.Stands as Flat
 use Rattle.laws_orders.specs.Orders.Stands.{work-says}
 use Rattle.laws_orders.specs.Orders.Foot.{Prints, Sub·refl}
 use Rattle.laws_orders.specs.Orders.Ok.{Env, OkL, OkS, BodiesOk, call-ok, next-ok}
 use Rattle.traces.specs.Joining.{step-by}
-use Rattle.traces.specs.Members.{Block}
-use Rattle.traces.specs.Machine.{Event}
+use Rattle.traces.specs.Cited.Entries.{Block}
+use Rattle.traces.specs.Cited.Events.{Event}
 use Rattle.traces.specs.Telling.{openings, openingsC, stepEvents, storeEvent, Tells}
 use Rattle.telling.specs.Cited.Passing.{Grouping, Passing, opened, turned, closed, pairEvents, allPairs, passage}
 use Rattle.telling.specs.Cited.Tracing.{Told, linkOf, addresses, resume, return, follow, pickedT, nextT}

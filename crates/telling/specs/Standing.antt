@@ -15,7 +15,7 @@ use Rattle.rules.specs.Steps.Control.{Sig, ends, goes, leaves, restarts, stops,
 use Rattle.laws_orders.specs.Cited.Flat.{Link, at, exit, Entries, Code, pc, over, halt, broken, push, find, Labels, bind, leaveTo, restartTo, Jumps, ownLabel, callI}
 use Rattle.laws_orders.specs.Orders.Foot.{Foot, Prints}
 use Rattle.laws_orders.specs.Orders.Ok.{Env, under, member, OkL, OkS, inBody, BodiesOk, next-ok}
-use Rattle.traces.specs.Machine.{Event, opens, turns, closes}
+use Rattle.traces.specs.Cited.Events.{Event, opens, turns, closes}
 use Rattle.traces.specs.Telling.{openings, fresh, atEnd, atRestart, stepEvents}
 use Rattle.telling.specs.Cited.Passing.{Grouping, Passing, opened, turned, closed, times, pairOpens, allPairs, passage}
 use Rattle.telling.specs.Cited.Tracing.{Told, told, behindAll, linkOf, resume, return, follow, pickedT, nextT, addresses}

@@ -14,7 +14,7 @@ use Rattle.rules.specs.Faults.Whole.{mainName}
 use Rattle.rules.specs.Stores.{Entry, TraceAnswer}
 use Rattle.rules.specs.Answers.{accepted, Checks}
 use Rattle.laws_code.specs.Cited.Placed.{descriptionCode}
-use Rattle.traces.specs.Machine.{Event, stores, opens, turns, closes}
+use Rattle.traces.specs.Cited.Events.{Event, stores, opens, turns, closes}
 use Rattle.telling.specs.Cited.Cells.{Cells, cellGrouping, AllMarked}
 use Rattle.telling.specs.Cited.Passing.{Grouping, Passing, opened, turned, closed, times, pairOpens, pairEvents, groupEvent}
 use Rattle.telling.specs.Cited.Tracing.{Report, stored, passes, pairsOf, groupsOf, traceRun}

@@ -3,7 +3,7 @@ use Prim.Native.Nat.{ℕ, _*_, _≤_}
 use mathlib.Core.Path.{_≡_}
 use mathlib.Core.List.{List}
 use lib.ListN.{length, drop}
-use Rattle.bounds.specs.Walk.{endless}
+use Rattle.bounds.specs.Cited.Counts.{endless}
 use Rattle.counting.specs.Machine.{State, outset, run}
 use Rattle.counting.specs.Holding.{enough, Shows}
 use Rattle.walking.specs.Walking.{Scene}

@@ -6,7 +6,7 @@ use mathlib.Core.Option.{Option, none, some}
 use lib.ListN.{length, drop}
 use Rattle.cells.specs.Cells.{cell}
 use Rattle.rules.specs.Declarations.{Name as Word, Table, numberOf}
-use Rattle.bounds.specs.Walk.{endless}
+use Rattle.bounds.specs.Cited.Counts.{endless}
 use Rattle.table.specs.Holds.{kindByte}
 use Rattle.table.specs.Words.{wordAt}
 use Rattle.reading.specs.Kinds.{nextNo}

@@ -16,8 +16,9 @@ use Rattle.rules.specs.Steps.Runs.{bodyAct, actOr}
 use Rattle.rules.specs.Whole.Sets.{callsIn, anyName, chainOver}
 use Rattle.laws_grammar.specs.Cited.Nesting.{actionNest}
 use Rattle.laws_orders.specs.Orders.Tests.{or-neither}
-use Rattle.bounds.specs.Walk.{endless, walk}
-use Rattle.bounds.specs.WalkLaws.{countDown, count-none}
+use Rattle.bounds.specs.Cited.Counts.{endless, countDown}
+use Rattle.bounds.specs.Walk.{walk}
+use Rattle.bounds.specs.WalkLaws.{count-none}
 use Rattle.table.specs.Holds.{kindByte}
 use Rattle.table.specs.Words.{wordAt}
 use Rattle.table.specs.Declarations.{declarationList, all-declared}

@@ -18,8 +18,9 @@ use Rattle.rules.specs.Whole.Sets.{callsIn, anyName, chainOver}
 use Rattle.rules.specs.Bound.{costDown, costOf, turnsDown, turnsFrom}
 use Rattle.laws_accepted.specs.Accepted.Faultless.{both-empty, when-empty, each-empty}
 use Rattle.laws_accepted.specs.Accepted.Named.{found-body}
-use Rattle.bounds.specs.Walk.{endless, walk}
-use Rattle.bounds.specs.WalkLaws.{cut, cut-low, walked-body, countDown}
+use Rattle.bounds.specs.Cited.Counts.{endless, cut, countDown}
+use Rattle.bounds.specs.Walk.{walk}
+use Rattle.bounds.specs.WalkLaws.{cut-low, walked-body}
 use Rattle.bounds.specs.Closing.{cost-same, turns-same, cost-closed, turns-closed}
 use Rattle.bounds.specs.Owed.{start-owes, owes-one}
 

@@ -19,7 +19,8 @@ use Rattle.laws_grammar.specs.Cited.Nesting.{actionNest, membersNest, alternati
 use Rattle.trees.specs.Written.{level}
 use Rattle.trees.specs.Expressions.{Expressed, passes, bits-written, access-written, expression-written}
 use Rattle.trees.specs.Selectors.{settles, selector-written}
-use Rattle.bounds.specs.Walk.{endless, up, walk, walkMembers, walkAlternatives, walkCounted, walkSelected, walkMore}
+use Rattle.bounds.specs.Cited.Counts.{endless, up}
+use Rattle.bounds.specs.Walk.{walk, walkMembers, walkAlternatives, walkCounted, walkSelected, walkMore}
 use Rattle.reading.specs.Kinds.{tests, begins, mode}
 use Rattle.reading.specs.Laws.Hearing.{Apart, by-comma, by-semi, by-end, by-next, members-apart, counted-apart, more-apart}
 use Rattle.counting.specs.Machine.{Frame, frame, State, state, opened, none-open, takesStep, turns, acted, run, outset}

@@ -11,8 +11,8 @@ use Rattle.rules.specs.Grammar.Trees.{Declaration}
 use Rattle.rules.specs.Limits.{longestChain}
 use Rattle.rules.specs.Declarations.{Name as Word, declaredOf, numberOf, bodyOf, bodyNumber}
 use Rattle.rules.specs.Faults.Whole.{mainName}
-use Rattle.bounds.specs.Walk.{endless}
-use Rattle.bounds.specs.WalkLaws.{cut-low, countDown, count-none}
+use Rattle.bounds.specs.Cited.Counts.{endless, countDown}
+use Rattle.bounds.specs.WalkLaws.{cut-low, count-none}
 use Rattle.table.specs.Holds.{kindByte}
 use Rattle.table.specs.Words.{wordAt}
 use Rattle.table.specs.Declarations.{declarationList, all-declared}

@@ -10,7 +10,7 @@ use lib.ListN.{length}
 use Rattle.cells.specs.Cells.{cell, putCell}
 use Rattle.cells.specs.Laws.{length-put, le-put-same, le-put-below, le-put-above}
 use Rattle.rules.specs.Limits.{deepest}
-use Rattle.bounds.specs.Walk.{endless, up}
+use Rattle.bounds.specs.Cited.Counts.{endless, up}
 use Rattle.bounds.specs.WalkLaws.{up-low}
 use Rattle.counting.specs.Machine.{Frame, frame, State, opened, closed, another, counted, turned}
 use Rattle.counting.specs.Holding.{FrameAt, Frames, no-frames, frames, Shows, Does}

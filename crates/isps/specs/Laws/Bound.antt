@@ -22,7 +22,7 @@ use Rattle.rules.specs.Calls.Bound.{BoundCall, boundNumber, boundNumbers, short
 use Rattle.laws_grammar.specs.Grammar.Exact.{unique}
 use Rattle.bounds.specs.Longest as longest
 use Rattle.bounds.specs.Longest.{bounding, one-bound}
-use Rattle.bounds.specs.Reaching.{Reached}
+use Rattle.bounds.specs.Cited.Reached.{Reached}
 use Rattle.isps.specs.Laws.Calls.{ran-steps}
 use Rattle.isps.specs.Laws.Orders.{Answers, answers, runOf, ran-by}
 

@@ -31,7 +31,7 @@ use Rattle.laws_orders.specs.Orders.Tests.{or-either}
 use Rattle.laws_orders.specs.Orders.Owners.{ownerAt}
 use Rattle.laws.specs.Refusals.Numbered.{checks-numbered}
 use Rattle.text.specs.Laws.Callers.{token-stands}
-use Rattle.paths.specs.Early.{earlyPlaces}
+use Rattle.paths.specs.Cited.Early.{earlyPlaces}
 use Rattle.paths.specs.Least.{Under}
 use Rattle.paths.specs.Verdict.{accepted-none}
 use Rattle.paths.specs.Kept.{carriersIn, output-kept}

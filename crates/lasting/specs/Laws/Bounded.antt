@@ -11,8 +11,8 @@ use Rattle.rules.specs.Bound.{Bound, bound, no-bound, not-bounded, boundOf, not
 use Rattle.rules.specs.Calls.Memory.{Memory, Enough, settled}
 use Rattle.rules.specs.Calls.Bound.{BoundCall, answer, boundNumber, boundNumbers}
 use Rattle.rules.specs.Calls.Bound as call
-use Rattle.bounds.specs.Walk.{endless}
-use Rattle.bounds.specs.Answers.{boundWhen, boundBy, bound-counted}
+use Rattle.bounds.specs.Cited.Counts.{endless, boundWhen, boundBy}
+use Rattle.bounds.specs.Answers.{bound-counted}
 use Rattle.bounding.specs.Filling.{Ready}
 use Rattle.bounding.specs.Mains.{Longest}
 use Rattle.lent.specs.Numbers.{numbersOf}

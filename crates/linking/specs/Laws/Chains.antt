@@ -13,7 +13,7 @@ use lib.ListN.{length, getD}
 use Rattle.cells.specs.Cells.{cell, putCell}
 use Rattle.rules.specs.Limits.{mostWords}
 use Rattle.rules.specs.Stores.{Entry, entry}
-use Rattle.traces.specs.Marking.{Cells}
+use Rattle.traces.specs.Cited.Marking.{Cells}
 use Rattle.rules.specs.Entries.{mostEntries}
 use Rattle.matching.specs.Room.{roomSize, nextCell, floorCell, badCell, depthCell, firstCell, endless, posOf, leftFrom, groupsIn, matchingIn, wordAt, Next, Reached, Sound, Stands, Linked, Filled}
 use Rattle.matching.specs.Matching.{untold}

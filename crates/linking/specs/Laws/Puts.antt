@@ -11,7 +11,7 @@ use native.Mathlib.Numerals.{add-one}
 use lib.ListN.{length, set}
 use Rattle.cells.specs.Cells.{cell, putCell}
 use Rattle.rules.specs.Stores.{Entry}
-use Rattle.traces.specs.Marking.{Pos, Cells}
+use Rattle.traces.specs.Cited.Marking.{Pos, Cells}
 use Rattle.rules.specs.Entries.{mostEntries}
 use Rattle.matching.specs.Matching.{Group, group, matching}
 use Rattle.matching.specs.Room.{nextCell, groupsCell, floorCell, badCell, depthCell, firstCell, mostGroups, posOf, leftFrom, groupsIn, matchingIn, wordAt, Reached, Sound, Stands}

@@ -9,7 +9,7 @@ use native.Mathlib.Omega.{arith}
 use lib.ListN.{length, getD}
 use borrow.Author.Tests.{eq-eqb, ne-eqb}
 use Rattle.rules.specs.Stores.{Entry}
-use Rattle.traces.specs.Marking.{Pos, at, never, lower, Cells, marked, behind, fit, here, put}
+use Rattle.traces.specs.Cited.Marking.{Pos, at, never, lower, Cells, marked, behind, fit, here, put}
 use Rattle.matching.specs.Matching.{fitAt}
 use Rattle.linking.specs.Seeking.{OfWord, Sought}
 

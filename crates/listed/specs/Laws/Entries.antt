@@ -13,7 +13,7 @@ use Rattle.cells.specs.Cells.{leAt, cell}
 use Rattle.buffers.specs.Laws.Buffers.{number-at}
 use Rattle.rules.specs.Answers.{littleEndian}
 use Rattle.rules.specs.Stores.{Entry, entry}
-use Rattle.traces.specs.Answers.{sameEntry}
+use Rattle.traces.specs.Cited.Entries.{sameEntry}
 use Rattle.rules.specs.Entries.{entrySize, mostEntries, entryFrom, entriesFrom, entriesIn, isList}
 
 pub length-entries : (n : ℕ) (b : List ℕ) → length (entriesFrom n b) ≡ n

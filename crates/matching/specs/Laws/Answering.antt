@@ -13,7 +13,7 @@ use lib.ListN.{length}
 use borrow.Author.Tests.{eq-eqb, ne-eqb}
 use Rattle.cells.specs.Cells.{cell}
 use Rattle.rules.specs.Stores.{Entry, just-so, upTo}
-use Rattle.traces.specs.Marking.{at, never, raise, lesser, Cells, untaken, verdict}
+use Rattle.traces.specs.Cited.Marking.{at, never, raise, lesser, Cells, untaken, verdict}
 use Rattle.matching.specs.Matching.{answerIn}
 use Rattle.matching.specs.Room.{endless, floorCell, badCell, posOf, leftFrom, matchingIn, Sound}
 use Rattle.matching.specs.Laws.Room.{pos-at, pos-never}

@@ -6,9 +6,10 @@ use mathlib.Core.List.{List, [], _∷_, _++_, map}
 use mathlib.Core.Option.{some}
 use lib.ListN.{length}
 use Rattle.rules.specs.Stores.{Entry}
-use Rattle.traces.specs.Members.{Block}
-use Rattle.traces.specs.Marking.{Pos, at, never, lesser, greaterN, greater, Cells, Marked, put}
-use Rattle.traces.specs.Machine.{Event, stores, opens, turns, closes, Open, begun, turned, State, state, turn, tell, tellAll, answerOf}
+use Rattle.traces.specs.Cited.Entries.{Block}
+use Rattle.traces.specs.Cited.Marking.{Pos, at, never, lesser, greaterN, greater, Cells, Marked, put}
+use Rattle.traces.specs.Cited.Events.{Event, stores, opens, turns, closes}
+use Rattle.traces.specs.Machine.{Open, begun, turned, State, state, turn, tell, tellAll, answerOf}
 use Rattle.matching.specs.Matching as M
 use Rattle.matching.specs.Matching.{Group, group, Matching, matching, untold, told, toldAll, answerIn}
 

@@ -8,8 +8,9 @@ use lib.ListN.{length}
 use Rattle.rules.specs.Declarations.{Name, Table}
 use Rattle.rules.specs.Steps.Evaluation.{Carriers}
 use Rattle.rules.specs.Stores.{Entry, TraceAnswer}
-use Rattle.traces.specs.Marking.{at, never}
-use Rattle.traces.specs.Machine.{Event, state, tellAll, answerOf}
+use Rattle.traces.specs.Cited.Marking.{at, never}
+use Rattle.traces.specs.Cited.Events.{Event}
+use Rattle.traces.specs.Machine.{state, tellAll, answerOf}
 use Rattle.matching.specs.Matching.{Matching, untold, toldAll, answerIn}
 use Rattle.matching.specs.Room.{matchingIn, Stands}
 use Rattle.matching.specs.Laws.Groups.{Frame, Tracks, tracks-answer}

@@ -14,7 +14,7 @@ use borrow.Author.Tests.{lt-ltb, le-ltb, eq-eqb, ne-eqb}
 use Rattle.cells.specs.Cells.{cell, putCell}
 use Rattle.cells.specs.Laws.{length-put, le-put-same, le-put-below, le-put-above}
 use Rattle.rules.specs.Stores.{Entry, entry}
-use Rattle.traces.specs.Marking.{at, never, lesserN, lesser, greaterN, greater, Cells}
+use Rattle.traces.specs.Cited.Marking.{at, never, lesserN, lesser, greaterN, greater, Cells}
 use Rattle.matching.specs.Matching.{Group, group}
 use Rattle.matching.specs.Room.{endless, groupsCell, posOf, leftFrom, groupsIn, matchingIn, Sound}
 

@@ -11,8 +11,8 @@ use lib.Dec.{eqb, ltb}
 use lib.ListN.{length}
 use Rattle.cells.specs.Cells.{cell, putCell}
 use Rattle.rules.specs.Limits.{deepest}
-use Rattle.paths.specs.Least.{least}
-use Rattle.paths.specs.Walk.{Marks, marked, cleared}
+use Rattle.paths.specs.Cited.Least.{least}
+use Rattle.paths.specs.Cited.Marks.{Marks, marked, cleared}
 use Rattle.nesting.specs.Machine.{Frame, frame, State, state, settled, idle, begun, opened, closed, also, next, another}
 use Rattle.nesting.specs.Holding.{unseen, bit, frameCell, Book, Linked, unlinked, FrameAt, Frames, no-frames, frames, Flagged, Shows, Standing, Does, Set, Taken, Top, Pushed}
 use Rattle.nesting.specs.Grouping.{nest, kept, settle, enter, Three, Resuming, Resumed}

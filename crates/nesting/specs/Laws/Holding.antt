@@ -12,8 +12,9 @@ use Rattle.cells.specs.Cells.{cell, putCell}
 use Rattle.cells.specs.Laws.{length-put, le-put-same}
 use Rattle.rules.specs.Limits.{mostTokens}
 use Rattle.table.specs.Holds.{linkCell}
-use Rattle.paths.specs.Walk.{Marks, Slot, marked, cleared, added}
-use Rattle.paths.specs.Least.{least, least-append}
+use Rattle.paths.specs.Cited.Marks.{Marks, Slot, marked, cleared, added}
+use Rattle.paths.specs.Cited.Least.{least}
+use Rattle.paths.specs.Least.{least-append}
 use Rattle.scopes.specs.Laws.Labels.{put-elsewhere}
 use Rattle.nesting.specs.Machine.{Frame, State, reached, transferred, destined, looped, chosen}
 use Rattle.nesting.specs.Holding.{unseen, bit, frameCell, labelCell, hintsFrom, hintCell, Book, Linked, unlinked, linked, Still, LabelPut, FrameAt, Frames, no-frames, frames, Flagged, Shows, Does, Set}

@@ -10,8 +10,8 @@ use borrow.Author.Tests.{eqb-true}
 use lib.ListN.{length}
 use Rattle.cells.specs.Cells.{cell}
 use Rattle.rules.specs.Text.Scan.{sameBytes}
-use Rattle.paths.specs.Least.{least}
-use Rattle.paths.specs.Walk.{Slot, slot, marked, markedAt, flagOf}
+use Rattle.paths.specs.Cited.Least.{least}
+use Rattle.paths.specs.Cited.Marks.{Slot, slot, marked, markedAt, flagOf}
 use Rattle.table.specs.Holds.{linkCell}
 use Rattle.table.specs.Words.{NameAt, wordAt}
 use Rattle.spelling.specs.Spelled.{TwoSpelled, spelledAlike}

@@ -9,10 +9,9 @@ use native.Mathlib.Omega.{arith}
 use lib.Dec.{eqb}
 use lib.ListN.{length, getD, set}
 use Rattle.rules.specs.Stores.{Entry}
-use Rattle.traces.specs.Answers.{sameEntry}
-use Rattle.traces.specs.Members.{Block}
-use Rattle.traces.specs.Marking.{Pos, at, never, raise, lower, lesserN, lesser, Cells, Marked, marked, behind, fit, here, put}
-use Rattle.traces.specs.Machine.{stores}
+use Rattle.traces.specs.Cited.Entries.{sameEntry, Block}
+use Rattle.traces.specs.Cited.Marking.{Pos, at, never, raise, lower, lesserN, lesser, Cells, Marked, marked, behind, fit, here, put}
+use Rattle.traces.specs.Cited.Events.{stores}
 use Rattle.matching.specs.Matching.{Matching, matching, with, told, fitAt, toldPart}
 
 lesserN-assoc : (a b c : ℕ) → lesserN (lesserN a b) c ≡ lesserN a (lesserN b c)

@@ -11,9 +11,9 @@ use native.Mathlib.Numerals.{add-one}
 use lib.ListN.{length, getD}
 use Rattle.cells.specs.Cells.{cell, putCell}
 use Rattle.rules.specs.Stores.{Entry, entry}
-use Rattle.traces.specs.Answers.{sameEntry}
-use Rattle.traces.specs.Marking.{Pos, at, lesser, greater}
-use Rattle.traces.specs.Machine.{stores, opens, turns, closes}
+use Rattle.traces.specs.Cited.Entries.{sameEntry}
+use Rattle.traces.specs.Cited.Marking.{Pos, at, lesser, greater}
+use Rattle.traces.specs.Cited.Events.{stores, opens, turns, closes}
 use Rattle.matching.specs.Matching.{group, Matching, matching, turned, closed, with, told, partAt, missed, spoilt, toldPart}
 use Rattle.matching.specs.Room.{endless, mostGroups, groupsCell, floorCell, badCell, depthCell, posOf, groupsIn, matchingIn, Sound, Stands}
 use Rattle.linking.specs.Seeking.{Seeks}

@@ -7,7 +7,7 @@ use native.Mathlib.Omega.{arith}
 use native.Mathlib.Nat.{add-zero, add-suc, zero-add, suc-add}
 use lib.Dec.{eqb}
 use lib.ListN.{length}
-use Rattle.traces.specs.Machine.{Event, opens, turns, closes}
+use Rattle.traces.specs.Cited.Events.{Event, opens, turns, closes}
 use Rattle.telling.specs.Cited.Passing.{Passing, opened, closed, groupEvent, times, meeting, meet, climb, leaveDeeper, passage}
 use Rattle.telling.specs.Cited.Cells.{Cells, upFrom, cellGrouping}
 use Rattle.passing.specs.Climbing.{meetingTold, upBy, meetTold}

@@ -5,7 +5,7 @@ use mathlib.Core.List.{List, [], _∷_, _++_, map}
 use native.Mathlib.Numerals.{unary-clauses}
 use lib.ListN.{length}
 use Rattle.telling.specs.Cited.Passing.{Passing, opened, turned, closed, groupEvent}
-use Rattle.traces.specs.Marking.{Pos, Cells}
+use Rattle.traces.specs.Cited.Marking.{Pos, Cells}
 use Rattle.matching.specs.Matching as matching
 use Rattle.matching.specs.Matching.{Group, Matching, told, toldAll}
 use Rattle.passing.specs.Depth.{depthBehind, depthAfter}

@@ -11,7 +11,7 @@ use lib.ListN.{length}
 use Rattle.rules.specs.Limits.{deepest}
 use Rattle.rules.specs.Stores.{Entry}
 use Rattle.laws_orders.specs.Orders.Tests.{impossible}
-use Rattle.traces.specs.Machine.{Event, opens, turns, closes}
+use Rattle.traces.specs.Cited.Events.{Event, opens, turns, closes}
 use Rattle.telling.specs.Cited.Passing.{Passing, closed, groupEvent, times, passage}
 use Rattle.telling.specs.Cited.Cells.{Cells, memberOf, upFrom, cellGrouping}
 use Rattle.telling.specs.Marked.{from-few}

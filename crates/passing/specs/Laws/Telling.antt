@@ -6,7 +6,7 @@ use native.Mathlib.Omega.{arith}
 use lib.ListN.{length}
 use Rattle.rules.specs.Stores.{Entry}
 use Rattle.laws_orders.specs.Orders.Tests.{impossible}
-use Rattle.traces.specs.Machine.{Event, opens}
+use Rattle.traces.specs.Cited.Events.{Event, opens}
 use Rattle.telling.specs.Cited.Passing.{times}
 use Rattle.matching.specs.Matching.{Matching, told, toldAll}
 use Rattle.matching.specs.Room.{mostGroups, matchingIn, Sound, Stands}

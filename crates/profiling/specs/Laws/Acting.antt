@@ -12,8 +12,9 @@ use Rattle.cells.specs.Cells.{cell}
 use Rattle.rules.specs.Text.Scan.{sameBytes}
 use Rattle.rules.specs.Limits.{deepest}
 use Rattle.rules.specs.Whole.Sets.{member, owner}
-use Rattle.paths.specs.Walk.{marked, added}
-use Rattle.paths.specs.Least.{least, least-append}
+use Rattle.paths.specs.Cited.Marks.{marked, added}
+use Rattle.paths.specs.Cited.Least.{least}
+use Rattle.paths.specs.Least.{least-append}
 use Rattle.table.specs.Holds.{kindByte, placeCell, insideCell, tokenAt}
 use Rattle.table.specs.Words.{wordAt}
 use Rattle.reading.specs.Kinds.{nextNo, stores}

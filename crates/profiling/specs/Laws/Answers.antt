@@ -12,8 +12,8 @@ use Rattle.rules.specs.Text.Scan.{sameBytes}
 use Rattle.rules.specs.Declarations.{Name as Word, numberOf}
 use Rattle.rules.specs.Faults.Whole.{mainName}
 use Rattle.laws_accepted.specs.Accepted.Named.{same-equal, same-itself, found}
-use Rattle.paths.specs.Early.{earlyPlaces}
-use Rattle.paths.specs.Least.{least}
+use Rattle.paths.specs.Cited.Early.{earlyPlaces}
+use Rattle.paths.specs.Cited.Least.{least}
 use Rattle.reading.specs.Laws.Names.{number-bound}
 use Rattle.reading.specs.Laws.Meanings.{table-size}
 use Rattle.profiling.specs.Spelt.{SpeltDescription, whole}

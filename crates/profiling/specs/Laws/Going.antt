@@ -11,8 +11,9 @@ use Rattle.cells.specs.Cells.{cell, putCell}
 use Rattle.rules.specs.Grammar.Trees.{Tokens}
 use Rattle.table.specs.Holds.{kindByte, tokenAt}
 use Rattle.table.specs.Words.{wordAt}
-use Rattle.paths.specs.Walk.{Marks}
-use Rattle.paths.specs.Least.{least, least-under}
+use Rattle.paths.specs.Cited.Marks.{Marks}
+use Rattle.paths.specs.Cited.Least.{least}
+use Rattle.paths.specs.Least.{least-under}
 use Rattle.reading.specs.Kinds.{mode as modeOf}
 use Rattle.table.specs.Scans.{no as kindOf}
 use Rattle.reading.specs.Laws.Reading.{kinded, next-token, no-more}

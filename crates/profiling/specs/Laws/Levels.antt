@@ -14,20 +14,19 @@ use Rattle.cells.specs.Cells.{cell, putCell}
 use Rattle.rules.specs.Text.Tokens.{Token}
 use Rattle.rules.specs.Grammar.Trees.{Tokens, Action, block, actionTokens, unnamed, named, bit as one-bit, upto, bitless, main-bits}
 use Rattle.rules.specs.Grammar.Trees.{Declaration, plain, main, words, with-bits, bare-body, carrier, given, body, mapped, declarationsTokens}
-use Rattle.rules.specs.Limits.{deepest}
+use Rattle.rules.specs.Limits.{deepest, longestChain}
 use Rattle.rules.specs.Declarations.{Name as Word, Table, Declared, declaredOf, numberOf, bodyOf, bodyNumber}
 use Rattle.rules.specs.Steps.Runs.{bodyAct}
-use Rattle.rules.specs.Limits.{longestChain}
 use Rattle.laws_accepted.specs.Accepted.Named.{found}
 use Rattle.laws_grammar.specs.Cited.Nesting.{actionNest}
 use Rattle.laws_orders.specs.Orders.Tests.{impossible}
 use Rattle.table.specs.Holds.{kindByte, tokenAt}
 use Rattle.table.specs.Words.{wordAt}
 use Rattle.table.specs.Declarations.{nameTokens, declarationList, all-declared}
-use Rattle.paths.specs.Early.{Report, inside, passed, early, earlyI, bodyEarly}
+use Rattle.paths.specs.Cited.Early.{Report, inside, passed, early, earlyI, bodyEarly}
 use Rattle.paths.specs.Walk.{walkBody}
 use Rattle.paths.specs.WalkLaws.{body-level}
-use Rattle.paths.specs.Least.{least}
+use Rattle.paths.specs.Cited.Least.{least}
 use Rattle.links.specs.Laws.Layout.{body-shallow}
 use Rattle.table.specs.Scans.{no as kindOf}
 use Rattle.reading.specs.Laws.Reading.{kinded, next-token, no-more}

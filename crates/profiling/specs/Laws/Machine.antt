@@ -21,8 +21,9 @@ use Rattle.trees.specs.Expressions.{Expressed, passes, access-written, expressi
 use Rattle.trees.specs.Selectors.{settles, selector-written}
 use Rattle.laws_grammar.specs.Cited.Nesting.{actionNest, membersNest, alternativesNest, countedNest, selectedNest, selectedMoreNest}
 use Rattle.laws_orders.specs.Orders.Tests.{member-append}
-use Rattle.paths.specs.Early.{Report}
-use Rattle.paths.specs.Walk.{Marks, Slot, slot, marked, cleared, added, unmarked, walk, walkMembers, walkAlternatives, walkCounted, walkSelected, walkMore, walkBody}
+use Rattle.paths.specs.Cited.Early.{Report}
+use Rattle.paths.specs.Cited.Marks.{Marks, Slot, slot, marked, cleared, added, unmarked}
+use Rattle.paths.specs.Walk.{walk, walkMembers, walkAlternatives, walkCounted, walkSelected, walkMore, walkBody}
 use Rattle.reading.specs.Kinds.{stores, tests, begins, mode}
 use Rattle.reading.specs.Laws.Hearing.{Apart, by-comma, by-semi, by-end, by-next, members-apart, counted-apart, more-apart}
 use Rattle.nesting.specs.Machine.{Frame, frame, Dest, idle, parts, State, state, settled, begun, opened, none-open, acted, run, outset}

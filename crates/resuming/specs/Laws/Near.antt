@@ -16,7 +16,7 @@ use Rattle.rules.specs.Steps.Runs.{bodyAct}
 use Rattle.rules.specs.Whole.Sets.{member, stores}
 use Rattle.rules.specs.Faults.Whole.{mainName}
 use Rattle.laws_accepted.specs.Accepted.Named.{found-body}
-use Rattle.paths.specs.Early.{Report, nowhere, early, earlyI, earlyAlts, bodyEarly, earlyPlaces}
+use Rattle.paths.specs.Cited.Early.{Report, nowhere, early, earlyI, earlyAlts, bodyEarly, earlyPlaces}
 use Rattle.paths.specs.Least.{Under}
 use Rattle.table.specs.Holds.{tokenAt}
 use Rattle.scopes.specs.Laws.Behind.{Made, expression-made, transfer-made, selector-made}

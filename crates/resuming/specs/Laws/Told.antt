@@ -17,8 +17,9 @@ use Rattle.rules.specs.Paths.{Profile, passes, fails, folded, storageOf, not-ac
 use Rattle.rules.specs.Calls.Memory.{Memory, Enough, settled}
 use Rattle.rules.specs.Calls.Profile.{ProfileCall, answer, profileNumber, profileNumbers}
 use Rattle.rules.specs.Calls.Profile as call
-use Rattle.paths.specs.Early.{earlyPlaces, verdict, onStorage, onBody, profile}
-use Rattle.paths.specs.Least.{least, verdict-is}
+use Rattle.paths.specs.Cited.Early.{earlyPlaces, verdict, onStorage, onBody, profile}
+use Rattle.paths.specs.Cited.Least.{least}
+use Rattle.paths.specs.Least.{verdict-is}
 use Rattle.paths.specs.Profile.{profile-right, accepted-is-orderly}
 use Rattle.lent.specs.Numbers.{numbersOf}
 use Rattle.lent.specs.Measured.{Unread, short-memory, long-text, none as enough-and-short}

@@ -14,7 +14,7 @@ use Rattle.rules.specs.Declarations.{totalWords}
 use Rattle.rules.specs.Steps.Evaluation.{Carriers, Field}
 use Rattle.rules.specs.Stores.{Entry, entry, entriesOf}
 use Rattle.values.specs.Laws.Cuts.{pieces, cut-pieces}
-use Rattle.traces.specs.Machine.{stores}
+use Rattle.traces.specs.Cited.Events.{stores}
 use Rattle.operands.specs.Cells.{cellFirst, cellBits}
 use Rattle.evaluation.specs.Stores.{sizes, Put, StoresAt}
 use Rattle.evaluation.specs.Laws.Stores.{Storing, storing, stored-all, next-field, packed, turn-writes, stored-turn}

@@ -5,7 +5,7 @@ use mathlib.Core.Bool.{Bool, true, false}
 use mathlib.Core.List.{List, [], _∷_, _++_, map}
 use lib.Dec.{eqb}
 use lib.ListN.{length}
-use Rattle.traces.specs.Machine.{Event, opens, turns, closes}
+use Rattle.traces.specs.Cited.Events.{Event, opens, turns, closes}
 
 -- members of groups by their numbers: those around an instruction, the innermost first; of a member, how many of its group come before it, and whether it is the last
 pub record Grouping : Type 0 where

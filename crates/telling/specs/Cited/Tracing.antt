@@ -8,8 +8,8 @@ use Rattle.rules.specs.Steps.Evaluation.{Carriers, Outcome, gives, faulty}
 use Rattle.rules.specs.Steps.Runs.{Worked, perform, Run, runWith, done, halted, paused, faulted}
 use Rattle.laws_orders.specs.Cited.Flat.{Link, at, exit, Instr, ifI, decodeI, goI, callI, stopI, moveI, Code, At, pc, over, halt, broken, push, find, workM}
 use Rattle.laws_orders.specs.Cited.Flat.{Machine, runs, ended, stood, broke, put}
-use Rattle.traces.specs.Members.{Block}
-use Rattle.traces.specs.Machine.{Event, stores}
+use Rattle.traces.specs.Cited.Entries.{Block}
+use Rattle.traces.specs.Cited.Events.{Event, stores}
 use Rattle.telling.specs.Cited.Passing.{Grouping, Passing, closed, groupEvent, pairEvents, passage}
 
 -- the control that a step has come to, and what it passed

@@ -17,8 +17,8 @@ use Rattle.stepping.specs.declared.steps.Moved.the-variants.{Go, Call, Stop, Fa
 use Rattle.stepping.specs.Steps as runner
 use Rattle.stepping.specs.Steps.{StepAt}
 use Rattle.runner.specs.Runs.{stackOf}
-use Rattle.traces.specs.Machine.{Event}
-use Rattle.traces.specs.Members.{Block}
+use Rattle.traces.specs.Cited.Events.{Event}
+use Rattle.traces.specs.Cited.Entries.{Block}
 use Rattle.telling.specs.Cited.Passing.{Grouping, Passing, groupEvent}
 use Rattle.telling.specs.Cited.Tracing.{Told, linkOf, resume, return, follow, Report, passes, storeReport, groupIn, groupsOf, Stepped}
 use Rattle.matching.specs.Matching.{Matching, toldAll}

@@ -9,7 +9,7 @@ use lib.Dec.{eqb, ltb}
 use lib.ListN.{length, drop}
 use Rattle.cells.specs.Cells.{cell}
 use Rattle.rules.specs.Limits.{deepest}
-use Rattle.bounds.specs.Walk.{endless}
+use Rattle.bounds.specs.Cited.Counts.{endless}
 use Rattle.table.specs.Holds.{kindByte, insideCell}
 use Rattle.table.specs.Words.{wordAt}
 use Rattle.reading.specs.Kinds.{nextNo}

@@ -1,6 +1,6 @@
 -- `counting::counts::up` meets its contract.
 use borrow.Author.Needs.{needs}
-use Rattle.bounds.specs.Walk.{up}
+use Rattle.bounds.specs.Cited.Counts.{up}
 use Rattle.counting.proofs.counts.up.Statement.{statement}
 use Rattle.counting.proofs.counts.up.Tie as tie
 

@@ -4,7 +4,7 @@ use borrow.Author.Needs.{needs}
 use native.Mathlib.Omega.{arith}
 use mathlib.Core.Path.{_≡_, refl}
 use lib.ListN.{length}
-use Rattle.traces.specs.Machine.{closes}
+use Rattle.traces.specs.Cited.Events.{closes}
 use Rattle.telling.specs.Cited.Passing.{times}
 use Rattle.passing.specs.Laws.Telling.{Left, all-left, one-of-many, none-of-many}
 use Rattle.passing.proofs.meeting.close_all.Statement.{statement}

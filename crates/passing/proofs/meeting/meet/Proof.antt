@@ -6,7 +6,7 @@ use Prim.Native.Nat.{_+_, _≤_}
 use mathlib.Core.Path.{_≡_, refl}
 use lib.ListN.{length}
 use Rattle.rules.specs.Limits.{deepest}
-use Rattle.traces.specs.Machine.{turns, closes}
+use Rattle.traces.specs.Cited.Events.{turns, closes}
 use Rattle.members.specs.Cells.{cellsIn}
 use Rattle.passing.specs.Climbing.{meetTold}
 use Rattle.passing.specs.Laws.Telling.{Left, all-left, left-as, one-told, all-told, still-fits}

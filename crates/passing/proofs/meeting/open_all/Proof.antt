@@ -4,7 +4,7 @@ use borrow.Author.Needs.{needs}
 use native.Mathlib.Omega.{arith}
 use mathlib.Core.Path.{_≡_, refl}
 use lib.ListN.{length}
-use Rattle.traces.specs.Machine.{opens}
+use Rattle.traces.specs.Cited.Events.{opens}
 use Rattle.telling.specs.Cited.Passing.{times}
 use Rattle.passing.specs.Laws.Telling.{Left, all-left, one-of-many, none-of-many, one-opens, still-fits}
 use Rattle.passing.proofs.meeting.open_all.Statement.{statement}

@@ -6,17 +6,14 @@ use mathlib.Core.Bool.{Bool, true, false, cond, not, _||_, _&&_}
 use mathlib.Core.List.{List, [], _∷_, _++_}
 use mathlib.Core.Option.{Option, none, some}
 use Rattle.rules.specs.Text.Scan.{sameBytes}
-use Rattle.rules.specs.Text.Scan.{scan}
-use Rattle.rules.specs.Grammar.Trees.{Action, Description}
-use Rattle.rules.specs.Declarations.{Name, Table, declarations, bodyOf}
+use Rattle.rules.specs.Grammar.Trees.{Action}
+use Rattle.rules.specs.Declarations.{Name, Table, bodyOf}
 use Rattle.rules.specs.Steps.Actions.{Access, Act, seq, par, label, ins, Ins, iff, decode, repeat, leave, restart, call, stop, noop, transfer, Alts, end, alt, transferPlace}
 use Rattle.rules.specs.Steps.Runs.{bodyAct}
 use Rattle.rules.specs.Whole.Sets.{member, stores}
 use Rattle.rules.specs.Limits.{longestChain}
 use Rattle.rules.specs.Faults.Whole.{mainName}
-use Rattle.rules.specs.Answers.{Verdict, accepted, refused}
-use Rattle.laws_grammar.specs.Answers.{descriptionOf, check}
-use Rattle.rules.specs.Paths.{storageOf, Profile, passes, fails, folded}
+use Rattle.rules.specs.Paths.{storageOf, Profile, passes, fails}
 
 pub record Report : Type 0 where
   pub places : List ℕ
@@ -115,15 +112,3 @@ onBody ds test output (some a) = onStorage ds test (storageOf ds output)
 
 unfoldable pub profile : Table → Name → Name → Profile
 profile ds test output = onBody ds test output (bodyOf ds test)
-
--- of a text
-abbrev pub byDescription : Option Description → Name → Name → Profile
-byDescription none test output = fails 0 0
-byDescription (some d) test output = profile (declarations d) test output
-
-abbrev pub byVerdict : Verdict → Option Description → Name → Name → Profile
-byVerdict (refused m p) d test output = fails m p
-byVerdict (accepted n w) d test output = byDescription d test output
-
-unfoldable pub answer : List ℕ → List ℕ → List ℕ → Profile
-answer text test output = byVerdict (check text) (descriptionOf (scan text .tokens)) (folded test) (folded output)
