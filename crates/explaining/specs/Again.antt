@@ -2,17 +2,14 @@
 use Prim.Native.Nat.{ℕ}
 use mathlib.Core.Path.{_≡_}
 use mathlib.Core.List.{List, []}
-use mathlib.Core.Option.{some}
 use lib.ListN.{length}
 use Rattle.rules.specs.Text.Scan.{scan, fine}
 use Rattle.rules.specs.Grammar.Trees.{Description, flatten}
 use Rattle.rules.specs.Grammar.Verdict.{Crowded}
 use Rattle.rules.specs.Declarations.{declarations, outerName}
-use Rattle.rules.specs.Faults.Fault.{fault, byNumber, least}
 use Rattle.rules.specs.Faults.Declared.{faults30}
-use Rattle.rules.specs.Faults.Whole.{faults50}
 use Rattle.table.specs.Holds.{Holds}
-use Rattle.reading.specs.Reading.{Reading, tableOf}
+use Rattle.reading.specs.Reading.{Reading}
 use Rattle.reader.specs.declared.declaring.Standing.{Standing}
 use Rattle.reader.specs.declared.declaring.Standing.the-variants.{Fine, Refused}
 
@@ -37,8 +34,3 @@ pub record Reread (text records decls : List ℕ) (m n : ℕ) : Type 0 where
 abbrev pub Rereads : List ℕ → List ℕ → List ℕ → Standing → Type 0
 Rereads text records decls (Refused m p) = ⊥
 Rereads text records decls (Fine m n) = Reread text records decls m n
-
--- a description in the table that is refused with 53
-pub record RacedAt (records decls : List ℕ) (m n place : ℕ) : Type 0 where
-  pub reading : Reading records decls m n
-  pub refused : least byNumber (faults50 (tableOf reading)) ≡ some (fault 53 place)

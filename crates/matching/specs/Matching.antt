@@ -60,10 +60,7 @@ abbrev pub partAt : Pos → Entry → Matching → Matching
 partAt (at k) x z = with (fitAt k x (z .cells)) z
 partAt never x z = z
 
--- no entry is there for a store; the entry k is bad for it
-abbrev pub missed : Matching → Matching
-missed z = with (marked (z .cells) never never) z
-
+-- the entry k is bad for a store
 abbrev pub spoilt : ℕ → Matching → Matching
 spoilt k z = with (marked (z .cells) never (at k)) z
 

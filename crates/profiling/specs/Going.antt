@@ -1,16 +1,15 @@
--- Where a walk begins, where it has come to, and what it tells.
+-- Where a walk begins, and what it tells.
 use Prim.Native.Nat.{ℕ, _+_, _*_, _<_, _≤_}
 use mathlib.Core.Path.{_≡_}
 use mathlib.Core.List.{List}
-use lib.ListN.{length, drop}
+use lib.ListN.{length}
 use Rattle.cells.specs.Cells.{cell}
 use Rattle.rules.specs.Grammar.Trees.{Tokens}
 use Rattle.paths.specs.Cited.Least.{least}
 use Rattle.table.specs.Words.{NameAt, wordAt}
-use Rattle.profiling.specs.Spelt.{whole}
-use Rattle.nesting.specs.Machine.{State, outset, run}
+use Rattle.nesting.specs.Machine.{State, outset}
 use Rattle.nesting.specs.Holding.{unseen, enough, Book, book, Shows}
-use Rattle.profiling.specs.Walking.{Scene, Finds, marksOf}
+use Rattle.profiling.specs.Walking.{Scene, Finds}
 use Rattle.nesting.specs.declared.nests.Nest.{Nest}
 use Rattle.profiling.specs.declared.tasks.Task.{Task}
 use Rattle.profiling.specs.declared.walks.Found.{Found}
@@ -40,19 +39,3 @@ Tells room s r = (ts : Book) (i : ℕ) (z : State) → Shows ts room i s z → (
 pub record Walked (records decls table : List ℕ) (t : Task) (name from : ℕ) (r : Found) : Type 0 where
   pub fits : r .low < 65536
   pub finds : (g : Scene records decls table t) → Finds g name from r
-
--- at the token i, in a mode
-pub record SoFar {records decls table : List ℕ} {t : Task} (g : Scene records decls table t) (room : List ℕ) (name from : ℕ) (s : Nest) (mode i : ℕ) : Type 0 where
-  pub state : State
-  pub shows : Shows (book records (g .written .tokens)) room i s state
-  pub runs : run (whole (g .written)) (g .test) (t .out) (g .known) mode state (drop i (g .written .tokens)) ≡ marksOf g name from
-
-pub record Going (records decls table first room : List ℕ) (t : Task) (name from : ℕ) (s : Nest) (mode i : ℕ) : Type 0 where
-  pub scene : Scene records decls table t
-  pub size : length room ≡ length first
-  pub past : 0 < from
-  pub low : mode + from ≤ i
-  pub few : i ≤ 8192
-  pub count-few : t .n ≤ 8192
-  pub record-room : 8 * t .n ≤ length records
-  pub so-far : (g : Scene records decls table t) → SoFar g room name from s mode i

@@ -74,14 +74,6 @@ pub record Part (records decls table old new : List ℕ) (t : Task) (k : ℕ) : 
   pub known : (v : SpeltDescription records decls (t .m) (t .n)) (test : Word) → Aimed v test (t .aim) → (l : ℕ) → Level v test (t .out) l table
       → (w : Word) → numberOf (whole v) w ≡ some k → Known new k (bodyEarly (whole v) test (t .out) (suc l) w)
 
--- the first k declarations are
-pub record Parts (records decls table first room₀ new room : List ℕ) (t : Task) (k : ℕ) : Type 0 where
-  pub levelled : Levelled records decls table new room t
-  pub size : length new ≡ length first
-  pub room-size : length room ≡ length room₀
-  pub known : (v : SpeltDescription records decls (t .m) (t .n)) (test : Word) → Aimed v test (t .aim) → (l : ℕ) → Level v test (t .out) l table
-      → (j : ℕ) → j < k → (w : Word) → numberOf (whole v) w ≡ some j → Known new j (bodyEarly (whole v) test (t .out) (suc l) w)
-
 pub record Rounded (records decls table new : List ℕ) (t : Task) : Type 0 where
   pub known : (v : SpeltDescription records decls (t .m) (t .n)) (test : Word) → Aimed v test (t .aim) → (l : ℕ) → Level v test (t .out) l table
       → Level v test (t .out) (suc l) new
@@ -95,13 +87,6 @@ pub record Starting (records decls table next room : List ℕ) (t : Task) : Type
   pub table-room : 1028 ≤ length table
   pub next-room : 1028 ≤ length next
   pub space : enough ≤ length room
-
--- k rounds are over
-pub record Turned (records decls table next room : List ℕ) (t : Task) (k : ℕ) : Type 0 where
-  pub starting : Starting records decls table next room t
-  pub even : ℕ
-  pub is-even : k ≡ 2 * even
-  pub known : (v : SpeltDescription records decls (t .m) (t .n)) (test : Word) → Aimed v test (t .aim) → Level v test (t .out) k table
 
 abbrev pub Known16 : List ℕ → List ℕ → List ℕ → Task → Type 0
 Known16 records decls table t =

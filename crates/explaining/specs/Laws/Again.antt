@@ -3,7 +3,7 @@ use Prim.Native.Nat.{ℕ, _+_, _*_, _<_, _≤_, min}
 use mathlib.Core.Path.{_≡_, refl, sym, ap, _∙_}
 use mathlib.Core.Bool.{false}
 use mathlib.Core.List.{List}
-use mathlib.Core.Option.{Option·none-ne-some}
+use mathlib.Core.Option.{some, Option·none-ne-some}
 use native.Mathlib.Decide.{decLt}
 use native.Mathlib.Omega.{arith}
 use lib.ListN.{length}
@@ -36,7 +36,7 @@ use Rattle.reader.specs.Parsed.{Written as ScanWritten}
 use Rattle.reader.specs.Laws.Parsed.{written-holds}
 use Rattle.reader.specs.Laws.Read.{standingOf}
 use Rattle.reasons.specs.Laws.Whole.{whole-refused}
-use Rattle.explaining.specs.Again.{Sound, Rescanned, Reread, Rereads, RacedAt}
+use Rattle.explaining.specs.Again.{Sound, Rescanned, Reread, Rereads}
 
 -- a text that is refused for its whole is sound
 pub sound : {text : List ℕ} {m p : ℕ} → 50 ≤ m → Checks text (refused m p) → Sound text
@@ -80,6 +80,11 @@ module _ {text records values : List ℕ} {n : ℕ} (r : Rescanned text records 
       }
 
 -- a text refused with 53, in the table
+-- a description in the table that is refused with 53
+pub record RacedAt (records decls : List ℕ) (m n place : ℕ) : Type 0 where
+  pub reading : Reading records decls m n
+  pub refused : least byNumber (faults50 (tableOf reading)) ≡ some (fault 53 place)
+
 pub raced-at : {text records decls : List ℕ} {m n p : ℕ} → Checks text (refused 53 p) → (r : Reread text records decls m n) → RacedAt records decls m n p
 raced-at c r =
     let w = whole-refused (omega arith) refl c in

@@ -12,9 +12,9 @@ use lib.ListN.{length, getD}
 use Rattle.cells.specs.Cells.{cell, putCell}
 use Rattle.rules.specs.Stores.{Entry, entry}
 use Rattle.traces.specs.Cited.Entries.{sameEntry}
-use Rattle.traces.specs.Cited.Marking.{Pos, at, lesser, greater}
+use Rattle.traces.specs.Cited.Marking.{Pos, at, lesser, greater, never, marked}
 use Rattle.traces.specs.Cited.Events.{stores, opens, turns, closes}
-use Rattle.matching.specs.Matching.{group, Matching, matching, turned, closed, with, told, partAt, missed, spoilt, toldPart}
+use Rattle.matching.specs.Matching.{group, Matching, matching, turned, closed, with, told, partAt, spoilt, toldPart}
 use Rattle.matching.specs.Room.{endless, mostGroups, groupsCell, floorCell, badCell, depthCell, posOf, groupsIn, matchingIn, Sound, Stands}
 use Rattle.linking.specs.Seeking.{Seeks}
 use Rattle.noting.specs.Laws.Parts.{never-lesser, fit-past, fit-taken, fit-other, fit-same}
@@ -27,6 +27,10 @@ stands-as v e = record { sound = v .sound; is = v .is ∙ e }
 
 pub stands-still : {l : List Entry} {b : List ℕ} {z : Matching} → Sound l b → matchingIn l b ≡ z → Stands l b z
 stands-still s e = record { sound = s; is = e }
+
+-- no entry is there for a store
+abbrev missed : Matching → Matching
+missed z = with (marked (z .cells) never never) z
 
 module _ {l : List Entry} {b : List ℕ} (s : Sound l b) where
   -- a store finds no entry

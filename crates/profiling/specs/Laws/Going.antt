@@ -23,11 +23,27 @@ use Rattle.nesting.specs.Machine.{Frame, State, outset, none-open, acted, run}
 use Rattle.nesting.specs.Holding.{unseen, book, unlinked, linked, LabelPut, no-frames, Shows, Standing}
 use Rattle.nesting.specs.Grouping.{nest}
 use Rattle.profiling.specs.Walking.{Scene, Acting, Acted, Finds, marksOf}
-use Rattle.profiling.specs.Going.{Cleared, Beginning, Begins, Tells, Walked, Going}
+use Rattle.profiling.specs.Going.{Cleared, Beginning, Begins, Tells, Walked}
 use Rattle.nesting.specs.Laws.Holding.{bit-test, put-size, put-same, put-here}
 use Rattle.nesting.specs.declared.nests.Nest.{Nest}
 use Rattle.profiling.specs.declared.tasks.Task.{Task}
 use Rattle.profiling.specs.declared.walks.Found.{Found}
+
+-- at the token i, in a mode
+pub record SoFar {records decls table : List ℕ} {t : Task} (g : Scene records decls table t) (room : List ℕ) (name from : ℕ) (s : Nest) (mode i : ℕ) : Type 0 where
+  pub state : State
+  pub shows : Shows (book records (g .written .tokens)) room i s state
+  pub runs : run (whole (g .written)) (g .test) (t .out) (g .known) mode state (drop i (g .written .tokens)) ≡ marksOf g name from
+
+pub record Going (records decls table first room : List ℕ) (t : Task) (name from : ℕ) (s : Nest) (mode i : ℕ) : Type 0 where
+  pub scene : Scene records decls table t
+  pub size : length room ≡ length first
+  pub past : 0 < from
+  pub low : mode + from ≤ i
+  pub few : i ≤ 8192
+  pub count-few : t .n ≤ 8192
+  pub record-room : 8 * t .n ≤ length records
+  pub so-far : (g : Scene records decls table t) → SoFar g room name from s mode i
 
 pub record Clearing (first room : List ℕ) (k : ℕ) : Type 0 where
   pub cleared : Cleared first room k

@@ -42,7 +42,7 @@ use Rattle.nesting.specs.Holding.{bit, unseen}
 use Rattle.nesting.specs.Machine.{run, outset}
 use Rattle.profiling.specs.Walking.{numberOr, indexOf, Known, Scene}
 use Rattle.profiling.specs.Going.{Beginning, Walked}
-use Rattle.profiling.specs.Levels.{toBegin, BeginBehind, Aimed, Level, Put, Blank, Levelled, PartAt, Part, Parts, Rounded, Starting, Turned, Known16}
+use Rattle.profiling.specs.Levels.{toBegin, BeginBehind, Aimed, Level, Put, Blank, Levelled, PartAt, Part, Rounded, Starting, Known16}
 use Rattle.profiling.specs.Laws.Machine.{body-read}
 use Rattle.nesting.specs.Laws.Holding.{put-size, put-same, put-here}
 use Rattle.profiling.specs.declared.tasks.Task.{Task}
@@ -303,6 +303,14 @@ pub to-put : {records decls table next room : List ℕ} {t : Task} {k name start
     → Walked records decls table t name start f → (1028 ≤ length next) × (k ≤ 256) × (f .low < 65536)
 to-put x f = let y = x .levelled in (y .next-room, omega (arith, x .within, y .written .ready .few), f .fits)
 
+-- the first k declarations are
+pub record Parts (records decls table first room₀ new room : List ℕ) (t : Task) (k : ℕ) : Type 0 where
+  pub levelled : Levelled records decls table new room t
+  pub size : length new ≡ length first
+  pub room-size : length room ≡ length room₀
+  pub known : (v : SpeltDescription records decls (t .m) (t .n)) (test : Word) → Aimed v test (t .aim) → (l : ℕ) → Level v test (t .out) l table
+      → (j : ℕ) → j < k → (w : Word) → numberOf (whole v) w ≡ some j → Known new j (bodyEarly (whole v) test (t .out) (suc l) w)
+
 -- one round
 module _ {records decls table next room : List ℕ} {t : Task} where
   pub parts-none : Levelled records decls table next room t → Parts records decls table next room next room t 0
@@ -350,6 +358,13 @@ module _ {records decls table next room : List ℕ} {t : Task} where
 
     pub last-room : (1028 ≤ length next) × (256 ≤ 256) × (65535 < 65536)
     last-room = (x .levelled .next-room, omega arith, omega arith)
+
+-- k rounds are over
+pub record Turned (records decls table next room : List ℕ) (t : Task) (k : ℕ) : Type 0 where
+  pub starting : Starting records decls table next room t
+  pub even : ℕ
+  pub is-even : k ≡ 2 * even
+  pub known : (v : SpeltDescription records decls (t .m) (t .n)) (test : Word) → Aimed v test (t .aim) → Level v test (t .out) k table
 
 -- all rounds
 pub record Turning (records decls table₀ next₀ room₀ table next room : List ℕ) (t : Task) (k : ℕ) : Type 0 where

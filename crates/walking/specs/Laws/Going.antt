@@ -1,5 +1,5 @@
 -- The walk along the tokens of a body.
-use Prim.Native.Nat.{ℕ, _+_, _<_, _≤_}
+use Prim.Native.Nat.{ℕ, _+_, _<_, _≤_, _*_}
 use mathlib.Core.Path.{_≡_, refl, sym, ap, _∙_}
 use mathlib.Core.Bool.{Bool, true, false}
 use mathlib.Core.List.{List, [], _∷_}
@@ -13,9 +13,23 @@ use Rattle.reading.specs.Laws.Reading.{kinded, next-token, no-more}
 use Rattle.counting.specs.Machine.{Frame, State, outset, none-open, acted, run}
 use Rattle.counting.specs.Holding.{no-frames, Shows}
 use Rattle.walking.specs.Walking.{Scene, Acting, Acted, word, behind}
-use Rattle.walking.specs.Going.{Beginning, Walked, Going, countFrom}
+use Rattle.walking.specs.Going.{Beginning, Walked, countFrom}
 use Rattle.counting.specs.Laws.Holding.{nest}
 use Rattle.counting.specs.declared.counts.Nest.{Nest}
+
+-- at the token i, in a mode
+pub record SoFar {records table : List ℕ} {m n : ℕ} (g : Scene records table m n) (room : List ℕ) (from : ℕ) (s : Nest) (mode i : ℕ) : Type 0 where
+  pub state : State
+  pub shows : Shows room s state
+  pub runs : run (g .counts) mode state (drop i (g .reading .tokens)) ≡ countFrom g from
+
+pub record Going (records table first room : List ℕ) (m n from : ℕ) (s : Nest) (mode i : ℕ) : Type 0 where
+  pub scene : Scene records table m n
+  pub size : length room ≡ length first
+  pub low : mode ≤ i
+  pub few : n ≤ 8192
+  pub record-room : 8 * n ≤ length records
+  pub so-far : (g : Scene records table m n) → SoFar g room from s mode i
 
 pub goes : {records table room : List ℕ} {m n from : ℕ} → Beginning records table room m n → Going records table room room m n from (nest 0 0) 0 from
 goes {from = from} b = record {

@@ -1,8 +1,7 @@
 -- `profiling::rounds::round` meets its contract.
 use borrow.Author.Needs.{needs}
 use Prim.Native.Nat.{_-_}
-use Rattle.profiling.specs.Levels.{Parts}
-use Rattle.profiling.specs.Laws.Levels.{parts-none, part-at, parts-more, last-room, round-done}
+use Rattle.profiling.specs.Laws.Levels.{Parts, parts-none, part-at, parts-more, last-room, round-done}
 use Rattle.profiling.proofs.rounds.round.Statement.{statement}
 use Rattle.profiling.proofs.rounds.round.Tie as tie
 

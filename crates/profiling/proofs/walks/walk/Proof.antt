@@ -1,8 +1,7 @@
 -- `profiling::walks::walk` meets its contract.
 use borrow.Author.Needs.{needs}
 use Prim.Native.Nat.{_-_}
-use Rattle.profiling.specs.Going.{Going}
-use Rattle.profiling.specs.Laws.Going.{to-begin, goes, going-acts, stands-after, ended, goes-on, going-stands, over}
+use Rattle.profiling.specs.Laws.Going.{Going, to-begin, goes, going-acts, stands-after, ended, goes-on, going-stands, over}
 use Rattle.profiling.proofs.walks.walk.Statement.{statement}
 use Rattle.profiling.proofs.walks.walk.Tie as tie
 

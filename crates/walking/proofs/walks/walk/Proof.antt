@@ -1,8 +1,7 @@
 -- `walking::walks::walk` meets its contract.
 use borrow.Author.Needs.{needs}
 use Prim.Native.Nat.{_-_}
-use Rattle.walking.specs.Going.{Going}
-use Rattle.walking.specs.Laws.Going.{goes, going-acts, ended, goes-on, over}
+use Rattle.walking.specs.Laws.Going.{Going, goes, going-acts, ended, goes-on, over}
 use Rattle.walking.proofs.walks.walk.Statement.{statement}
 use Rattle.walking.proofs.walks.walk.Tie as tie
 
