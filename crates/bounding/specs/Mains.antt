@@ -3,6 +3,7 @@ use Prim.Native.Nat.{ℕ, _<_, _≤_}
 use mathlib.Core.Path.{_≡_}
 use mathlib.Core.List.{List}
 use lib.ListN.{length}
+use Rattle.rules.specs.Text.Tokens.{Name, kindNo}
 use Rattle.rules.specs.Limits.{longestChain}
 use Rattle.rules.specs.Declarations.{declarations}
 use Rattle.rules.specs.Faults.Whole.{mainName}
@@ -16,7 +17,7 @@ use Rattle.bounding.specs.Filling.{Ready}
 -- the token r is MAIN's name
 pub record MainNamed {records decls : List ℕ} {m : ℕ} (v : MainIn records decls m) (r : ℕ) : Type 0 where
   pub within : r < length (v .tokens)
-  pub kind : kindByte records r ≡ 0
+  pub kind : kindByte records r ≡ kindNo Name
   pub named : wordAt (v .tokens) r ≡ mainName (declarations (v .description))
 
 pub record Longest (records decls : List ℕ) (m n r : ℕ) : Type 0 where

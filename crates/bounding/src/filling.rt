@@ -10,6 +10,7 @@ ghost use mathlib.Core.Path.{_≡_};
 ghost use mathlib.Core.Bool.{false};
 ghost use Prim.Native.Nat.{_<_, _≤_};
 ghost use lib.ListN.{length};
+ghost use Rattle.rules.specs.Text.Tokens.{Name, kindNo};
 ghost use Rattle.rules.specs.Whole.Sets.{anyName, chainOver};
 ghost use Rattle.table.specs.Holds.{kindByte};
 ghost use Rattle.reading.specs.Reading.{tableOf};
@@ -43,7 +44,7 @@ pub fn fill(
     i: usize,
     left: usize,
 )
-    requires { ⌜ Fillable (now records) (now decls) (now table) (now room) m n × ((i < n) × ((kindByte (now records) i ≡ 0)
+    requires { ⌜ Fillable (now records) (now decls) (now table) (now room) m n × ((i < n) × ((kindByte (now records) i ≡ kindNo Name)
         × ((left ≤ 16) × ((v : Ready (now records) (now decls) m n) → ShortFrom v i left)))) ⌝ }
     ensures { λ _. ⌜ Fills (now (records .entry)) (now (decls .entry)) (now (table .entry)) (now (table .exit)) m n i ⌝ }
 {

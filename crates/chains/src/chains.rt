@@ -20,6 +20,7 @@ ghost use Prim.Native.Nat.{ℕ, _<_};
 ghost use lib.Dec.{eqb, ltb};
 ghost use lib.ListN.{drop, getElem?};
 ghost use mathlib.Core.Option.{some};
+ghost use Rattle.rules.specs.Text.Tokens.{Name, kindNo};
 ghost use Rattle.rules.specs.Declarations.{Declared};
 ghost use Rattle.rules.specs.Faults.Fault.{when};
 ghost use Rattle.rules.specs.Faults.Whole.{chains};
@@ -44,7 +45,7 @@ pub fn in_level(
     level: Set,
     all: bool,
 ) -> bool
-    requires { ⌜ Reading (now records) (now decls) m n × ((i < n) × (kindByte (now records) i ≡ 0)) ⌝ }
+    requires { ⌜ Reading (now records) (now decls) m n × ((i < n) × (kindByte (now records) i ≡ kindNo Name)) ⌝ }
     ensures { λ r. ⌜ ((v : Reading (now (records .entry)) (now (decls .entry)) m n) → r ≡ inLevel (tableOf v) (level .w) all (wordAt (v .tokens) i)) ⌝ }
 {
     if all {

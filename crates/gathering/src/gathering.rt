@@ -14,6 +14,7 @@ ghost use mathlib.Core.Path.{_≡_};
 ghost use mathlib.Core.Bool.{false};
 ghost use Prim.Native.Nat.{ℕ, _*_, _<_, _≤_};
 ghost use lib.ListN.{length, drop};
+ghost use Rattle.rules.specs.Text.Tokens.{Name as NameKind, kindNo};
 ghost use Rattle.rules.specs.Declarations.{Name};
 ghost use Rattle.rules.specs.Whole.Sets.{anyName, chainOver};
 ghost use Rattle.rules.specs.Limits.{longestChain};
@@ -35,7 +36,7 @@ pub fn gather(
     i: usize,
     left: usize,
 )
-    requires { ⌜ Fillable (now records) (now decls) (now memo) m n × ((i < n) × ((kindByte (now records) i ≡ 0)
+    requires { ⌜ Fillable (now records) (now decls) (now memo) m n × ((i < n) × ((kindByte (now records) i ≡ kindNo NameKind)
         × ((left ≤ 16) × ((v : Reading (now records) (now decls) m n) → chainOver (tableOf v) left (wordAt (v .tokens) i) ≡ false)))) ⌝ }
     ensures { λ _. ⌜ Fills (now (records .entry)) (now (decls .entry)) (now (memo .entry)) (now (memo .exit)) m n i ⌝ }
 {

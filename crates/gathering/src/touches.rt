@@ -19,6 +19,7 @@ ghost use mathlib.Core.Bool.{_||_, true};
 ghost use mathlib.Core.List.{List};
 ghost use Prim.Native.Nat.{ℕ, _*_, _<_, _≤_};
 ghost use lib.ListN.{length};
+ghost use Rattle.rules.specs.Text.Tokens.{Name, kindNo};
 ghost use Rattle.rules.specs.Whole.Sets.{owner, member};
 ghost use Rattle.table.specs.Holds.{kindByte};
 ghost use Rattle.table.specs.Words.{wordAt};
@@ -93,7 +94,7 @@ pub fn joined(t: Touched, u: Touched) -> Touched
 
 // What the body of the name i touches.
 fn called(records: &[u8], decls: &[u8], memo: &[u8], m: usize, n: usize, i: usize) -> Touched
-    requires { ⌜ Reading (now records) (now decls) m n × ((i < n) × ((kindByte (now records) i ≡ 0) × (72 * m ≤ length (now memo)))) ⌝ }
+    requires { ⌜ Reading (now records) (now decls) m n × ((i < n) × ((kindByte (now records) i ≡ kindNo Name) × (72 * m ≤ length (now memo)))) ⌝ }
     ensures { λ r. ⌜ ((v : Reading (now (records .entry)) (now (decls .entry)) m n) → Recalls v (now (memo .entry)) (wordAt (v .tokens) i)
         → Touches v (wordAt (v .tokens) i) (r .reads .w) (r .writes .w) (r .stops)) ⌝ }
 {
@@ -106,7 +107,7 @@ fn called(records: &[u8], decls: &[u8], memo: &[u8], m: usize, n: usize, i: usiz
 
 // The storage carrier under the name i, as it is remembered; from 256 on there is none.
 fn carried(records: &[u8], decls: &[u8], memo: &[u8], m: usize, n: usize, i: usize) -> usize
-    requires { ⌜ Reading (now records) (now decls) m n × ((i < n) × ((kindByte (now records) i ≡ 0) × ((72 * m ≤ length (now memo))
+    requires { ⌜ Reading (now records) (now decls) m n × ((i < n) × ((kindByte (now records) i ≡ kindNo Name) × ((72 * m ≤ length (now memo))
         × Carrying (now records) (now decls) (now memo) m n))) ⌝ }
     ensures { λ r. ⌜ ((v : Reading (now (records .entry)) (now (decls .entry)) m n) → Owned (owner (tableOf v) (wordAt (v .tokens) i)) r) ⌝ }
 {
@@ -128,7 +129,7 @@ fn named(
     mode: usize,
     t: Touched,
 ) -> Touched
-    requires { ⌜ Reading (now records) (now decls) m n × ((i < n) × ((kindByte (now records) i ≡ 0) × ((72 * m ≤ length (now memo))
+    requires { ⌜ Reading (now records) (now decls) m n × ((i < n) × ((kindByte (now records) i ≡ kindNo Name) × ((72 * m ≤ length (now memo))
         × Carrying (now records) (now decls) (now memo) m n))) ⌝ }
     ensures { λ r. ⌜ Hears (now (records .entry)) (now (decls .entry)) (now (memo .entry)) m n mode i (t .reads .w) (t .writes .w) (t .stops) (r .reads .w) (r .writes .w) (r .stops) ⌝ }
 {

@@ -21,6 +21,7 @@ use values::operate_bits;
 use values::operators::invert;
 ghost use mathlib.Core.Path.{_≡_};
 ghost use Prim.Native.Nat.{_+_};
+ghost use Rattle.rules.specs.Text.Tokens.{LBra, kindNo};
 ghost use Rattle.table.specs.Holds.{kindByte};
 ghost use Rattle.operands.specs.Answers.{Closable, closed, Invertible, inverted};
 ghost use Rattle.operands.specs.Nots.{OperandIn, Bared};
@@ -89,7 +90,7 @@ pub fn access(records: &[u8], values: &[u8], carriers: &[u8], i: usize, depth: u
 
 // An access with a subscript, which is worked out first.
 fn indexed(records: &[u8], values: &[u8], carriers: &[u8], i: usize, depth: usize) -> Located
-    requires { ⌜ AccessAt (now records) (now values) (now carriers) i depth × (kindByte (now records) (i + 1) ≡ 5) ⌝ }
+    requires { ⌜ AccessAt (now records) (now values) (now carriers) i depth × (kindByte (now records) (i + 1) ≡ kindNo LBra) ⌝ }
     ensures { λ r. ⌜ ((v : AccessAt (now (records .entry)) (now (values .entry)) (now (carriers .entry)) i depth) → AccessAnswer v r) ⌝ }
 {
     let index = expression(records, values, carriers, i + 2, depth - 1);

@@ -19,6 +19,7 @@ ghost use mathlib.Core.Path.{_≡_};
 ghost use mathlib.Core.List.{List};
 ghost use Prim.Native.Nat.{ℕ, _+_, _*_, _<_, _≤_};
 ghost use lib.ListN.{length};
+ghost use Rattle.rules.specs.Text.Tokens.{Name, kindNo};
 ghost use Rattle.rules.specs.Whole.Sets.{member, owner};
 ghost use Rattle.table.specs.Holds.{kindByte};
 ghost use Rattle.table.specs.Words.{wordAt};
@@ -31,7 +32,7 @@ pub const UNDECLARED: usize = 256;
 // Where a table has what is known of the name i.
 fn index_of(records: &[u8], m: usize, i: usize) -> usize
     requires { ⌜ (8 * i + 8 ≤ length (now records)) × (m ≤ 256) ⌝ }
-    ensures { λ r. ⌜ (r ≤ 256) × ((decls : List ℕ) (n : ℕ) (v : Reading (now (records .entry)) decls m n) → i < n → kindByte (now (records .entry)) i ≡ 0
+    ensures { λ r. ⌜ (r ≤ 256) × ((decls : List ℕ) (n : ℕ) (v : Reading (now (records .entry)) decls m n) → i < n → kindByte (now (records .entry)) i ≡ kindNo Name
         → r ≡ indexOf (tableOf v) (wordAt (v .tokens) i)) ⌝ }
 {
     let k = inside_at(records, i);
@@ -51,7 +52,7 @@ fn activate(
     i: usize,
     s: Nest,
 ) -> Nest
-    requires { ⌜ Acting (now records) (now decls) (now table) (now room) t i s × (kindByte (now records) i ≡ 0) ⌝ }
+    requires { ⌜ Acting (now records) (now decls) (now table) (now room) t i s × (kindByte (now records) i ≡ kindNo Name) ⌝ }
     ensures { λ r. ⌜ Activates (now (records .entry)) (now (decls .entry)) (now (table .entry)) (now (room .entry)) (now (room .exit)) t i s r ⌝ }
 {
     let aim = t.aim;
@@ -77,7 +78,7 @@ fn activate(
 
 // Whether the name i is the output, or a mapping on it.
 fn hits(records: &[u8], decls: &[u8], t: Task, i: usize) -> bool
-    requires { ⌜ Reading (now records) (now decls) (t .m) (t .n) × ((i < t .n) × (kindByte (now records) i ≡ 0)) × (t .out < 256) ⌝ }
+    requires { ⌜ Reading (now records) (now decls) (t .m) (t .n) × ((i < t .n) × (kindByte (now records) i ≡ kindNo Name)) × (t .out < 256) ⌝ }
     ensures { λ r. ⌜ ((v : Reading (now (records .entry)) (now (decls .entry)) (t .m) (t .n)) → r ≡ member (t .out) (owner (tableOf v) (wordAt (v .tokens) i))) ⌝ }
 {
     let out = t.out;
@@ -96,7 +97,7 @@ pub fn name(
     mode: usize,
     s: Nest,
 ) -> Nest
-    requires { ⌜ Acting (now records) (now decls) (now table) (now room) t i s × (kindByte (now records) i ≡ 0) ⌝ }
+    requires { ⌜ Acting (now records) (now decls) (now table) (now room) t i s × (kindByte (now records) i ≡ kindNo Name) ⌝ }
     ensures { λ r. ⌜ Named (now (records .entry)) (now (decls .entry)) (now (table .entry)) (now (room .entry)) (now (room .exit)) t i mode s r ⌝ }
 {
     if mode != 0 {

@@ -3,7 +3,7 @@ use Prim.Native.Nat.{ℕ, zero, suc}
 use mathlib.Core.Bool.{true, false}
 use mathlib.Core.List.{List, [], _∷_, _++_}
 use lib.Dec.{eqb}
-use Rattle.rules.specs.Text.Tokens.{Token}
+use Rattle.rules.specs.Text.Tokens.{Name, LPar, STOP, Token, kindNo}
 use Rattle.rules.specs.Grammar.Trees.{Tokens}
 use Rattle.rules.specs.Declarations.{Name as Word}
 use Rattle.reading.specs.Kinds.{nextNo, stores, ends, closes, mode}
@@ -15,14 +15,14 @@ pub data Event : Type 0 where
 
 -- a name at the start of an action, or in a destination, by the kind behind it: a target or a label is nothing
 unfoldable pub actingEvent : Word → ℕ → List Event
-actingEvent w k = elim (eqb k 3) [ true ↦ activates w ∷ [] | false ↦ elim (stores k) [ true ↦ writes w ∷ [] | false ↦ [] ] ]
+actingEvent w k = elim (eqb k (kindNo LPar)) [ true ↦ activates w ∷ [] | false ↦ elim (stores k) [ true ↦ writes w ∷ [] | false ↦ [] ] ]
 
 unfoldable pub nameEvent : ℕ → Word → ℕ → List Event
 nameEvent zero w k = actingEvent w k
 nameEvent (suc m) w k = reads w ∷ []
 
 unfoldable pub event : ℕ → Token → ℕ → List Event
-event m t k = elim (eqb (no t) 0) [ true ↦ nameEvent m (t .info .word) k | false ↦ elim (eqb (no t) 29) [ true ↦ halts ∷ [] | false ↦ [] ] ]
+event m t k = elim (eqb (no t) (kindNo Name)) [ true ↦ nameEvent m (t .info .word) k | false ↦ elim (eqb (no t) (kindNo STOP)) [ true ↦ halts ∷ [] | false ↦ [] ] ]
 
 -- the events of the tokens up to the end of the action
 unfoldable pub heard : ℕ → ℕ → Tokens → List Event

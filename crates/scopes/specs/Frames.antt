@@ -5,6 +5,7 @@ use mathlib.Core.Bool.{Bool, true, false}
 use mathlib.Core.List.{List, [], _∷_, _++_}
 use lib.ListN.{length, drop}
 use Rattle.cells.specs.Cells.{cell}
+use Rattle.rules.specs.Text.Tokens.{END, kindNo}
 use Rattle.rules.specs.Grammar.Trees.{Tokens}
 use Rattle.rules.specs.Declarations.{Table}
 use Rattle.rules.specs.Faults.Whole.{Scope}
@@ -62,7 +63,7 @@ pub record Turning (text records labels : List ℕ) (n i kind : ℕ) (several : 
   pub later : 1 ≤ i
   pub few : top + depth < 8192
   pub kind-is : kind ≡ kindByte records i
-  pub inner : kind ≡ 20 → 2 ≤ depth
+  pub inner : kind ≡ kindNo END → 2 ≤ depth
   pub told : Told records n i kind several
 
 -- where a walk goes on behind the token i

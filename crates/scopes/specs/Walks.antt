@@ -5,7 +5,7 @@ use mathlib.Core.Bool.{Bool, true, false, _&&_}
 use mathlib.Core.List.{List, [], _∷_, _++_}
 use mathlib.Core.Option.{none, some}
 use lib.Dec.{eqb}
-use Rattle.rules.specs.Text.Tokens.{Token, BEGIN, NEXT, LEAVE, RESTART, kindNo}
+use Rattle.rules.specs.Text.Tokens.{Name, Comma, Semi, Becomes, BEGIN, END, NEXT, LEAVE, RESTART, Token, kindNo}
 use Rattle.rules.specs.Grammar.Trees.{Tokens}
 use Rattle.rules.specs.Declarations.{Name as Word, Table}
 use Rattle.rules.specs.Whole.Sets.{member}
@@ -43,27 +43,27 @@ lastOpen (o ∷ q ∷ σ) = false
 
 -- behind `:=` the name before it is a label
 unfoldable pub labelling : Token → Scope → Scope
-labelling p s = elim (eqb (no p) 0) [ true ↦ labelled-in (p .info .word) s | false ↦ s ]
+labelling p s = elim (eqb (no p) (kindNo Name)) [ true ↦ labelled-in (p .info .word) s | false ↦ s ]
 
 unfoldable pub jumpAt : Scope → Token → Tokens → List Fault
-jumpAt s t ts = when (jumps (no t) && (eqb (nextNo ts) 0 && aimsOut s (nextWord ts))) 52 (t .info .place)
+jumpAt s t ts = when (jumps (no t) && (eqb (nextNo ts) (kindNo Name) && aimsOut s (nextWord ts))) 52 (t .info .place)
 
 module _ (ds : Table) where
   -- with the scopes around the open blocks, the scope here and the token before
   unfoldable pub walk : List Scope → Scope → Token → Tokens → List Fault
   walk σ s p [] = []
   walk σ s p (t ∷ ts) =
-      elim (eqb (no t) 19) [
+      elim (eqb (no t) (kindNo BEGIN)) [
         | true ↦ groupAt ds ts ++ walk (s ∷ σ) (memberScope ds (more ts) s) t ts
-        | false ↦ elim (eqb (no t) 20) [
+        | false ↦ elim (eqb (no t) (kindNo END)) [
           | true ↦ elim (lastOpen σ) [ true ↦ [] | false ↦ walk (outside σ) (around σ) t ts ]
-          | false ↦ elim (eqb (no t) 10) [
+          | false ↦ elim (eqb (no t) (kindNo Semi)) [
             | true ↦ walk σ (some []) t ts
-            | false ↦ elim (eqb (no t) 21) [
+            | false ↦ elim (eqb (no t) (kindNo NEXT)) [
               | true ↦ groupAt ds ts ++ walk σ (memberScope ds (more ts) (around σ)) t ts
-              | false ↦ elim (eqb (no t) 9) [
+              | false ↦ elim (eqb (no t) (kindNo Comma)) [
                 | true ↦ walk σ (around σ) t ts
-                | false ↦ elim (eqb (no t) 12) [
+                | false ↦ elim (eqb (no t) (kindNo Becomes)) [
                   | true ↦ walk σ (labelling p s) t ts
                   | false ↦ jumpAt s t ts ++ walk σ s t ts
                 ]

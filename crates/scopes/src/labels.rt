@@ -16,6 +16,7 @@ ghost use mathlib.Core.Path.{_≡_};
 ghost use mathlib.Core.Bool.{true};
 ghost use Prim.Native.Nat.{_+_, _-_, _*_, _<_, _≤_};
 ghost use lib.ListN.{length};
+ghost use Rattle.rules.specs.Text.Tokens.{Name, kindNo};
 ghost use Rattle.rules.specs.Faults.Declared.{isKnown};
 ghost use Rattle.table.specs.Holds.{kindByte};
 ghost use Rattle.table.specs.Words.{wordAt};
@@ -33,7 +34,7 @@ fn hinted(
     top: usize,
     name: usize,
 ) -> bool
-    requires { ⌜ Worded (now text) (now records) n × (Labelled (now records) (now labels) n top × ((base ≤ top) × ((name < n) × (kindByte (now records) name ≡ 0)))) ⌝ }
+    requires { ⌜ Worded (now text) (now records) n × (Labelled (now records) (now labels) n top × ((base ≤ top) × ((name < n) × (kindByte (now records) name ≡ kindNo Name)))) ⌝ }
     ensures { λ r. ⌜ ((v : Worded (now (text .entry)) (now (records .entry)) n) → r ≡ true
         → isKnown (wordAt (v .tokens) name) (namesFrom (v .tokens) (now (labels .entry)) base (top - base)) ≡ true) ⌝ }
 {
@@ -58,7 +59,7 @@ fn listed(
     top: usize,
     name: usize,
 ) -> bool
-    requires { ⌜ Worded (now text) (now records) n × (Labelled (now records) (now labels) n top × ((base ≤ top) × ((name < n) × (kindByte (now records) name ≡ 0)))) ⌝ }
+    requires { ⌜ Worded (now text) (now records) n × (Labelled (now records) (now labels) n top × ((base ≤ top) × ((name < n) × (kindByte (now records) name ≡ kindNo Name)))) ⌝ }
     ensures { λ r. ⌜ ((v : Worded (now (text .entry)) (now (records .entry)) n)
         → r ≡ isKnown (wordAt (v .tokens) name) (namesFrom (v .tokens) (now (labels .entry)) base (top - base))) ⌝ }
 {
@@ -83,7 +84,7 @@ fn among(
     top: usize,
     name: usize,
 ) -> bool
-    requires { ⌜ Worded (now text) (now records) n × (Labelled (now records) (now labels) n top × ((base ≤ top) × ((name < n) × (kindByte (now records) name ≡ 0)))) ⌝ }
+    requires { ⌜ Worded (now text) (now records) n × (Labelled (now records) (now labels) n top × ((base ≤ top) × ((name < n) × (kindByte (now records) name ≡ kindNo Name)))) ⌝ }
     ensures { λ r. ⌜ ((v : Worded (now (text .entry)) (now (records .entry)) n)
         → r ≡ isKnown (wordAt (v .tokens) name) (namesFrom (v .tokens) (now (labels .entry)) base (top - base))) ⌝ }
 {

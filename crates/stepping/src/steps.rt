@@ -18,6 +18,7 @@ ghost use mathlib.Core.Path.{_≡_};
 ghost use mathlib.Core.List.{List};
 ghost use Prim.Native.Nat.{ℕ, _+_, _≤_};
 ghost use lib.ListN.{length};
+ghost use Rattle.rules.specs.Text.Tokens.{IF, DECODE, Name, LPar, kindNo};
 ghost use Rattle.table.specs.Holds.{kindByte};
 ghost use Rattle.stepping.specs.Steps.{StepAt, StepAnswer};
 
@@ -31,9 +32,9 @@ pub enum Moved {
 
 // The IF at n acts when any bit of its test is 1.
 fn if_step(records: &[u8], values: &[u8], carriers: &[u8], n: usize) -> Moved
-    requires { ⌜ ((decls : List ℕ) × (StepAt (now records) (now values) decls (now carriers) n × (kindByte (now records) n ≡ 22))) ⌝ }
+    requires { ⌜ ((decls : List ℕ) × (StepAt (now records) (now values) decls (now carriers) n × (kindByte (now records) n ≡ kindNo IF))) ⌝ }
     ensures { λ r. ⌜ ((decls : List ℕ) (v : StepAt (now (records .entry)) (now (values .entry)) decls (now (carriers .entry)) n)
-        → kindByte (now (records .entry)) n ≡ 22 → StepAnswer v (now (carriers .entry)) r) ⌝ }
+        → kindByte (now (records .entry)) n ≡ kindNo IF → StepAnswer v (now (carriers .entry)) r) ⌝ }
 {
     let tested = test(records, values, carriers, n);
     match tested {
@@ -49,9 +50,9 @@ fn if_step(records: &[u8], values: &[u8], carriers: &[u8], n: usize) -> Moved
 
 // The DECODE at n acts by the first alternative that takes its value.
 fn decode_step(records: &[u8], values: &[u8], carriers: &[u8], n: usize) -> Moved
-    requires { ⌜ ((decls : List ℕ) × (StepAt (now records) (now values) decls (now carriers) n × (kindByte (now records) n ≡ 23))) ⌝ }
+    requires { ⌜ ((decls : List ℕ) × (StepAt (now records) (now values) decls (now carriers) n × (kindByte (now records) n ≡ kindNo DECODE))) ⌝ }
     ensures { λ r. ⌜ ((decls : List ℕ) (v : StepAt (now (records .entry)) (now (values .entry)) decls (now (carriers .entry)) n)
-        → kindByte (now (records .entry)) n ≡ 23 → StepAnswer v (now (carriers .entry)) r) ⌝ }
+        → kindByte (now (records .entry)) n ≡ kindNo DECODE → StepAnswer v (now (carriers .entry)) r) ⌝ }
 {
     let tested = test(records, values, carriers, n);
     match tested {
@@ -69,9 +70,9 @@ fn decode_step(records: &[u8], values: &[u8], carriers: &[u8], n: usize) -> Move
 // The activation at n.
 fn call_step(records: &[u8], decls: &[u8], n: usize) -> Moved
     requires { ⌜ ((values : List ℕ) × ((carriers : List ℕ) × (StepAt (now records) values (now decls) carriers n
-        × ((kindByte (now records) n ≡ 0) × (kindByte (now records) (n + 1) ≡ 3))))) ⌝ }
+        × ((kindByte (now records) n ≡ kindNo Name) × (kindByte (now records) (n + 1) ≡ kindNo LPar))))) ⌝ }
     ensures { λ r. ⌜ ((values carriers : List ℕ) (v : StepAt (now (records .entry)) values (now (decls .entry)) carriers n)
-        → kindByte (now (records .entry)) n ≡ 0 → kindByte (now (records .entry)) (n + 1) ≡ 3 → StepAnswer v carriers r) ⌝ }
+        → kindByte (now (records .entry)) n ≡ kindNo Name → kindByte (now (records .entry)) (n + 1) ≡ kindNo LPar → StepAnswer v carriers r) ⌝ }
 {
     let body = get16(decls, inside_at(records, n)) as usize;
     let first = link_at(records, body);
@@ -87,9 +88,9 @@ fn transfer_step(
     n: usize,
 ) -> Moved
     requires { ⌜ ((decls : List ℕ) × (StepAt (now records) (now values) decls (now carriers) n
-        × ((kindByte (now records) n ≡ 0) × ((kindByte (now records) (n + 1) ≡ 3 → ⊥) × (512 ≤ length (now scratch)))))) ⌝ }
+        × ((kindByte (now records) n ≡ kindNo Name) × ((kindByte (now records) (n + 1) ≡ kindNo LPar → ⊥) × (512 ≤ length (now scratch)))))) ⌝ }
     ensures { λ r. ⌜ ((decls : List ℕ) (v : StepAt (now (records .entry)) (now (values .entry)) decls (now (carriers .entry)) n)
-        → kindByte (now (records .entry)) n ≡ 0 → (kindByte (now (records .entry)) (n + 1) ≡ 3 → ⊥) → StepAnswer v (now (carriers .exit)) r) ⌝ }
+        → kindByte (now (records .entry)) n ≡ kindNo Name → (kindByte (now (records .entry)) (n + 1) ≡ kindNo LPar → ⊥) → StepAnswer v (now (carriers .exit)) r) ⌝ }
 {
     let next = link_at(records, n);
     let made = transfer(records, values, carriers, scratch, n);

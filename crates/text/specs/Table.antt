@@ -8,7 +8,7 @@ use mathlib.Core.List.{List, [], _∷_, map}
 use lib.Dec.{eqb}
 use lib.ListN.{length}
 use Rattle.cells.specs.Cells.{putCell}
-use Rattle.rules.specs.Text.Tokens.{Token, kindNo}
+use Rattle.rules.specs.Text.Tokens.{Const, Masked, Token, kindNo}
 use Rattle.rules.specs.Text.Scan.{Scan, End, fine, refuse}
 use Rattle.lexemes.specs.Lexemes.{sizeOf}
 use Rattle.text.specs.declared.Scanned.{Scanned}
@@ -27,7 +27,7 @@ recordCells ts = map recordOf ts
 
 -- the value of a constant, with or without `?`; of any other kind, the free bits before
 unfoldable pub valueBy : ℕ → ℕ → ℕ → ℕ
-valueBy kind value before = elim (eqb kind 1 || eqb kind 2) [ true ↦ value | false ↦ before ]
+valueBy kind value before = elim (eqb kind (kindNo Const) || eqb kind (kindNo Masked)) [ true ↦ value | false ↦ before ]
 
 abbrev pub valueOf : ℕ → Token → ℕ
 valueOf before t = valueBy (kindNo (t .kind)) (t .info .value) before

@@ -11,6 +11,7 @@ ghost use mathlib.Core.Path.{_≡_};
 ghost use mathlib.Core.List.{List};
 ghost use Prim.Native.Nat.{ℕ, _+_, _*_, _≤_};
 ghost use lib.ListN.{length};
+ghost use Rattle.rules.specs.Text.Tokens.{Name, LPar, kindNo};
 ghost use Rattle.rules.specs.Limits.{mostWords};
 ghost use Rattle.rules.specs.Entries.{entriesIn};
 ghost use Rattle.table.specs.Holds.{kindByte};
@@ -28,10 +29,10 @@ fn transfer_act(
     entries: &[u8],
     n: usize,
 ) -> Moved
-    requires { ⌜ ((decls : List ℕ) × (StepAt (now records) (now values) decls (now carriers) n × ((kindByte (now records) n ≡ 0) × (kindByte (now records) (n + 1) ≡ 3 → ⊥))))
+    requires { ⌜ ((decls : List ℕ) × (StepAt (now records) (now values) decls (now carriers) n × ((kindByte (now records) n ≡ kindNo Name) × (kindByte (now records) (n + 1) ≡ kindNo LPar → ⊥))))
         × ((512 ≤ length (now scratch)) × ((length (now carriers) ≤ 8 * mostWords) × Sound (entriesIn (now entries)) (now room))) ⌝ }
     ensures { λ r. ⌜ ((decls : List ℕ) (v : StepAt (now (records .entry)) (now (values .entry)) decls (now (carriers .entry)) n)
-        → kindByte (now (records .entry)) n ≡ 0 → (kindByte (now (records .entry)) (n + 1) ≡ 3 → ⊥)
+        → kindByte (now (records .entry)) n ≡ kindNo Name → (kindByte (now (records .entry)) (n + 1) ≡ kindNo LPar → ⊥)
         → ActTold v (now (carriers .exit)) (entriesIn (now (entries .entry))) (now (room .entry)) (now (room .exit)) r) ⌝ }
 {
     let next = link_at(records, n);
