@@ -1,4 +1,5 @@
 // Where a walk along the tokens of a body stands, and how its count goes up.
+use rules::limits::MOST_STEPS;
 ghost use mathlib.Core.Path.{_≡_};
 ghost use mathlib.Core.List.{List};
 ghost use Prim.Native.Nat.{ℕ, _≤_, max};
@@ -7,7 +8,7 @@ ghost use Rattle.counting.specs.Holding.{Does};
 ghost use Rattle.counting.specs.Machine.{counted, turned};
 
 // One more than a budget can hold: a count that has come here stays.
-pub const ENDLESS: u64 = 4294967296;
+pub const ENDLESS: u64 = MOST_STEPS + 1;
 
 // How many BEGINs are open, and the count.
 pub struct Nest {

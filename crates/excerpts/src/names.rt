@@ -1,10 +1,8 @@
 // Names as they stand in the text.
 use lines::bytes::put_byte;
+use rules::limits::LONGEST_NAME;
 ghost use Prim.Native.Nat.{_+_, _≤_};
 ghost use lib.ListN.{length};
-
-// No name has more bytes.
-const LONGEST_NAME: usize = 32;
 
 // Whether a name goes on with a byte.
 fn is_in_name(byte: u8) -> bool {

@@ -9,6 +9,8 @@ use cells::get16;
 use reading::bodies::body_at;
 use reading::calls::next_call;
 use reading::names::carrier;
+use rules::limits::LONGEST_CHAIN;
+use rules::limits::MOST_DECLARATIONS;
 use table::records::inside_at;
 ghost use mathlib.Core.Path.{_≡_};
 ghost use mathlib.Core.Bool.{false};
@@ -95,10 +97,10 @@ fn own_carrier(records: &[u8], decls: &[u8], m: usize, n: usize, k: usize) -> u6
 {
     let p = get16(decls, k) as usize;
     let c = carrier(records, decls, m, n, p);
-    if c < 256 {
+    if c < MOST_DECLARATIONS {
         return c as u64;
     }
-    256
+    MOST_DECLARATIONS as u64
 }
 
 // Notes the carriers, and takes all marks away.
@@ -123,7 +125,15 @@ pub fn gather_all(records: &[u8], decls: &[u8], memo: &mut [u8], m: usize, n: us
     note_carriers(records, decls, memo, m, n);
     let mut k: usize = 0;
     while k < m {
-        gather(records, decls, memo, m, n, get16(decls, k) as usize, 16);
+        gather(
+            records,
+            decls,
+            memo,
+            m,
+            n,
+            get16(decls, k) as usize,
+            LONGEST_CHAIN,
+        );
         k += 1;
     }
 }

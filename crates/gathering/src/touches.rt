@@ -9,6 +9,7 @@ use reading::bits::only;
 use reading::bits::union;
 use reading::kinds::kind_of;
 use reading::kinds::stores;
+use rules::limits::MOST_DECLARATIONS;
 use table::kinds::LPAR;
 use table::kinds::NAME;
 use table::kinds::STOP;
@@ -37,7 +38,7 @@ const NO_CARRIER: usize = 65535;
 fn with(s: Set, c: usize) -> Set
     ensures { λ r. ⌜ ((xs : List ℕ) → Owned xs c → (k : ℕ) → holds (r .w) k ≡ (holds (s .w) k || member k xs)) ⌝ }
 {
-    if c < 256 {
+    if c < MOST_DECLARATIONS {
         return union(s, only(c));
     }
     s

@@ -3,6 +3,7 @@ use crate::lexemes::Lexeme;
 use crate::words::upper;
 use classes::classes::IN_CONSTANT;
 use classes::classes::run_end;
+use rules::limits::MOST_BITS;
 ghost use mathlib.Core.Path.{_≡_};
 ghost use mathlib.Core.Bool.{true};
 ghost use Prim.Native.Nat.{_+_, _-_, _*_, _^_, _<_, _≤_};
@@ -143,7 +144,7 @@ fn based_value(text: &[u8], from: usize, end: usize, sign: u8) -> Number
         return Number::Malformed;
     }
     let bits = based_bits(sign, count);
-    if 64 < bits {
+    if (MOST_BITS as usize) < bits {
         return Number::Malformed;
     }
     based_digits(text, from, end, base_of(sign), bits as u8)

@@ -2,6 +2,7 @@
 use crate::lexemes::Lexeme;
 use classes::classes::IN_NAME;
 use classes::classes::run_end;
+use rules::limits::LONGEST_NAME;
 ghost use mathlib.Core.Path.{_≡_};
 ghost use mathlib.Core.Bool.{true};
 ghost use mathlib.Core.List.{map};
@@ -100,7 +101,7 @@ pub fn word_at(text: &[u8], classes: &[u8; 256], at: usize) -> Lexeme
 {
     let end = run_end(text, classes, at + 1, IN_NAME);
     let size = end - at;
-    if 32 < size {
+    if LONGEST_NAME < size {
         return Lexeme::Refused(11);
     }
     Lexeme::Token {

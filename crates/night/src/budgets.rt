@@ -1,5 +1,5 @@
 // A budget of steps, as it is given to the program.
-const MOST_STEPS: u64 = 4294967295;
+use rules::limits::MOST_STEPS;
 
 pub enum Budget {
     Steps(u32),

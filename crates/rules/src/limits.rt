@@ -4,6 +4,8 @@ ghost use Rattle.rules.specs.Limits as limits;
 
 pub const LONGEST_TEXT: usize = 32768;
 
+pub const LONGEST_NAME: usize = 32;
+
 pub const MOST_TOKENS: usize = 8192;
 
 pub const DEEPEST: usize = 32;
@@ -20,10 +22,18 @@ pub const MOST_ALTERNATIVES: usize = 64;
 
 pub const LONGEST_CHAIN: usize = 16;
 
+pub const MOST_STEPS: u64 = 4294967295;
+
 pub fn longest_text() -> usize
     ensures { λ r. ⌜ r ≡ limits.longestText ⌝ }
 {
     LONGEST_TEXT
+}
+
+pub fn longest_name() -> usize
+    ensures { λ r. ⌜ r ≡ limits.longestName ⌝ }
+{
+    LONGEST_NAME
 }
 
 pub fn most_tokens() -> usize
@@ -72,4 +82,10 @@ pub fn longest_chain() -> usize
     ensures { λ r. ⌜ r ≡ limits.longestChain ⌝ }
 {
     LONGEST_CHAIN
+}
+
+pub fn most_steps() -> u64
+    ensures { λ r. ⌜ r ≡ limits.mostSteps ⌝ }
+{
+    MOST_STEPS
 }

@@ -1,4 +1,5 @@
 // The run from left to right, with a budget of steps.
+use rules::limits::LONGEST_CHAIN;
 use stepping::steps::Moved;
 use stepping::steps::step;
 ghost use Prim.Native.Nat.{_≤_};
@@ -27,7 +28,7 @@ pub fn run(
     ensures { λ r. ⌜ ((v : RunAt (now (records .entry)) (now (values .entry)) (now (decls .entry)) (now (carriers .entry)) start)
         → RunAnswer v budget (now (carriers .exit)) r) ⌝ }
 {
-    let mut stack: [usize; 16] = [0; 16];
+    let mut stack: [usize; LONGEST_CHAIN] = [0; LONGEST_CHAIN];
     let mut depth: usize = 0;
     let mut at = start;
     let mut steps: u32 = 0;

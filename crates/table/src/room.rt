@@ -1,9 +1,10 @@
 // The third buffer, which one pass after another has to itself: where its parts begin.
+use rules::limits::MOST_ALTERNATIVES;
 
 // Cell of two bytes: labels stand before it, and from it on the starts of alternatives, so many for each open DECODE as are compared.
 pub const STARTS: usize = 8192;
 
-pub const STARTS_SIZE: usize = 64;
+pub const STARTS_SIZE: usize = MOST_ALTERNATIVES;
 
 // Byte: the sets of the bodies stand before it, and from it on labels and scopes.
 pub const LABELS: usize = 18432;

@@ -1,5 +1,6 @@
 // Operators: how tightly they bind, what they make of their operands, and those that wait.
 use crate::Weight;
+use rules::limits::MOST_BITS;
 use table::keys::NO_KEY;
 use table::keys::earlier;
 use table::keys::fault_key;
@@ -33,7 +34,7 @@ pub fn combined(op: u8, place: usize, left: Weight, right: Weight) -> Weight
         return Weight { key, bits: 0 };
     }
     let bits = operate_bits(op, left.bits, right.bits);
-    if 64 < bits {
+    if MOST_BITS < bits as u64 {
         return Weight {
             key: fault_key(43, place),
             bits: 0,

@@ -43,6 +43,7 @@ combined-spec =
     (λ c κs. search needs)
     (λ c. search (needs, unsound))
     (λ c κs. search needs)
+    (λ c. search needs)
     (λ c κs. search needs)
     (λ c. search (needs, long))
     (λ c. search (needs, short)))
