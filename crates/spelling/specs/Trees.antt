@@ -65,7 +65,3 @@ pub record Node (ts : Tokens) (i c x : ℕ) : Type 0 where
 -- the heads and the children of the tokens before i have a node each, or none
 pub record Grown (room : List ℕ) (ts : Tokens) (i : ℕ) : Type 0 where
   pub node : (c : ℕ) → c < heads + 2 * i → (cell 2 room c ≡ noNode → ⊥) → Node ts i c (cell 2 room c)
-
--- while nodes are added, the cells that have one before i stay
-pub record Keeps (old now : List ℕ) (i : ℕ) : Type 0 where
-  pub kept : (c : ℕ) → c < heads + 2 * i → cell 2 old c < i → cell 2 now c ≡ cell 2 old c

@@ -8,8 +8,6 @@ use lib.ListN.{length, drop, getElem?}
 use Rattle.cells.specs.Cells.{cell}
 use Rattle.rules.specs.Limits.{mostTokens}
 use Rattle.rules.specs.Grammar.Trees.{Tokens, Declaration}
-use Rattle.table.specs.Holds.{Holds}
-use Rattle.table.specs.Words.{NameAt}
 use Rattle.table.specs.Declarations.{DeclaredAt}
 
 -- the cell k has the number of the name of the k-th declaration
@@ -17,16 +15,6 @@ pub record DeclsHold (decls : List ℕ) (ts : Tokens) (list : List Declaration) 
   pub room : 2 * length list ≤ length decls
   pub few : length list ≤ mostTokens
   pub each : (k : ℕ) (d : Declaration) → getElem? list k ≡ some d → DeclaredAt ts (cell 2 decls k) d
-
--- m declarations stand in a table, and a name is its token i
-pub record Known (text records decls : List ℕ) (m i : ℕ) : Type 0 where
-  pub values : List ℕ
-  pub tokens : Tokens
-  pub holds : Holds text records values tokens
-  pub declared : List Declaration
-  pub decls-hold : DeclsHold decls tokens declared
-  pub count : m ≡ length declared
-  pub name : NameAt tokens i
 
 abbrev pub orElse : ℕ → Option ℕ → ℕ
 orElse m none = m

@@ -21,8 +21,7 @@ use Rattle.table.specs.Holds.{kindByte, insideCell, linkCell, tokenAt}
 use Rattle.table.specs.Kept.{InsidePut}
 use Rattle.table.specs.Laws.Kept.{kept-none, kept-then, kept-wide, holds-kept}
 use Rattle.table.specs.Words.{NameAt, wordAt}
-use Rattle.table.specs.Lookups.{Known}
-use Rattle.table.specs.Laws.Lookups.{both-names, number-step}
+use Rattle.table.specs.Laws.Lookups.{Known, both-names, number-step}
 use Rattle.table.specs.Meaning.{outerOnly, unknownName, meaningBy, meaningOf}
 use Rattle.spelling.specs.Spelled.{Spelled}
 use Rattle.resolving.specs.Resolving.{SpelledIn, Lists, InsideOnly, Forgotten, MarkedFrom, MeantTo}

@@ -17,11 +17,11 @@ use Rattle.table.specs.Holds.{linkCell}
 use Rattle.table.specs.Kept.{LinkPut}
 use Rattle.table.specs.Words.{NameAt, wordAt}
 use Rattle.spelling.specs.Spelled.{Spelled}
-use Rattle.spelling.specs.Trees.{noNode, heads, roomSize, Node, Grown, Keeps}
+use Rattle.spelling.specs.Trees.{noNode, heads, roomSize, Node, Grown}
 use Rattle.spelling.specs.Spelling.{Spells, SpelledTo, Ends, Cleared, Opened}
 use Rattle.laws_accepted.specs.Accepted.Named.{same-equal, same-itself}
 use Rattle.spelling.specs.Laws.Cells.{cell-same, cell-other}
-use Rattle.spelling.specs.Laws.Trees.{cell-kept, passes-kept, finds-kept, found-once}
+use Rattle.spelling.specs.Laws.Trees.{Keeps, cell-kept, passes-kept, finds-kept, found-once}
 
 keeps-itself : (room : List ℕ) (i : ℕ) → Keeps room room i
 keeps-itself room i = record { kept = λ c l b. refl }

@@ -9,7 +9,7 @@ use lib.ListN.{length}
 use Rattle.cells.specs.Cells.{cell}
 use Rattle.rules.specs.Grammar.Trees.{Tokens}
 use Rattle.table.specs.Words.{wordAt}
-use Rattle.spelling.specs.Trees.{heads, childCell, bitOf, cellBehind, nodeBehind, Passes, Finds, Keeps}
+use Rattle.spelling.specs.Trees.{heads, childCell, bitOf, cellBehind, nodeBehind, Passes, Finds}
 use Rattle.spelling.specs.Laws.Letters.{hash-small, bit-small}
 
 module _ {room : List ℕ} {ts : Tokens} {i : ℕ} {w : List ℕ} {d : ℕ} (p : Passes room ts i w d) where
@@ -17,6 +17,10 @@ module _ {room : List ℕ} {ts : Tokens} {i : ℕ} {w : List ℕ} {d : ℕ} (p :
   unfolding cellBehind
   cell-inside zero l = omega (arith, hash-small w (length w))
   cell-inside (suc k) l = omega (arith, p .before k (omega arith), bit-small w k)
+
+-- while nodes are added, the cells that have one before i stay
+pub record Keeps (old now : List ℕ) (i : ℕ) : Type 0 where
+  pub kept : (c : ℕ) → c < heads + 2 * i → cell 2 old c < i → cell 2 now c ≡ cell 2 old c
 
 -- the cells that the search reads stay while nodes are added
 module _ {old now : List ℕ} {i : ℕ} (keeps : Keeps old now i) (next : ℕ) (further : i ≤ next) {ts : Tokens} {w : List ℕ} where

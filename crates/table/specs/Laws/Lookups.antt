@@ -10,11 +10,22 @@ use lib.ListN.{length, drop}
 use Rattle.cells.specs.Cells.{cell}
 use Rattle.rules.specs.Text.Tokens.{Name, Token, tk}
 use Rattle.rules.specs.Text.Scan.{sameBytes}
+use Rattle.rules.specs.Grammar.Trees.{Tokens, Declaration}
 use Rattle.rules.specs.Declarations.{declaredOf, numberFrom}
-use Rattle.table.specs.Holds.{tokenAt}
-use Rattle.table.specs.Words.{wordAt, TwoNames, sameWords}
+use Rattle.table.specs.Holds.{Holds, tokenAt}
+use Rattle.table.specs.Words.{NameAt, wordAt, TwoNames, sameWords}
 use Rattle.table.specs.Laws.Views.{name-token}
-use Rattle.table.specs.Lookups.{Known, Nth, nth}
+use Rattle.table.specs.Lookups.{DeclsHold, Nth, nth}
+
+-- m declarations stand in a table, and a name is its token i
+pub record Known (text records decls : List ℕ) (m i : ℕ) : Type 0 where
+  pub values : List ℕ
+  pub tokens : Tokens
+  pub holds : Holds text records values tokens
+  pub declared : List Declaration
+  pub decls-hold : DeclsHold decls tokens declared
+  pub count : m ≡ length declared
+  pub name : NameAt tokens i
 
 module _ {text records decls : List ℕ} {m i : ℕ} (v : Known text records decls m i) where
   -- the number of the first that has the word, when the first k have not
