@@ -1,3 +1,2 @@
 -- The laws of alternatives.
-pub mod Keys
 pub mod Starts

@@ -13,9 +13,8 @@ use Rattle.rules.specs.Selectors.{Item}
 use Rattle.rules.specs.Faults.Fault.{Fault, fault, when}
 use Rattle.rules.specs.Faults.Bodies.{past, alternative}
 use Rattle.table.specs.Keys.{key, noKey, leastKey}
-use Rattle.table.specs.Laws.Keys.{least-bounded}
+use Rattle.table.specs.Laws.Keys.{fault-key, no-fault-key, least-bounded}
 use Rattle.selectors.specs.Overlaps.{earlierItems, overlaps, FirstOverlap}
-use Rattle.choices.specs.Laws.Keys.{fault-key, no-fault-key}
 use Rattle.actions.specs.Laws.Ranges.{rangeFaults, leastIn, least-at, least-both, least-bound, when-or}
 
 -- a fault or none is no less than the fault

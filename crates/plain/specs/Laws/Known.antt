@@ -16,6 +16,7 @@ use Rattle.rules.specs.Declarations.{Name as Word, Table, numberFrom, numberOf}
 use Rattle.rules.specs.Faults.Fault.{fault, when}
 use Rattle.rules.specs.Faults.Declared.{isKnown}
 use Rattle.rules.specs.Faults.Bodies.{declaredNames}
+use Rattle.table.specs.Laws.Keys.{fault-key, no-fault-key}
 use Rattle.table.specs.Holds.{tokenAt, placeCell, insideCell}
 use Rattle.table.specs.Keys.{key, noKey, leastKey}
 use Rattle.table.specs.Meaning.{outerOnly, unknownName}
@@ -23,7 +24,6 @@ use Rattle.table.specs.Laws.Positions.{record-within}
 use Rattle.table.specs.Words.{NameAt, wordAt}
 use Rattle.stacks.specs.Stacks.{stackedWords, NameView}
 use Rattle.accesses.specs.Laws.Lookups.{undeclared, declared}
-use Rattle.choices.specs.Laws.Keys.{fault-key, no-fault-key}
 use Rattle.plain.specs.Stage.{Stage, outerOf, tableOf}
 use Rattle.plain.specs.Laws.Stage.{sceneOf, name-view}
 use Rattle.plain.specs.Labels.{knownNames, LabelView, labelFault}

@@ -19,7 +19,7 @@ use Rattle.rules.specs.Faults.Bodies.{faultsIn, judge, judgeJoined, judgeDestin
 use Rattle.rules.specs.Whole.Sets.{ownerIn}
 use Rattle.table.specs.Holds.{tokenAt, placeCell, insideCell}
 use Rattle.table.specs.Keys.{key, noKey, leastBy, leastKey}
-use Rattle.table.specs.Laws.Keys.{least-append}
+use Rattle.table.specs.Laws.Keys.{fault-key, no-fault-key, least-append}
 use Rattle.table.specs.Meaning.{outerOnly, unknownName}
 use Rattle.table.specs.Laws.Positions.{Here, here}
 use Rattle.table.specs.Views.{View, BodyAt}
@@ -36,7 +36,6 @@ use Rattle.plain.specs.Laws.Stage.{sceneOf, name-view}
 use Rattle.plain.specs.Actions.{EndsAction, by-semi, by-next, by-end, by-comma}
 use Rattle.plain.specs.Jumps.{JumpView, jumpFaults, CallView, callFaults, TransferView, TransferAnswer}
 use Rattle.plain.specs.Laws.Known.{token-room, token-place, place-small, name-here}
-use Rattle.choices.specs.Laws.Keys.{fault-key, no-fault-key}
 
 -- LEAVE AND RESTART
 module _ {records room : List ℕ} {i count : ℕ} (v : JumpView records room i count) where

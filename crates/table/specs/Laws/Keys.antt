@@ -11,7 +11,7 @@ use native.Mathlib.Nat.{mul-le-mul-right, suc-mul}
 use borrow.Author.Tests.{lt-ltb, le-ltb, eq-eqb, ne-eqb, ltb-true, ltb-false}
 use lib.Dec.{ltb, eqb}
 use Rattle.rules.specs.Limits.{longestText}
-use Rattle.rules.specs.Faults.Fault.{Fault, fault, byPlace, byNumber, leastFrom, least}
+use Rattle.rules.specs.Faults.Fault.{Fault, fault, when, byPlace, byNumber, leastFrom, least}
 use Rattle.table.specs.Keys.{Small, noKey, key, numberKey, Smalls, none-small, also-small, leastBy, leastKey, leastNumberKey}
 
 -- a key goes by an order: it is below `noKey`, and the order is that of the keys
@@ -114,6 +114,14 @@ module _ {k : Fault → ℕ} {before : Fault → Fault → Bool} (o : Orders k b
   least-by-key [] n s e h = absurd (h (e ∙ least-none k))
   least-by-key (g ∷ fs) n (also-small s ss) e h =
       let f = leastFrom before g fs in (f, refl, least-small g fs s ss, e ∙ least-key (g ∷ fs) f (also-small s ss) refl)
+
+-- a fault, or none
+pub fault-key : (n p : ℕ) → n < 128 → p ≤ longestText → leastKey (when true n p) ≡ key (fault n p)
+fault-key n p h l = least-one by-place (fault n p) (record { number = h; place = l })
+
+pub no-fault-key : (n p : ℕ) → leastKey (when false n p) ≡ noKey
+unfolding leastBy
+no-fault-key n p = refl
 
 -- a fault by its key
 pub key-number : (f : Fault) → Small f → key f % 128 ≡ f .number
