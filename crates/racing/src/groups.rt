@@ -1,30 +1,16 @@
 // The groups of a description, in text order.
 use crate::members::Pair;
 use crate::members::race_in;
-use table::kinds::BEGIN;
-use table::kinds::NEXT;
 use table::records::kind_at;
-ghost use mathlib.Core.Path.{_≡_};
+use whole::walks::opens;
 ghost use Prim.Native.Nat.{_*_, _<_, _≤_};
 ghost use lib.ListN.{length};
 ghost use Rattle.reading.specs.Reading.{Reading};
 ghost use Rattle.gathering.specs.Filling.{Complete};
-ghost use Rattle.scopes.specs.Walks.{opens};
 ghost use Rattle.racing.specs.Found.{InTokens};
 
 // The name of a description, its `:=` and its BEGIN.
 const BEFORE_DECLARATIONS: usize = 3;
-
-// Whether a group begins behind it.
-fn opens(kind: u8) -> bool
-    ensures { λ r. ⌜ r ≡ opens kind ⌝ }
-{
-    match kind {
-        BEGIN => true,
-        NEXT => true,
-        _ => false,
-    }
-}
 
 // The race of the member at the place.
 pub fn race(records: &[u8], decls: &[u8], memo: &[u8], m: usize, n: usize, place: usize) -> Pair

@@ -1,52 +1,20 @@
 // The members of a group, one after the other.
-use gathering::memory::Touched;
 use gathering::touches::touched;
-use reading::bits::meets;
-use reading::bits::union;
 use reading::kinds::end_of;
 use reading::kinds::kind_of;
 use table::kinds::SEMI;
-use table::records::place_at;
-ghost use mathlib.Core.Path.{_≡_};
+use whole::groups::place_of;
+use whole::groups::races;
 ghost use Prim.Native.Nat.{_*_, _≤_};
-ghost use lib.ListN.{length, drop};
-ghost use Rattle.rules.specs.Whole.Sets.{Sets, race};
+ghost use lib.ListN.{length};
 ghost use Rattle.reading.specs.Reading.{Reading};
-ghost use Rattle.reading.specs.Groups.{placeOf};
 ghost use Rattle.gathering.specs.Filling.{Complete};
-ghost use Rattle.whole.specs.GroupKeys.{Holding};
 ghost use Rattle.racing.specs.Found.{Leads, Chooses, RacesAt, InGroup};
 
 // Two members by their tokens. Where the later one is not behind the earlier one there are none.
 pub struct Pair {
     pub earlier: usize,
     pub later: usize,
-}
-
-// Whether two actions race: one writes what the other reads or writes.
-fn races(u: Touched, t: Touched) -> bool
-    ensures { λ r. ⌜ ((a b : Sets) → Holding (u .reads .w) (u .writes .w) a → Holding (t .reads .w) (t .writes .w) b → r ≡ race a b) ⌝ }
-{
-    let r = u.reads;
-    let w = u.writes;
-    let s = t.reads;
-    let v = t.writes;
-    let all = union(r, w);
-    if meets(w, union(s, v)) {
-        return true;
-    }
-    meets(v, all)
-}
-
-// The place of the token i, of n.
-pub fn place_of(records: &[u8], decls: &[u8], m: usize, n: usize, i: usize) -> usize
-    requires { ⌜ Reading (now records) (now decls) m n ⌝ }
-    ensures { λ r. ⌜ (r ≤ 32768) × ((v : Reading (now (records .entry)) (now (decls .entry)) m n) → r ≡ placeOf (drop i (v .tokens))) ⌝ }
-{
-    if i < n {
-        return place_at(records, i);
-    }
-    0
 }
 
 // The earliest member from the token from on that races with the one at later, or later.

@@ -1,10 +1,10 @@
 // The reason of a refusal 53.
 use crate::groups::race;
-use crate::members::place_of;
 use gathering::touches::touched;
 use sharing::first_conflict;
 use sharing::name_place;
 use sharing::writers;
+use whole::groups::place_of;
 ghost use mathlib.Core.Path.{_≡_};
 ghost use mathlib.Core.Option.{some};
 ghost use Prim.Native.Nat.{_*_, _≤_};

@@ -25,7 +25,7 @@ ghost use Rattle.reading.specs.Groups.{placeOf, more, groupAt};
 ghost use Rattle.whole.specs.GroupKeys.{Holding};
 
 // Whether two actions race: one writes what the other reads or writes.
-fn races(u: Touched, t: Touched) -> bool
+pub fn races(u: Touched, t: Touched) -> bool
     ensures { λ r. ⌜ ((a b : Sets) → Holding (u .reads .w) (u .writes .w) a → Holding (t .reads .w) (t .writes .w) b → r ≡ race a b) ⌝ }
 {
     let r = u.reads;
@@ -55,7 +55,7 @@ fn member_key(u: Touched, own: Touched, place: usize) -> u32
 }
 
 // The place of the token i, of n.
-fn place_of(records: &[u8], decls: &[u8], m: usize, n: usize, i: usize) -> usize
+pub fn place_of(records: &[u8], decls: &[u8], m: usize, n: usize, i: usize) -> usize
     requires { ⌜ Reading (now records) (now decls) m n ⌝ }
     ensures { λ r. ⌜ (r ≤ 32768) × ((v : Reading (now (records .entry)) (now (decls .entry)) m n) → r ≡ placeOf (drop i (v .tokens))) ⌝ }
 {

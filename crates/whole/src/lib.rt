@@ -1,6 +1,6 @@
 // What is refused of a whole description: MAIN, chains of activations, jumps and STOP in groups, races.
-mod groups;
-mod walks;
+pub mod groups;
+pub mod walks;
 
 use crate::walks::groups_key;
 use chains::chains::chain_key;

@@ -23,7 +23,7 @@ ghost use Rattle.whole.specs.Written.{Written, whole};
 ghost use Rattle.whole.specs.WalkKeys.{labelsOf, Roomy, Faulty, FaultKey, TurnedIn, Walked, BodyKey};
 
 // Whether a group begins behind it.
-fn opens(kind: u8) -> bool
+pub fn opens(kind: u8) -> bool
     ensures { λ r. ⌜ r ≡ opens kind ⌝ }
 {
     match kind {
