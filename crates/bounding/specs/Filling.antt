@@ -16,7 +16,8 @@ use Rattle.reading.specs.Reading.{Reading, tableOf}
 use Rattle.reading.specs.Events.{heard}
 use Rattle.reading.specs.Calls.{callsOf}
 use Rattle.counting.specs.Holding.{enough}
-use Rattle.walking.specs.Walking.{tableSize, undeclared, indexOf}
+use Rattle.reading.specs.Indexes.{undeclared, indexOf}
+use Rattle.walking.specs.Walking.{tableSize}
 
 -- a description without faults of the 50s
 pub record Ready (records decls : List ℕ) (m n : ℕ) : Type 0 where

@@ -21,7 +21,6 @@ pub record Cleared (old new : List ℕ) (k : ℕ) : Type 0 where
 
 pub record Beginning (records decls table room : List ℕ) (t : Task) (name from : ℕ) : Type 0 where
   pub scene : Scene records decls table t
-  pub past : 0 < name
   pub behind : name < from
   pub few : name < 8192
   pub record-room : 8 * name + 8 ≤ length records

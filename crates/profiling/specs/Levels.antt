@@ -17,7 +17,8 @@ use Rattle.table.specs.Scans.{no}
 use Rattle.reading.specs.Reading.{Kinded}
 use Rattle.profiling.specs.Spelt.{SpeltDescription, whole}
 use Rattle.nesting.specs.Holding.{bit, unseen, enough}
-use Rattle.profiling.specs.Walking.{indexOf, Known}
+use Rattle.reading.specs.Indexes.{indexOf}
+use Rattle.profiling.specs.Walking.{Known}
 use Rattle.profiling.specs.declared.tasks.Task.{Task}
 
 -- the tokens from the first BEGIN on

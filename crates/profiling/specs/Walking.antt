@@ -2,19 +2,19 @@
 use Prim.Native.Nat.{ℕ, _+_, _*_, _<_, _≤_}
 use mathlib.Core.Path.{_≡_}
 use mathlib.Core.List.{List}
-use mathlib.Core.Option.{Option, none, some}
 use lib.Dec.{eqb}
 use lib.ListN.{length, drop}
 use Rattle.cells.specs.Cells.{cell}
 use Rattle.rules.specs.Text.Tokens.{Name, kindNo}
 use Rattle.rules.specs.Text.Scan.{sameBytes}
-use Rattle.rules.specs.Declarations.{Name as Word, Table, numberOf}
+use Rattle.rules.specs.Declarations.{Name as Word}
 use Rattle.paths.specs.Cited.Early.{Report}
 use Rattle.paths.specs.Cited.Marks.{Marks}
 use Rattle.paths.specs.Cited.Least.{least}
 use Rattle.table.specs.Holds.{kindByte, tokenAt}
 use Rattle.table.specs.Words.{wordAt}
 use Rattle.reading.specs.Kinds.{nextNo}
+use Rattle.reading.specs.Indexes.{indexOf}
 use Rattle.scopes.specs.Walks.{nextWord}
 use Rattle.profiling.specs.Spelt.{SpeltDescription, whole}
 use Rattle.nesting.specs.Machine.{State, acted, named, activated, aimed, run, outset}
@@ -22,17 +22,6 @@ use Rattle.nesting.specs.Holding.{unseen, bit, book, Shows}
 use Rattle.nesting.specs.declared.nests.Nest.{Nest}
 use Rattle.profiling.specs.declared.tasks.Task.{Task}
 use Rattle.profiling.specs.declared.walks.Found.{Found}
-
--- where a table has what is known of a name: at the number of its declaration, or behind all
-abbrev pub undeclared : ℕ
-undeclared = 256
-
-abbrev pub numberOr : Option ℕ → ℕ
-numberOr none = undeclared
-numberOr (some k) = k
-
-abbrev pub indexOf : Table → Word → ℕ
-indexOf ds w = numberOr (numberOf ds w)
 
 -- two cells: whether an end is reached, and the lowest place
 pub record Known (table : List ℕ) (k : ℕ) (x : Report) : Type 0 where

@@ -11,36 +11,18 @@ use nesting::nests::mark;
 use reading::kinds::kind_of;
 use reading::kinds::stores;
 use reading::names::carrier;
+use reading::names::index_of;
 use table::kinds::BECOMES;
 use table::kinds::LPAR;
-use table::records::inside_at;
 use table::records::place_at;
 ghost use mathlib.Core.Path.{_≡_};
-ghost use mathlib.Core.List.{List};
-ghost use Prim.Native.Nat.{ℕ, _+_, _*_, _<_, _≤_};
-ghost use lib.ListN.{length};
+ghost use Prim.Native.Nat.{_+_, _*_, _<_};
 ghost use Rattle.rules.specs.Text.Tokens.{Name, kindNo};
 ghost use Rattle.rules.specs.Whole.Sets.{member, owner};
 ghost use Rattle.table.specs.Holds.{kindByte};
 ghost use Rattle.table.specs.Words.{wordAt};
 ghost use Rattle.reading.specs.Reading.{Reading, tableOf};
-ghost use Rattle.profiling.specs.Walking.{indexOf, Acting, Named, Activates};
-
-// Where a table has what is known of names that are not declared.
-pub const UNDECLARED: usize = 256;
-
-// Where a table has what is known of the name i.
-fn index_of(records: &[u8], m: usize, i: usize) -> usize
-    requires { ⌜ (8 * i + 8 ≤ length (now records)) × (m ≤ 256) ⌝ }
-    ensures { λ r. ⌜ (r ≤ 256) × ((decls : List ℕ) (n : ℕ) (v : Reading (now (records .entry)) decls m n) → i < n → kindByte (now (records .entry)) i ≡ kindNo Name
-        → r ≡ indexOf (tableOf v) (wordAt (v .tokens) i)) ⌝ }
-{
-    let k = inside_at(records, i);
-    if k < m {
-        return k;
-    }
-    UNDECLARED
-}
+ghost use Rattle.profiling.specs.Walking.{Acting, Named, Activates};
 
 // The activation of the name i: by what is known of its body. That of the test does not come back.
 fn activate(

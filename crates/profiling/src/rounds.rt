@@ -1,10 +1,10 @@
 // What is known of the bodies, round by round: each round goes one body further down the chains of activations.
-use crate::names::UNDECLARED;
 use crate::tasks::Task;
 use crate::walks::walk;
 use cells::get16;
 use cells::put16;
 use reading::bodies::body_at;
+use reading::names::UNDECLARED;
 use rules::limits::LONGEST_CHAIN;
 use table::kinds::BEGIN;
 use table::records::kind_at;

@@ -35,7 +35,7 @@ fn clear_flags(room: &mut [u8])
 
 // At the start of a body, whose own name is the outermost label.
 fn begin(records: &[u8], room: &mut [u8], name: usize) -> Nest
-    requires { ⌜ (49664 ≤ length (now room)) × (0 < name) × (name < 8192) × (8 * name + 8 ≤ length (now records)) ⌝ }
+    requires { ⌜ (49664 ≤ length (now room)) × (name < 8192) × (8 * name + 8 ≤ length (now records)) ⌝ }
     ensures { λ r. ⌜ Begins (now (records .entry)) (now (room .exit)) name r ⌝ }
 {
     clear_flags(room);

@@ -8,6 +8,7 @@ pub mod Kinds
 pub mod Laws
 pub mod Meanings
 pub mod Names
+pub mod Indexes
 pub mod Races
 pub mod Reading
 pub mod Touches

@@ -2,29 +2,18 @@
 use Prim.Native.Nat.{ℕ, _+_, _*_, _<_, _≤_}
 use mathlib.Core.Path.{_≡_}
 use mathlib.Core.List.{List}
-use mathlib.Core.Option.{Option, none, some}
 use lib.ListN.{length, drop}
 use Rattle.cells.specs.Cells.{cell}
-use Rattle.rules.specs.Declarations.{Name as Word, Table, numberOf}
+use Rattle.rules.specs.Declarations.{Name as Word}
 use Rattle.bounds.specs.Cited.Counts.{endless}
 use Rattle.table.specs.Holds.{kindByte}
 use Rattle.table.specs.Words.{wordAt}
 use Rattle.reading.specs.Kinds.{nextNo}
+use Rattle.reading.specs.Indexes.{indexOf}
 use Rattle.reading.specs.Reading.{Reading, tableOf}
 use Rattle.counting.specs.Machine.{State, counted, named, acted}
 use Rattle.counting.specs.Holding.{Shows, Does}
 use Rattle.counting.specs.declared.counts.Nest.{Nest}
-
--- where a table has the count of a name: at the number of its declaration, or behind all
-abbrev pub undeclared : ℕ
-undeclared = 256
-
-abbrev pub numberOr : Option ℕ → ℕ
-numberOr none = undeclared
-numberOr (some k) = k
-
-abbrev pub indexOf : Table → Word → ℕ
-indexOf ds w = numberOr (numberOf ds w)
 
 -- the bytes of a table of counts
 abbrev pub tableSize : ℕ

@@ -33,7 +33,8 @@ use Rattle.reading.specs.Laws.Names.{number-bound}
 use Rattle.reading.specs.Laws.Meanings.{table-size}
 use Rattle.reading.specs.Laws.Bodies.{body-calls}
 use Rattle.counting.specs.Machine.{run, outset}
-use Rattle.walking.specs.Walking.{tableSize, undeclared, numberOr, indexOf, Scene}
+use Rattle.reading.specs.Indexes.{undeclared, numberOr, indexOf}
+use Rattle.walking.specs.Walking.{tableSize, Scene}
 use Rattle.walking.specs.Going.{Beginning, Walked}
 use Rattle.bounding.specs.Filling.{Ready, countIn, unknown, Known, Right, ShortFrom, callsFrom, Blank, Fillable, Grows, Fills, Descends}
 use Rattle.bounding.specs.Laws.Machine.{body-read}

@@ -25,7 +25,8 @@ use Rattle.reading.specs.Reading.{Reading, tableOf}
 use Rattle.reading.specs.Laws.Names.{number-bound}
 use Rattle.reading.specs.Laws.Meanings.{table-size}
 use Rattle.counting.specs.Holding.{enough}
-use Rattle.walking.specs.Walking.{tableSize, numberOr, indexOf}
+use Rattle.reading.specs.Indexes.{numberOr, indexOf}
+use Rattle.walking.specs.Walking.{tableSize}
 use Rattle.bounding.specs.Filling.{Ready, countIn, ShortFrom, Blank, Fillable, Fills}
 use Rattle.bounding.specs.Mains.{MainNamed, Longest}
 use Rattle.bounding.specs.Laws.Knowing.{no-chains}

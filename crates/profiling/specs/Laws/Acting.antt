@@ -1,5 +1,5 @@
 -- What a token does, by its kind.
-use Prim.Native.Nat.{ℕ, zero, suc, min, _+_, _*_, _<_, _≤_}
+use Prim.Native.Nat.{ℕ, zero, suc, min, _+_, _*_, _<_}
 use mathlib.Core.Path.{_≡_, refl, sym, ap, ap₂, _∙_, subst}
 use mathlib.Core.Bool.{Bool, true, false, cond, not, _&&_, or-false}
 use mathlib.Core.List.{List, [], _++_, append-nil}
@@ -15,21 +15,21 @@ use Rattle.rules.specs.Whole.Sets.{member, owner}
 use Rattle.paths.specs.Cited.Marks.{marked, added}
 use Rattle.paths.specs.Cited.Least.{least}
 use Rattle.paths.specs.Least.{least-append}
-use Rattle.table.specs.Holds.{kindByte, placeCell, insideCell, tokenAt}
+use Rattle.table.specs.Holds.{kindByte, placeCell, tokenAt}
 use Rattle.table.specs.Words.{wordAt}
 use Rattle.reading.specs.Kinds.{nextNo, stores}
 use Rattle.scopes.specs.Walks.{nextWord}
 use Rattle.reading.specs.Laws.Reading.{next-token, no-more, kinded, name-at}
 use Rattle.reading.specs.Reading.{Kinded, Reading, tableOf}
 use Rattle.reading.specs.Names.{Owned}
-use Rattle.reading.specs.Laws.Meanings.{means-number, means-nothing}
 use Rattle.profiling.specs.Spelt.{whole}
 use Rattle.profiling.specs.Laws.Spelt.{reading, spelt}
 use Rattle.nesting.specs.Laws.Spelt.{place-small}
 use Rattle.nesting.specs.Machine.{State, opened, closed, also, next, another, transferred, reached, chosen, looped, left, aimed, destined, activated, labelled, named, acted}
 use Rattle.nesting.specs.Holding.{unseen, Book, book, Flagged, Shows, Standing, Does, Set}
 use Rattle.nesting.specs.Grouping.{nest}
-use Rattle.profiling.specs.Walking.{numberOr, indexOf, Known, Scene, Acting, Acted, Named, Activates, Aims}
+use Rattle.reading.specs.Indexes.{indexOf}
+use Rattle.profiling.specs.Walking.{Known, Scene, Acting, Acted, Named, Activates, Aims}
 use Rattle.nesting.specs.Jumping.{Jumping, Left, Labels}
 use Rattle.nesting.specs.Laws.Holding.{bit-test, flagged-set, set-labels, set-frames}
 use Rattle.nesting.specs.declared.nests.Nest.{Nest}
@@ -57,16 +57,6 @@ shows-later {i = i} h s = record {
   frames = s .frames;
   flags = s .flags;
 }
-
--- the index of a name
-module _ {records : List ℕ} {m i k : ℕ} (few : m ≤ 256) (is : k ≡ insideCell records i) where
-  pub declared-index : k < m → (k ≤ 256) × ((decls : List ℕ) (n : ℕ) (v : Reading records decls m n) → i < n → kindByte records i ≡ 0
-      → k ≡ indexOf (tableOf v) (wordAt (v .tokens) i))
-  declared-index l = (omega arith, λ d n v h e. sym (ap numberOr (means-number v i k h e is l)))
-
-  pub undeclared-index : m ≤ k → (256 ≤ 256) × ((decls : List ℕ) (n : ℕ) (v : Reading records decls m n) → i < n → kindByte records i ≡ 0
-      → 256 ≡ indexOf (tableOf v) (wordAt (v .tokens) i))
-  undeclared-index l = (omega arith, λ d n v h e. sym (ap numberOr (means-nothing v i k h e is l)))
 
 -- an activation
 lower-all : (l k : ℕ) (ps xs : List ℕ) (b : Bool) → l ≡ least unseen ps → k ≡ least unseen xs → cond b (min l k) l ≡ least unseen (ps ++ cond b xs [])

@@ -68,9 +68,9 @@ one-cleared {first} {old} {new} {k} c h p =
 pub all-cleared : {first old : List ℕ} {k : ℕ} → Clearing first old k → 64 ≤ k → Cleared first old 64
 all-cleared c h = record { size = c .cleared .size; clear = λ j l. c .cleared .clear j (omega arith) }
 
-pub begun-shown : {records first old new : List ℕ} {name : ℕ} → 49664 ≤ length first → 0 < name → Cleared first old 64 → LabelPut records old new 0 name 1
+pub begun-shown : {records first old new : List ℕ} {name : ℕ} → 49664 ≤ length first → Cleared first old 64 → LabelPut records old new 0 name 1
     → Begins records new name (nest 0 2 1 1 true false false 0 false 65535)
-begun-shown {records} {first} {old} {new} {name} room past c p ts i n below h = record {
+begun-shown {records} {first} {old} {new} {name} room c p ts i n below h = record {
   space = omega (arith, c .size, p .size);
   few = h;
   depth-is = refl;
@@ -96,8 +96,8 @@ pub found-tells : {room : List ℕ} {s : Nest} {b : Bool} → b ≡ eqb (cell 2 
 found-tells e ts i z s = (e ∙ (ap (λ k. eqb k 1) (s .flags .at 1 (omega arith)) ∙ bit-test (z .marks .flags 1)), s .low-is)
 
 pub to-begin : {records decls table room : List ℕ} {t : Task} {name from : ℕ} → Beginning records decls table room t name from
-    → (49664 ≤ length room) × (0 < name) × (name < 8192) × (8 * name + 8 ≤ length records)
-to-begin b = (b .space, b .past, b .few, b .record-room)
+    → (49664 ≤ length room) × (name < 8192) × (8 * name + 8 ≤ length records)
+to-begin b = (b .space, b .few, b .record-room)
 
 pub goes : {records decls table room now : List ℕ} {t : Task} {name from : ℕ} {s : Nest} → Beginning records decls table room t name from → Begins records now name s
     → Going records decls table now now t name from s 0 from

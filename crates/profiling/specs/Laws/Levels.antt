@@ -40,7 +40,8 @@ use Rattle.profiling.specs.Spelt.{SpeltDescription, whole}
 use Rattle.profiling.specs.Laws.Spelt.{reading}
 use Rattle.nesting.specs.Holding.{bit, unseen}
 use Rattle.nesting.specs.Machine.{run, outset}
-use Rattle.profiling.specs.Walking.{numberOr, indexOf, Known, Scene}
+use Rattle.reading.specs.Indexes.{numberOr, indexOf}
+use Rattle.profiling.specs.Walking.{Known, Scene}
 use Rattle.profiling.specs.Going.{Beginning, Walked}
 use Rattle.profiling.specs.Levels.{toBegin, BeginBehind, Aimed, Level, Put, Blank, Levelled, PartAt, Part, Rounded, Starting, Known16}
 use Rattle.profiling.specs.Laws.Machine.{body-read}
@@ -260,7 +261,6 @@ module _ {records decls table next room : List ℕ} {t : Task} {k : ℕ} (x : Pa
         let z = name-there (x .within) at (reading (y .written)) in
         record {
           scene = sceneOf (y .written) (y .test) (y .aims) (y .level) (y .known) (y .table-room) (y .output);
-          past = omega (arith, declares (reading (y .written)) k (x .within) .stands .past);
           behind = past;
           few = omega (arith, y .written .ready .holds .few);
           record-room = omega (arith, z .0, y .written .count, y .written .ready .holds .record-room);

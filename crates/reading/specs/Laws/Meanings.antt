@@ -12,6 +12,7 @@ use Rattle.rules.specs.Text.Tokens.{Name, LBra, Less, Becomes, Token, tk, kindN
 use Rattle.rules.specs.Text.Scan.{sameBytes}
 use Rattle.rules.specs.Grammar.Trees.{Tokens, Declaration, plain, main, words, with-bits, bare-body, carrier, given, body, mapped, bitless, main-bits, declarationsTokens}
 use Rattle.rules.specs.Declarations.{Name as Word, Target, BitNames, declaredOf, numberOf, outerName, ownNames}
+use Rattle.rules.specs.Limits.{mostDeclarations}
 use Rattle.rules.specs.Whole.Sets.{owner}
 use Rattle.laws_accepted.specs.Accepted.Declared.{declares as lawful-table}
 use Rattle.table.specs.Holds.{kindByte, insideCell}
@@ -25,6 +26,7 @@ use Rattle.reading.specs.Reading.{Reading, tableOf}
 use Rattle.reading.specs.Laws.Reading.{kinded, name-at}
 use Rattle.reading.specs.Laws.Names.{number-bound, owner-unknown, owner-bare, owner-storage, owner-mapped}
 use Rattle.reading.specs.Names.{Owned}
+use Rattle.reading.specs.Indexes.{undeclared, numberOr, indexOf}
 use Rattle.reading.specs.Meanings.{declares}
 
 module _ {records decls : List ℕ} {m n : ℕ} (v : Reading records decls m n) where
@@ -186,3 +188,13 @@ module _ {records decls : List ℕ} {m n i k : ℕ} (h : i < n) (e : kindByte re
 
 pub declared-view : {records decls : List ℕ} {m n k p : ℕ} → Reading records decls m n → k < m → p ≡ cell 2 decls k → (values : List ℕ) × View records values p
 declared-view {records} v l at = (v .values, subst (λ (x : ℕ). View records (v .values) x) (sym at) (view v _ l))
+
+-- the index of a name
+module _ {records : List ℕ} {m i k : ℕ} (few : m ≤ mostDeclarations) (is : k ≡ insideCell records i) where
+  pub declared-index : k < m → (k ≤ undeclared) × ((decls : List ℕ) (n : ℕ) (v : Reading records decls m n) → i < n → kindByte records i ≡ kindNo Name
+      → k ≡ indexOf (tableOf v) (wordAt (v .tokens) i))
+  declared-index l = (omega arith, λ d n v h e. sym (ap numberOr (means-number v i k h e is l)))
+
+  pub undeclared-index : m ≤ k → (undeclared ≤ undeclared) × ((decls : List ℕ) (n : ℕ) (v : Reading records decls m n) → i < n → kindByte records i ≡ kindNo Name
+      → undeclared ≡ indexOf (tableOf v) (wordAt (v .tokens) i))
+  undeclared-index l = (omega arith, λ d n v h e. sym (ap numberOr (means-nothing v i k h e is l)))

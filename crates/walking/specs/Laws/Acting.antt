@@ -10,26 +10,16 @@ use lib.ListN.{length, drop}
 use Rattle.cells.specs.Cells.{cell}
 use Rattle.rules.specs.Limits.{deepest}
 use Rattle.bounds.specs.Cited.Counts.{endless}
-use Rattle.table.specs.Holds.{kindByte, insideCell}
+use Rattle.table.specs.Holds.{kindByte}
 use Rattle.table.specs.Words.{wordAt}
 use Rattle.reading.specs.Kinds.{nextNo}
 use Rattle.reading.specs.Reading.{Kinded, Reading, tableOf}
 use Rattle.reading.specs.Laws.Reading.{kinded}
-use Rattle.reading.specs.Laws.Meanings.{means-number, means-nothing}
 use Rattle.counting.specs.Machine.{State, opened, closed, another, counted, turned, takesStep, turns, acting, named, acted}
 use Rattle.counting.specs.Holding.{Shows, Standing, Does}
-use Rattle.walking.specs.Walking.{numberOr, indexOf, Scene, Acting, Acted, Named, Activates, word, behind}
+use Rattle.reading.specs.Indexes.{indexOf}
+use Rattle.walking.specs.Walking.{Scene, Acting, Acted, Named, Activates, word, behind}
 use Rattle.counting.specs.declared.counts.Nest.{Nest}
-
--- the index of a name
-module _ {records : List ℕ} {m i k : ℕ} (few : m ≤ 256) (is : k ≡ insideCell records i) where
-  pub declared-index : k < m → (k ≤ 256) × ((decls : List ℕ) (n : ℕ) (v : Reading records decls m n) → i < n → kindByte records i ≡ 0
-      → k ≡ indexOf (tableOf v) (wordAt (v .tokens) i))
-  declared-index l = (omega arith, λ d n v h e. sym (ap numberOr (means-number v i k h e is l)))
-
-  pub undeclared-index : m ≤ k → (256 ≤ 256) × ((decls : List ℕ) (n : ℕ) (v : Reading records decls m n) → i < n → kindByte records i ≡ 0
-      → 256 ≡ indexOf (tableOf v) (wordAt (v .tokens) i))
-  undeclared-index l = (omega arith, λ d n v h e. sym (ap numberOr (means-nothing v i k h e is l)))
 
 module _ {records table room : List ℕ} {m n i : ℕ} {x : Nest} (a : Acting records table room m n i x) where
   pub few-declared : m ≤ 256

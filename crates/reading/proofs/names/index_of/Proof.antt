@@ -1,8 +1,8 @@
--- `walking::names::index_of` meets its contract.
+-- `reading::names::index_of` meets its contract.
 use borrow.Author.Needs.{needs}
-use Rattle.walking.specs.Laws.Acting.{declared-index, undeclared-index}
-use Rattle.walking.proofs.names.index_of.Statement.{statement}
-use Rattle.walking.proofs.names.index_of.Tie as tie
+use Rattle.reading.specs.Laws.Meanings.{declared-index, undeclared-index}
+use Rattle.reading.proofs.names.index_of.Statement.{statement}
+use Rattle.reading.proofs.names.index_of.Tie as tie
 
 pub index-of-spec : {M : Type 1} → statement M
 index-of-spec =
