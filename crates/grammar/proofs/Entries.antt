@@ -14,7 +14,7 @@ use lib.Seq.{getD-drop}
 use Rattle.rules.specs.Text.Tokens.{Kind, Name, kinds, kindAt}
 use Rattle.laws_grammar.specs.Cited.Rows.{State, Move, go, open-to, shut, Row, row, lookup}
 use Rattle.grammar.specs.Places.{place}
-use Rattle.grammar.specs.Entries.{moveNo, Says, Ruled, nextOf}
+use Rattle.grammar.specs.Entries.{kindCount, moveNo, Says, Ruled, nextOf}
 use Rattle.grammar.specs.declared.Next.{Next}
 use Rattle.grammar.specs.declared.Next.the-variants.{Nowhere, On, Into, Out}
 use Rattle.grammar.proofs.States.{both-parts, states, each-state}
@@ -75,7 +75,7 @@ ruled table t =
 -- what the code has read: the entry of a table that holds the rows
 pub record Read (table : List ℕ) (state kind entry : ℕ) : Type 0 where
   pub rows : Ruled table
-  pub small : kind < 42
+  pub small : kind < kindCount
   pub entry-is : entry ≡ getD table (state + kind) 0
 
 -- the move of the state at a place, for the kind of a number

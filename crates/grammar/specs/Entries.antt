@@ -10,6 +10,10 @@ use Rattle.grammar.specs.Places.{place}
 use Rattle.grammar.specs.declared.Next.{Next}
 use Rattle.grammar.specs.declared.Next.the-variants.{Nowhere, On, Into, Out}
 
+-- how many kinds there are
+abbrev pub kindCount : ℕ
+kindCount = 42
+
 abbrev pub moveNo : Move → ℕ
 moveNo (go s) = place s
 moveNo (open-to s t) = place s + 2048 * place t
@@ -22,7 +26,7 @@ Says entry k (some m) = entry ≡ k + 64 * moveNo m
 
 -- the table holds every row
 pub record Ruled (table : List ℕ) : Type 0 where
-  pub says : (s : State) (k : ℕ) → k < 42 → Says (getD table (place s + k) 0) k (lookup (row s) (kindAt k))
+  pub says : (s : State) (k : ℕ) → k < kindCount → Says (getD table (place s + k) 0) k (lookup (row s) (kindAt k))
 
 abbrev pub nextOf : Option Move → Next
 nextOf none = Nowhere

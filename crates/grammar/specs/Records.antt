@@ -8,6 +8,7 @@ use Rattle.rules.specs.Grammar.Trees.{Tokens}
 use Rattle.rules.specs.Grammar.Verdict.{anyInfo}
 use Rattle.laws_grammar.specs.Cited.Answer.{Answer, accepted, refused20, refused21}
 use Rattle.laws_grammar.specs.Cited.Rows.{recognise}
+use Rattle.grammar.specs.Entries.{kindCount}
 use Rattle.grammar.specs.declared.Recognised.{Recognised}
 use Rattle.grammar.specs.declared.Recognised.the-variants.{Accepted, Refused20, Refused21}
 
@@ -18,7 +19,7 @@ kindByte bytes i = getD bytes (8 * i) 0
 -- n records, each with the number of a kind
 pub record Records (bytes : List ℕ) (n : ℕ) : Type 0 where
   pub room : 8 * n ≤ length bytes
-  pub small : (i : ℕ) → i < n → kindByte bytes i < 42
+  pub small : (i : ℕ) → i < n → kindByte bytes i < kindCount
 
 -- the n records are those of the tokens ts, as far as the kinds go
 pub record KindsStand (ts : Tokens) (bytes : List ℕ) (n : ℕ) : Type 0 where

@@ -10,7 +10,7 @@ ghost use Prim.Native.Nat.{_<_};
 ghost use Rattle.rules.specs.Text.Tokens.{kindAt};
 ghost use Rattle.laws_grammar.specs.Cited.Rows.{State, row, lookup};
 ghost use Rattle.grammar.specs.Places.{place};
-ghost use Rattle.grammar.specs.Entries.{Ruled, nextOf};
+ghost use Rattle.grammar.specs.Entries.{kindCount, Ruled, nextOf};
 ghost use Rattle.grammar.specs.Records.{Records, Answers, kindByte};
 
 // The tokens are a description's, or refused with the number of the token where they are: that of the end is how many there are.
@@ -53,7 +53,7 @@ fn kind_at(records: &[u8], i: usize, n: usize) -> usize
 fn moved(table: &Entries, state: usize, kind: usize) -> Next
     requires { ⌜ Ruled (now table) ⌝ }
     requires { ⌜ ((s : State) × place s ≡ state) ⌝ }
-    requires { ⌜ kind < 42 ⌝ }
+    requires { ⌜ kind < kindCount ⌝ }
     ensures { λ r. ⌜ ((s : State) → place s ≡ state → r ≡ nextOf (lookup (row s) (kindAt kind))) ⌝ }
 {
     let entry = wide32(table[state + kind]);
