@@ -4,7 +4,7 @@ use mathlib.Core.Path.{_≡_}
 use mathlib.Core.List.{List}
 use lib.ListN.{drop}
 use Rattle.rules.specs.Grammar.Trees.{Tokens, Description}
-use Rattle.rules.specs.Declarations.{Name as Word, Table, declarations, outerName}
+use Rattle.rules.specs.Declarations.{Word, Table, declarations, outerName}
 use Rattle.rules.specs.Faults.Bodies.{Judged}
 use Rattle.table.specs.Ready.{Ready}
 use Rattle.weighing.specs.Weights.{Weighs}

@@ -6,7 +6,7 @@ use mathlib.Core.List.{List, []}
 use lib.Dec.{eqb}
 use lib.ListN.{length, drop}
 use Rattle.cells.specs.Cells.{cell}
-use Rattle.rules.specs.Declarations.{Name as Word}
+use Rattle.rules.specs.Declarations.{Word}
 use Rattle.rules.specs.Limits.{longestChain}
 use Rattle.rules.specs.Faults.Whole.{faults50}
 use Rattle.rules.specs.Whole.Sets.{anyName, chainOver}

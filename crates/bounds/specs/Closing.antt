@@ -2,8 +2,8 @@
 use Prim.Native.Nat.{ℕ, zero, suc, _+_, max}
 use mathlib.Core.Path.{_≡_, refl, sym, ap, ap₂}
 use mathlib.Core.Bool.{Bool, false, _||_, false≢true}
-use Rattle.rules.specs.Declarations.{Name, Table}
-use Rattle.rules.specs.Steps.Actions.{Act, seq, par, label, ins, Ins, iff, decode, repeat, leave, restart, call, stop, noop, transfer, Alts, end, alt}
+use Rattle.rules.specs.Declarations.{Word, Table}
+use Rattle.rules.specs.Steps.Actions.{Act, seq, par, label, ins, Ins, iff, decode, repeat, leave, restart, call, stop, noop, transfer, Alts, no-alts, alt}
 use Rattle.rules.specs.Steps.Runs.{bodyAct}
 use Rattle.rules.specs.Whole.Sets.{callsIn, callsI, callsAlts, anyName, chainOver}
 use Rattle.rules.specs.Limits.{longestChain}
@@ -12,8 +12,8 @@ use Rattle.laws_orders.specs.Orders.Orderly.{Orderly}
 use Rattle.laws_orders.specs.Orders.Chains.{none-of, not-this}
 
 -- both go by what is known of the bodies that an action activates
-module _ (p : Name → Bool) where
-  module _ (f g : Name → ℕ) (same : (n : Name) → p n ≡ false → f n ≡ g n) where
+module _ (p : Word → Bool) where
+  module _ (f g : Word → ℕ) (same : (n : Word) → p n ≡ false → f n ≡ g n) where
     mutual
       unfolding cost costIn dearest callsIn callsI callsAlts
 
@@ -35,10 +35,10 @@ module _ (p : Name → Bool) where
       inside-same (transfer d e) h = refl
 
       dearest-same : (bs : Alts) → anyName p (callsAlts bs) ≡ false → dearest f bs ≡ dearest g bs
-      dearest-same end h = refl
+      dearest-same no-alts h = refl
       dearest-same (alt c a bs) h = let n = none-of p (callsIn a) (callsAlts bs) h in ap₂ max (cost-same a (n .0)) (dearest-same bs (n .1))
 
-  module _ (f g : Name → Bool) (same : (n : Name) → p n ≡ false → f n ≡ g n) where
+  module _ (f g : Word → Bool) (same : (n : Word) → p n ≡ false → f n ≡ g n) where
     mutual
       unfolding turns turnsIn anyTurns callsIn callsI callsAlts
 
@@ -60,23 +60,23 @@ module _ (p : Name → Bool) where
       turnsIn-same (transfer d e) h = refl
 
       anyTurns-same : (bs : Alts) → anyName p (callsAlts bs) ≡ false → anyTurns f bs ≡ anyTurns g bs
-      anyTurns-same end h = refl
+      anyTurns-same no-alts h = refl
       anyTurns-same (alt c a bs) h = let n = none-of p (callsIn a) (callsAlts bs) h in ap₂ _||_ (turns-same a (n .0)) (anyTurns-same bs (n .1))
 
 module _ (ds : Table) where
-  pub cost-closed : (k : ℕ) (n : Name) → chainOver ds k n ≡ false → cost (costDown ds k) (bodyAct ds n) ≡ costDown ds k n
+  pub cost-closed : (k : ℕ) (n : Word) → chainOver ds k n ≡ false → cost (costDown ds k) (bodyAct ds n) ≡ costDown ds k n
   unfolding chainOver costDown
   cost-closed zero n h = absurd (false≢true (sym h))
   cost-closed (suc k) n h = cost-same (chainOver ds k) (costDown ds (suc k)) (costDown ds k) (cost-closed k) (bodyAct ds n) h
 
-  pub turns-closed : (k : ℕ) (n : Name) → chainOver ds k n ≡ false → turns (turnsDown ds k) (bodyAct ds n) ≡ turnsDown ds k n
+  pub turns-closed : (k : ℕ) (n : Word) → chainOver ds k n ≡ false → turns (turnsDown ds k) (bodyAct ds n) ≡ turnsDown ds k n
   unfolding chainOver turnsDown
   turns-closed zero n h = absurd (false≢true (sym h))
   turns-closed (suc k) n h = turns-same (chainOver ds k) (turnsDown ds (suc k)) (turnsDown ds k) (turns-closed k) (bodyAct ds n) h
 
   -- a body costs what its action costs, whatever the chains below it
-  pub cost-of-body : Orderly ds → (p : Name) → costOf ds p ≡ cost (costOf ds) (bodyAct ds p)
+  pub cost-of-body : Orderly ds → (p : Word) → costOf ds p ≡ cost (costOf ds) (bodyAct ds p)
   cost-of-body o p = sym (cost-closed longestChain p (o .chains p))
 
-  pub turns-of-body : Orderly ds → (p : Name) → turnsFrom ds p ≡ turns (turnsFrom ds) (bodyAct ds p)
+  pub turns-of-body : Orderly ds → (p : Word) → turnsFrom ds p ≡ turns (turnsFrom ds) (bodyAct ds p)
   turns-of-body o p = sym (turns-closed longestChain p (o .chains p))

@@ -3,7 +3,7 @@ use Prim.Native.Nat.{ℕ, zero, suc, _+_, _≤_}
 use mathlib.Core.Path.{_≡_, sym, _∙_}
 use mathlib.Core.Bool.{false}
 use native.Mathlib.Omega.{arith}
-use Rattle.rules.specs.Declarations.{Name, Table}
+use Rattle.rules.specs.Declarations.{Word, Table}
 use Rattle.rules.specs.Steps.Evaluation.{Carriers, Outcome, gives, faulty}
 use Rattle.rules.specs.Steps.Control.{Live, callL, start, Mv, leftmost, Sig, ends, goes, leaves, restarts, stops, faults, work, next}
 use Rattle.rules.specs.Steps.Runs.{Conf, running, finished, stopped, failed, Worked, perform, told, after, bodyAct, step, Steps, begin, paused, run, runFrom}
@@ -69,7 +69,7 @@ module _ (ds : Table) (o : Orderly ds) where
       by (failed m p u) w ih z = let x : _≡_ {A = ℕ} 0 1 = cc in omega arith
 
   -- of a body from which no REPEAT or RESTART can be reached
-  module _ (p : Name) (straight : turnsFrom ds p ≡ false) where
+  module _ (p : Word) (straight : turnsFrom ds p ≡ false) where
     abbrev begun : Live
     begun = callL p (start (bodyAct ds p))
 

@@ -15,13 +15,12 @@ use Rattle.rules.specs.Steps.Evaluation.{Carriers}
 use Rattle.rules.specs.Steps.Runs.{Conf, Steps, begin, paused, run}
 use Rattle.rules.specs.Faults.Whole.{mainName}
 use Rattle.rules.specs.Answers.{accepted, Checks}
-use Rattle.rules.specs.Bound.{costOf, turnsFrom, Bound, bound, no-bound, boundIf, boundOf, Bounds, not-accepted, bounded-by}
+use Rattle.rules.specs.Bound.{costOf, turnsFrom, Bound, bound, no-bound, boundIf, boundOf, Bounds, not-accepted, bounded-by, Reached}
 use Rattle.laws_orders.specs.Orders.Orderly.{Orderly}
 use Rattle.laws_grammar.specs.Answers.{one-verdict, accepted-iff-lawful}
 use Rattle.laws_grammar.specs.Grammar.Exact.{unique}
 use Rattle.laws_accepted.specs.Accepted.Orderly.{accepted-orderly}
 use Rattle.bounds.specs.Counted.{steps-bounded, never-paused}
-use Rattle.bounds.specs.Cited.Reached.{Reached}
 use Rattle.bounds.specs.Reaching.{turns-reached}
 
 -- what a bound says

@@ -7,15 +7,15 @@ use mathlib.Core.Option.{Option, none, some}
 use native.Mathlib.Omega.{arith}
 use Rattle.rules.specs.Text.Scan.{sameBytes}
 use Rattle.rules.specs.Selectors.{takes}
-use Rattle.rules.specs.Declarations.{Name}
-use Rattle.rules.specs.Steps.Actions.{Act, seq, par, label, ins, Ins, iff, decode, repeat, leave, restart, call, stop, noop, transfer, Alts, end, alt}
+use Rattle.rules.specs.Declarations.{Word}
+use Rattle.rules.specs.Steps.Actions.{Act, seq, par, label, ins, Ins, iff, decode, repeat, leave, restart, call, stop, noop, transfer, Alts, no-alts, alt}
 use Rattle.rules.specs.Steps.Control.{Live, one, seqL, both, left, right, labL, loopL, callL, start, Mv, choose, pickS}
 use Rattle.rules.specs.Steps.Control.{Sig, ends, goes, leaves, restarts, stops, faults, lost, nextI, next}
 use Rattle.rules.specs.Steps.Control.{seqS, bothL, bothR, leftS, rightS, labS, callS}
 use Rattle.rules.specs.Bound.{cost, costIn, dearest, turns, turnsIn, anyTurns}
 use Rattle.laws_orders.specs.Orders.Tests.{or-neither}
 
-module _ (costs : Name → ℕ) (turning : Name → Bool) where
+module _ (costs : Word → ℕ) (turning : Word → Bool) where
   abbrev pub owed : Live → ℕ
   owed (one i) = 1 + costIn costs i
   owed (seqL r a) = owed r + cost costs a
@@ -108,7 +108,7 @@ module _ (costs : Name → ℕ) (turning : Name → Bool) where
   either-falls n true x y f g = f
   either-falls n false x y f g = g
 
-  labS-falls : (n : ℕ) (l : Name) (a : Act) (x : Sig) → Falls n x → Falls n (labS l a x)
+  labS-falls : (n : ℕ) (l : Word) (a : Act) (x : Sig) → Falls n x → Falls n (labS l a x)
   labS-falls n l a ends f = f
   labS-falls n l a (goes r) f = f
   labS-falls n l a (leaves k) f = either-falls n (sameBytes k l) ends (leaves k) f f
@@ -133,7 +133,7 @@ module _ (costs : Name → ℕ) (turning : Name → Bool) where
 
   chosen : (bs : Alts) (v : ℕ) → anyTurns turning bs ≡ false → Chosen bs (choose bs v)
   unfolding choose anyTurns
-  chosen end v h = tt
+  chosen no-alts v h = tt
   chosen (alt c a bs) v h =
       let n = or-neither (turns turning a) (anyTurns turning bs) h in chosen-by c a bs (n .0) (takes c v) (choose bs v) (chosen bs v (n .1))
 
@@ -143,8 +143,8 @@ module _ (costs : Name → ℕ) (turning : Name → Bool) where
 
   -- with bodies that cost what their actions cost
   module _
-      (body : Name → Act) (cost-closed : (p : Name) → costs p ≡ cost costs (body p)) (turns-closed : (p : Name) → turning p ≡ turns turning (body p)) where
-    callS-falls : (n : ℕ) (p : Name) (x : Sig) → Falls n x → Falls n (callS body p x)
+      (body : Word → Act) (cost-closed : (p : Word) → costs p ≡ cost costs (body p)) (turns-closed : (p : Word) → turning p ≡ turns turning (body p)) where
+    callS-falls : (n : ℕ) (p : Word) (x : Sig) → Falls n x → Falls n (callS body p x)
     callS-falls n p ends f = f
     callS-falls n p (goes r) f = f
     callS-falls n p (leaves k) f = either-falls n (sameBytes k p) ends lost f f

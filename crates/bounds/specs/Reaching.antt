@@ -6,36 +6,35 @@ use mathlib.Core.List.{List, [], _∷_, _++_}
 use mathlib.Core.Logic.{_⊎_, inl, inr, _↔_}
 use Rattle.rules.specs.Text.Scan.{sameBytes}
 use Rattle.rules.specs.Limits.{longestChain}
-use Rattle.rules.specs.Declarations.{Name, Table}
-use Rattle.rules.specs.Steps.Actions.{Act, seq, par, label, ins, Ins, iff, decode, repeat, leave, restart, call, stop, noop, transfer, Alts, end, alt}
+use Rattle.rules.specs.Declarations.{Word, Table}
+use Rattle.rules.specs.Steps.Actions.{Act, seq, par, label, ins, Ins, iff, decode, repeat, leave, restart, call, stop, noop, transfer, Alts, no-alts, alt}
 use Rattle.rules.specs.Steps.Runs.{bodyAct}
 use Rattle.rules.specs.Whole.Sets.{callsIn, callsI, callsAlts, anyName}
-use Rattle.rules.specs.Bound.{turns, turnsIn, anyTurns, turnsDown, turnsFrom}
+use Rattle.rules.specs.Bound.{turns, turnsIn, anyTurns, turnsDown, turnsFrom, Reached, Reaches, Turns, itself, onward}
 use Rattle.laws_orders.specs.Orders.Orderly.{Orderly}
 use Rattle.laws_orders.specs.Orders.Tests.{or-either, or-left, or-right}
 use Rattle.laws_accepted.specs.Accepted.Named.{same-equal, same-itself}
-use Rattle.bounds.specs.Cited.Reached.{Reaches, itself, onward, Turns, Reached}
 use Rattle.bounds.specs.Closing.{turns-of-body}
 
-any-append : (p : Name → Bool) (xs ys : List Name) → anyName p (xs ++ ys) ≡ (anyName p xs || anyName p ys)
+any-append : (p : Word → Bool) (xs ys : List Word) → anyName p (xs ++ ys) ≡ (anyName p xs || anyName p ys)
 unfolding anyName
 any-append p [] ys = refl
 any-append p (x ∷ xs) ys = ap (λ b. p x || b) (any-append p xs ys) ∙ sym (or-assoc (p x) (anyName p xs) (anyName p ys))
 
-module _ (f : Name → Bool) where
+module _ (f : Word → Bool) where
   -- what turns does so itself, or activates what turns
-  abbrev Why : Bool → List Name → Type 0
-  Why t ns = (t ≡ true) ⊎ ((q : Name) × (anyName (sameBytes q) ns ≡ true) × (f q ≡ true))
+  abbrev Why : Bool → List Word → Type 0
+  Why t ns = (t ≡ true) ⊎ ((q : Word) × (anyName (sameBytes q) ns ≡ true) × (f q ≡ true))
 
-  why-left : (t u : Bool) (xs ys : List Name) → Why t xs → Why (t || u) (xs ++ ys)
+  why-left : (t u : Bool) (xs ys : List Word) → Why t xs → Why (t || u) (xs ++ ys)
   why-left t u xs ys (inl e) = inl (or-left t u e)
   why-left t u xs ys (inr (q, c, h)) = inr (q, any-append (sameBytes q) xs ys ∙ or-left (anyName (sameBytes q) xs) (anyName (sameBytes q) ys) c, h)
 
-  why-right : (t u : Bool) (xs ys : List Name) → Why u ys → Why (t || u) (xs ++ ys)
+  why-right : (t u : Bool) (xs ys : List Word) → Why u ys → Why (t || u) (xs ++ ys)
   why-right t u xs ys (inl e) = inl (or-right t u e)
   why-right t u xs ys (inr (q, c, h)) = inr (q, any-append (sameBytes q) xs ys ∙ or-right (anyName (sameBytes q) xs) (anyName (sameBytes q) ys) c, h)
 
-  why-either : (t u : Bool) (xs ys : List Name) → Why t xs ⊎ Why u ys → Why (t || u) (xs ++ ys)
+  why-either : (t u : Bool) (xs ys : List Word) → Why t xs ⊎ Why u ys → Why (t || u) (xs ++ ys)
   why-either t u xs ys (inl w) = why-left t u xs ys w
   why-either t u xs ys (inr w) = why-right t u xs ys w
 
@@ -43,7 +42,7 @@ module _ (f : Name → Bool) where
   each (inl a) g h = inl (g a)
   each (inr b) g h = inr (h b)
 
-  abbrev none : Name → Bool
+  abbrev none : Word → Bool
   none n = false
 
   mutual
@@ -67,7 +66,7 @@ module _ (f : Name → Bool) where
     whyIn (transfer d e) h = absurd (false≢true h)
 
     whyAny : (bs : Alts) → anyTurns f bs ≡ true → Why (anyTurns none bs) (callsAlts bs)
-    whyAny end h = absurd (false≢true h)
+    whyAny no-alts h = absurd (false≢true h)
     whyAny (alt c a bs) h =
         why-either (turns none a) (anyTurns none bs) (callsIn a) (callsAlts bs) (each (or-either (turns f a) (anyTurns f bs) h) (λ e. why a e) (λ e. whyAny bs e))
 
@@ -100,11 +99,11 @@ module _ (f : Name → Bool) where
     turnsIn-so (transfer d e) h = h
 
     anyTurns-so : (bs : Alts) → anyTurns none bs ≡ true → anyTurns f bs ≡ true
-    anyTurns-so end h = h
+    anyTurns-so no-alts h = h
     anyTurns-so (alt c a bs) h = from-either (turns none a) (anyTurns none bs) (turns f a) (anyTurns f bs) h (λ e. turns-so a e) (λ e. anyTurns-so bs e)
 
-  module _ (q : Name) (its : f q ≡ true) where
-    abbrev among : List Name → Bool
+  module _ (q : Word) (its : f q ≡ true) where
+    abbrev among : List Word → Bool
     among ns = anyName (sameBytes q) ns
 
     mutual
@@ -130,26 +129,26 @@ module _ (f : Name → Bool) where
       turnsIn-by (transfer d e) h = h
 
       anyTurns-by : (bs : Alts) → among (callsAlts bs) ≡ true → anyTurns f bs ≡ true
-      anyTurns-by end h = h
+      anyTurns-by no-alts h = h
       anyTurns-by (alt c a bs) h =
           from-either (among (callsIn a)) (among (callsAlts bs)) (turns f a) (anyTurns f bs) (sym (any-append (sameBytes q) (callsIn a) (callsAlts bs)) ∙ h) (λ e. turns-by a e)
           (λ e. anyTurns-by bs e)
 
 module _ (ds : Table) where
-  down : (k : ℕ) (p : Name) → turnsDown ds k p ≡ true → Reached ds p
+  down : (k : ℕ) (p : Word) → turnsDown ds k p ≡ true → Reached ds p
   unfolding turnsDown
   down zero p h = absurd (false≢true h)
   down (suc k) p h = by (down k) (why (turnsDown ds k) (bodyAct ds p) h)
     where
-      by : ((q : Name) → turnsDown ds k q ≡ true → Reached ds q) → Why (turnsDown ds k) (turns (λ n. false) (bodyAct ds p)) (callsIn (bodyAct ds p)) → Reached ds p
+      by : ((q : Word) → turnsDown ds k q ≡ true → Reached ds q) → Why (turnsDown ds k) (turns (λ n. false) (bodyAct ds p)) (callsIn (bodyAct ds p)) → Reached ds p
       by ih (inl e) = (p, itself, e)
       by ih (inr (q, c, e)) = let r = ih q e in (r .0, onward c (r .1), r .2)
 
   module _ (o : Orderly ds) where
-    up : (p q : Name) → Reaches ds p q → Turns (bodyAct ds q) → turnsFrom ds p ≡ true
+    up : (p q : Word) → Reaches ds p q → Turns (bodyAct ds q) → turnsFrom ds p ≡ true
     up p q itself h = turns-of-body ds o p ∙ turns-so (turnsFrom ds) (bodyAct ds p) h
     up p q (onward {q = r} c w) h = turns-of-body ds o p ∙ turns-by (turnsFrom ds) r (up r q w h) (bodyAct ds p) c
 
     -- a REPEAT or RESTART stands in p or in a body that activations reach from it, whether control gets there or not
-    pub turns-reached : (p : Name) → (turnsFrom ds p ≡ true) ↔ Reached ds p
+    pub turns-reached : (p : Word) → (turnsFrom ds p ≡ true) ↔ Reached ds p
     turns-reached p = (down longestChain p, λ r. up p (r .0) (r .1) (r .2))

@@ -3,11 +3,11 @@
 use Prim.Native.Nat.{ℕ, _+_, max}
 use Rattle.rules.specs.Grammar.Trees.{Action, block, labelled, if-then, decode, repeat, leave, restart, activate, stop, no-op, transfer, Members, end, also, next}
 use Rattle.rules.specs.Grammar.Trees.{Alternatives, counted, selected, Counted, counted-end, counted-more, Selected, select, otherwise, SelectedMore, selected-end, selected-more}
-use Rattle.rules.specs.Declarations.{Name}
+use Rattle.rules.specs.Declarations.{Word}
 use Rattle.bounds.specs.Cited.Counts.{endless, up}
 
 -- with the count of each body
-module _ (counts : Name → ℕ) where
+module _ (counts : Word → ℕ) where
   -- from the count x on; inside a block or behind a first alternative, with the greatest count so far
   unfoldable mutual
     pub walk : Action → ℕ → ℕ

@@ -6,7 +6,7 @@ use mathlib.Core.Option.{Option, none, some}
 use native.Mathlib.Omega.{arith}
 use Rattle.rules.specs.Grammar.Trees.{Action, block, labelled, if-then, decode, repeat, leave, restart, activate, stop, no-op, transfer, Members, end, also, next}
 use Rattle.rules.specs.Grammar.Trees.{Alternatives, counted, selected, Counted, counted-end, counted-more, Selected, select, otherwise, SelectedMore, selected-end, selected-more}
-use Rattle.rules.specs.Declarations.{Name, Table, bodyOf}
+use Rattle.rules.specs.Declarations.{Word, Table, bodyOf}
 use Rattle.rules.specs.Steps.Actions.{Act, par, actOf, inTurn, groups, whole, altsOf, countedAlts, selectedAlts, moreAlts}
 use Rattle.rules.specs.Steps.Runs.{bodyAct, actOr}
 use Rattle.rules.specs.Bound.{cost, costIn, dearest, turns, turnsIn, anyTurns, costDown, turnsDown}
@@ -77,7 +77,7 @@ cut-true : (n : ℕ) → cut true n ≡ endless
 unfolding cut
 cut-true n = refl
 
-module _ (costs : Name → ℕ) (turning : Name → Bool) (counts : Name → ℕ) (known : (n : Name) → counts n ≡ cut (turning n) (costs n)) where
+module _ (costs : Word → ℕ) (turning : Word → Bool) (counts : Word → ℕ) (known : (n : Word) → counts n ≡ cut (turning n) (costs n)) where
   abbrev C : Act → ℕ
   C a = cost costs a
 
@@ -95,7 +95,7 @@ module _ (costs : Name → ℕ) (turning : Name → Bool) (counts : Name → ℕ
   par-turns y g none = refl
   par-turns y g (some b) = or-assoc (T y) (T g) (T b)
 
-  call-counted : (x : ℕ) (n : Name) → up x (1 + counts n) ≡ cut (turning n) (x + (1 + costs n))
+  call-counted : (x : ℕ) (n : Word) → up x (1 + counts n) ≡ cut (turning n) (x + (1 + costs n))
   call-counted x n = ap (λ k. up x (1 + k)) (known n) ∙ up-on (turning n) x (costs n)
 
   -- one more alternative
@@ -170,7 +170,7 @@ module _ (costs : Name → ℕ) (turning : Name → Bool) (counts : Name → ℕ
     others-is (selected-more i s) x best y h l = selected-is s x (max best y) h (omega arith)
 
   -- what is walked of a body, one activation further down
-  module _ (ds : Table) (p : Name) where
+  module _ (ds : Table) (p : Word) where
     pub walked-body : (a : Action) → bodyOf ds p ≡ some a → walk counts a 0 ≡ cut (T (bodyAct ds p)) (C (bodyAct ds p))
     unfolding bodyAct
     walked-body a e =
@@ -181,6 +181,6 @@ module _ (costs : Name → ℕ) (turning : Name → Bool) (counts : Name → ℕ
     unfolding bodyAct cost turns costIn turnsIn cut
     no-body e = rw e
 
-pub count-none : (ds : Table) (k : ℕ) (p : Name) → bodyOf ds p ≡ none → 1 ≡ countDown ds (suc k) p
+pub count-none : (ds : Table) (k : ℕ) (p : Word) → bodyOf ds p ≡ none → 1 ≡ countDown ds (suc k) p
 unfolding costDown turnsDown
 count-none ds k p e = no-body (costDown ds k) (turnsDown ds k) (countDown ds k) (λ n. refl) ds p e

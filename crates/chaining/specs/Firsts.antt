@@ -4,16 +4,16 @@ use mathlib.Core.Path.{_≡_}
 use mathlib.Core.Bool.{Bool, true, false}
 use mathlib.Core.List.{List, [], _∷_}
 use mathlib.Core.Option.{Option, none, some}
-use Rattle.rules.specs.Declarations.{Name, Table, numberOf}
+use Rattle.rules.specs.Declarations.{Word, Table, numberOf}
 use Rattle.rules.specs.Reasons.{refusedBody}
 
 -- the first of these names for which the test holds, by the number of its declaration
-unfoldable pub firstIn : Table → (Name → Bool) → List Name → Option ℕ
+unfoldable pub firstIn : Table → (Word → Bool) → List Word → Option ℕ
 firstIn ds p [] = none
 firstIn ds p (n ∷ ns) = elim (p n) [ true ↦ numberOf ds n | false ↦ firstIn ds p ns ]
 
 -- where a chain begins: the number of the refused body
-abbrev pub startBy : Table → Option Name → Option ℕ
+abbrev pub startBy : Table → Option Word → Option ℕ
 startBy ds none = none
 startBy ds (some n) = numberOf ds n
 

@@ -5,7 +5,7 @@ use mathlib.Core.Path.{_≡_}
 use mathlib.Core.Bool.{Bool, false, _||_}
 use mathlib.Core.List.{List}
 use mathlib.Core.Option.{Option, none, some}
-use Rattle.rules.specs.Declarations.{Name as Word, Table, numberOf}
+use Rattle.rules.specs.Declarations.{Word, Table, numberOf}
 use Rattle.rules.specs.Whole.Sets.{callsIn, anyName, chainOver}
 use Rattle.reading.specs.Bodies.{actAt}
 use Rattle.reading.specs.Bits.{holds}

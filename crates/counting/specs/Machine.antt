@@ -7,7 +7,7 @@ use lib.ListN.{length}
 use Rattle.rules.specs.Text.Tokens.{Name, LPar, Comma, Equals, BEGIN, END, IF, DECODE, REPEAT, LEAVE, RESTART, STOP, NO-OP, kindNo}
 use Rattle.rules.specs.Grammar.Trees.{Tokens}
 use Rattle.rules.specs.Limits.{deepest}
-use Rattle.rules.specs.Declarations.{Name as Word}
+use Rattle.rules.specs.Declarations.{Word}
 use Rattle.rules.specs.Whole.Sets.{member}
 use Rattle.bounds.specs.Cited.Counts.{endless, up}
 use Rattle.table.specs.Scans.{no}

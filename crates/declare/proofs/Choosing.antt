@@ -10,10 +10,10 @@ use borrow.Author.Tests.{lt-ltb, le-ltb}
 use lib.Dec.{ltb}
 use lib.ListN.{length, take}
 use Rattle.cells.specs.Cells.{cell}
-use Rattle.rules.specs.Text.Tokens.{Name as Name-kind, Token, tk}
+use Rattle.rules.specs.Text.Tokens.{Name, Token, tk}
 use Rattle.rules.specs.Text.Scan.{sameBytes}
 use Rattle.rules.specs.Grammar.Trees.{Tokens, Declaration, Description, description, flatten}
-use Rattle.rules.specs.Declarations.{Name, Table, outerName, numberFrom, numberOf}
+use Rattle.rules.specs.Declarations.{Word, Table, outerName, numberFrom, numberOf}
 use Rattle.rules.specs.Faults.Declared.{isKnown}
 use Rattle.rules.specs.Limits.{mostTokens}
 use Rattle.table.specs.Holds.{tokenAt, insideCell}
@@ -27,7 +27,7 @@ use Rattle.declare.specs.Listed.{Listed, outerOf, tableOf, knownOf, Chos
 use Rattle.declare.proofs.Gathering.{element-within}
 
 -- the first token is the outer name
-first-token : (x : Description) (ts : Tokens) → flatten x ≡ ts → tokenAt ts 0 ≡ tk Name-kind (outerName x)
+first-token : (x : Description) (ts : Tokens) → flatten x ≡ ts → tokenAt ts 0 ≡ tk Name (outerName x)
 first-token (description n e b h d ds) ts r = ap (λ (l : Tokens). tokenAt l 0) (sym r)
 
 some-token : (x : Description) (ts : Tokens) → flatten x ≡ ts → 0 < length ts
@@ -52,7 +52,7 @@ abbrev found : Option ℕ → Bool
 found none = false
 found (some i) = true
 
-known-found : (n : Name) (i : ℕ) (known : List Name) (ds : Table) → isKnown n (knownBehind known ds) ≡ (found (numberFrom i n ds) || isKnown n known)
+known-found : (n : Word) (i : ℕ) (known : List Word) (ds : Table) → isKnown n (knownBehind known ds) ≡ (found (numberFrom i n ds) || isKnown n known)
 unfolding knownBehind numberFrom isKnown
 known-found n i known [] = refl
 known-found n i known (d ∷ ds) = known-found n (suc i) (d .name .word ∷ known) ds ∙ by (sameBytes (d .name .word) n)
@@ -62,7 +62,7 @@ known-found n i known (d ∷ ds) = known-found n (suc i) (d .name .word ∷ know
     by true = or-true (found (numberFrom (suc i) n ds))
     by false = refl
 
-pub number-below : (n : Name) (i j : ℕ) (ds : Table) → numberFrom i n ds ≡ some j → j < i + length ds
+pub number-below : (n : Word) (i j : ℕ) (ds : Table) → numberFrom i n ds ≡ some j → j < i + length ds
 unfolding numberFrom
 number-below n i j [] e = absurd (Option·none-ne-some j e)
 number-below n i j (d ∷ ds) e = by (sameBytes (d .name .word) n) e (number-below n (suc i) j ds)
@@ -72,7 +72,7 @@ number-below n i j (d ∷ ds) e = by (sameBytes (d .name .word) n) e (number-bel
     by true q f = let z : i ≡ j = Option·some-injective i j q in omega arith
     by false q f = omega (arith, f q)
 
-number-above : (n : Name) (i j : ℕ) (ds : Table) → numberFrom i n ds ≡ some j → i ≤ j
+number-above : (n : Word) (i j : ℕ) (ds : Table) → numberFrom i n ds ≡ some j → i ≤ j
 unfolding numberFrom
 number-above n i j [] e = absurd (Option·none-ne-some j e)
 number-above n i j (d ∷ ds) e = by (sameBytes (d .name .word) n) e (number-above n (suc i) j ds)
@@ -91,7 +91,7 @@ none-below k none h = refl
 none-below k (some j) h = le-ltb j k (h j refl)
 
 -- what is found among the first k is found below k
-found-below : (n : Name) (i k : ℕ) (ds : Table) → found (numberFrom i n (take k ds)) ≡ foundBelow (i + k) (numberFrom i n ds)
+found-below : (n : Word) (i k : ℕ) (ds : Table) → found (numberFrom i n (take k ds)) ≡ foundBelow (i + k) (numberFrom i n ds)
 unfolding numberFrom
 found-below n i zero [] = refl
 found-below n i (suc k) [] = refl
@@ -159,7 +159,7 @@ module _ {text records values decls : List ℕ} {m k : ℕ} (v : Chosen text rec
         ∙ ap (λ (b : Bool). b || (sameBytes (outerOf (v .listed)) (chosenOf v .name .word) || false)) (sym before-found)
         ∙ ap (λ (b : Bool). ltb (insideCell records p) k || b)
         (or-false (sameBytes (outerOf (v .listed)) (chosenOf v .name .word))
-        ∙ ap (λ (w : Name). sameBytes w (chosenOf v .name .word)) (sym (outer-word (v .listed)))
+        ∙ ap (λ (w : Word). sameBytes w (chosenOf v .name .word)) (sym (outer-word (v .listed)))
         ∙ ap (sameBytes (wordAt (v .listed .tokens) 0)) (sym word-at))
 
 -- what `declared_before` finds

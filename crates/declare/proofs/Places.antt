@@ -14,7 +14,7 @@ use lib.ListN.{length, take, drop, getElem?, drop-of-length-le, length-map}
 use Rattle.cells.specs.Cells.{cell}
 use Rattle.rules.specs.Text.Tokens.{Token}
 use Rattle.rules.specs.Grammar.Trees.{Declaration}
-use Rattle.rules.specs.Declarations.{Name, Declared, Table, declaredOf, wordsOf}
+use Rattle.rules.specs.Declarations.{Word, Declared, Table, declaredOf, wordsOf}
 use Rattle.rules.specs.Faults.Fault.{fault}
 use Rattle.rules.specs.Limits.{longestText, mostWords}
 use Rattle.rules.specs.Faults.Declared.{largeBits, largeWords, isKnown, badMapping, twice, large, tooMany, mappings, faults30}
@@ -95,7 +95,7 @@ module _ {text records values decls : List ℕ} {m : ℕ} (v : Listed text recor
           (omega (arith, less, a .place, b .place, same), omega (arith, b .small, same))
 
 -- the names before the next
-known-next : (known : List Name) (k : ℕ) (ds : Table) (d : Declared) (rest : Table) → drop k ds ≡ d ∷ rest
+known-next : (known : List Word) (k : ℕ) (ds : Table) (d : Declared) (rest : Table) → drop k ds ≡ d ∷ rest
     → d .name .word ∷ knownBehind known (take k ds) ≡ knownBehind known (take (suc k) ds)
 unfolding knownBehind
 known-next known zero [] d rest e = absurd (omega (arith, ap length e))
@@ -117,11 +117,11 @@ number-small false false true d = omega arith
 number-small false false false true = omega arith
 number-small false false false false = omega arith
 
-own-small : (outer : Name) (all : Table) (known : List Name) (n w : ℕ) (d : Declared) → ownNumber outer all known n w d < 128
+own-small : (outer : Word) (all : Table) (known : List Word) (n w : ℕ) (d : Declared) → ownNumber outer all known n w d < 128
 unfolding ownNumber
 own-small outer all known n w d = number-small (isKnown (d .name .word) known) (isLarge d) (isTooMany n w d) (badMapping outer all d (d .target))
 
-module _ (outer : Name) (all : Table) (known : List Name) (n w : ℕ) (d : Declared) (none-of : ownNumber outer all known n w d ≡ 0) where
+module _ (outer : Word) (all : Table) (known : List Word) (n w : ℕ) (d : Declared) (none-of : ownNumber outer all known n w d ≡ 0) where
   tests : (isLarge d ≡ false) × (isTooMany n w d ≡ false)
   unfolding ownNumber
   tests = no-number (isKnown (d .name .word) known) (isLarge d) (isTooMany n w d) (badMapping outer all d (d .target)) none-of
@@ -207,7 +207,7 @@ module _ {text records values decls : List ℕ} {m words k : ℕ} (j : Judged te
               let rest = drop (suc k) (tableOf v) in
               let from = faultsFrom (outerOf v) (tableOf v) in
               ap (λ (n : ℕ). from (knownOf v n) (k + 1) (words + w) (drop n (tableOf v))) (add-one k)
-              ∙ ap (λ (known : List Name). from known (k + 1) (words + w) rest) (sym (known-next (outerOf v ∷ []) k (tableOf v) d rest (next v)))
+              ∙ ap (λ (known : List Word). from known (k + 1) (words + w) rest) (sym (known-next (outerOf v ∷ []) k (tableOf v) d rest (next v)))
               ∙ ap (λ (x : ℕ). from (d .name .word ∷ knownOf v k) (k + 1) (words + x) rest) (adds (chosen-view (this v) place))
               ∙ sym (passed-on (outerOf v) (tableOf v) (knownOf v k) k words d rest (nothing-wrong v))
               ∙ ap (from (knownOf v k) k words) (sym (next v))

@@ -6,7 +6,7 @@ use mathlib.Core.List.{List, [], _∷_, map}
 use mathlib.Core.Option.{some}
 use lib.ListN.{length, take, getElem?}
 use Rattle.rules.specs.Grammar.Trees.{Tokens, Declaration, Description, flatten}
-use Rattle.rules.specs.Declarations.{Name, Declared, Table, declaredOf, outerName}
+use Rattle.rules.specs.Declarations.{Word, Declared, Table, declaredOf, outerName}
 use Rattle.rules.specs.Faults.Declared.{largeWords}
 use Rattle.table.specs.Holds.{Holds}
 use Rattle.table.specs.Declarations.{declarationList}
@@ -27,14 +27,14 @@ pub record Listed (text records values decls : List ℕ) (m : ℕ) : Type 0 wher
   pub means : MeaningHolds records tokens (outerName description .word) (map declaredOf (declarationList description))
 
 module _ {text records values decls : List ℕ} {m : ℕ} (v : Listed text records values decls m) where
-  abbrev pub outerOf : Name
+  abbrev pub outerOf : Word
   outerOf = outerName (v .description) .word
 
   abbrev pub tableOf : Table
   tableOf = map declaredOf (declarationList (v .description))
 
   -- the names before the k-th
-  abbrev pub knownOf : ℕ → List Name
+  abbrev pub knownOf : ℕ → List Word
   knownOf k = knownBehind (outerOf ∷ []) (take k tableOf)
 
 -- the k-th of them

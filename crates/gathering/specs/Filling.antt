@@ -5,7 +5,7 @@ use mathlib.Core.Bool.{false}
 use mathlib.Core.List.{List, [], _∷_}
 use mathlib.Core.Option.{some}
 use lib.ListN.{length}
-use Rattle.rules.specs.Declarations.{Name as Word, numberOf}
+use Rattle.rules.specs.Declarations.{Word, numberOf}
 use Rattle.rules.specs.Limits.{longestChain}
 use Rattle.rules.specs.Whole.Sets.{chainOver}
 use Rattle.table.specs.Words.{wordAt}

@@ -7,7 +7,7 @@ use mathlib.Core.List.{List, [], _∷_}
 use mathlib.Core.Option.{some}
 use lib.Dec.{eqb}
 use Rattle.cells.specs.Cells.{cell}
-use Rattle.rules.specs.Declarations.{Name as Word, numberOf}
+use Rattle.rules.specs.Declarations.{Word, numberOf}
 use Rattle.rules.specs.Whole.Sets.{Sets, owner, bodySets, bodyStops, member}
 use Rattle.rules.specs.Limits.{longestChain}
 use Rattle.reading.specs.Reading.{Reading, tableOf}

@@ -4,7 +4,7 @@ use mathlib.Core.Path.{_≡_}
 use mathlib.Core.Bool.{Bool}
 use mathlib.Core.List.{List, [], _∷_, _++_}
 use lib.ListN.{drop}
-use Rattle.rules.specs.Declarations.{Name as Word}
+use Rattle.rules.specs.Declarations.{Word}
 use Rattle.rules.specs.Limits.{longestChain}
 use Rattle.rules.specs.Whole.Sets.{Sets, bodySets, bodyStops, member}
 use Rattle.table.specs.Holds.{tokenAt}

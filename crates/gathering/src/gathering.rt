@@ -16,8 +16,8 @@ ghost use mathlib.Core.Path.{_≡_};
 ghost use mathlib.Core.Bool.{false};
 ghost use Prim.Native.Nat.{ℕ, _*_, _<_, _≤_};
 ghost use lib.ListN.{length, drop};
-ghost use Rattle.rules.specs.Text.Tokens.{Name as NameKind, kindNo};
-ghost use Rattle.rules.specs.Declarations.{Name};
+ghost use Rattle.rules.specs.Text.Tokens.{Name, kindNo};
+ghost use Rattle.rules.specs.Declarations.{Word};
 ghost use Rattle.rules.specs.Whole.Sets.{anyName, chainOver};
 ghost use Rattle.rules.specs.Limits.{longestChain};
 ghost use Rattle.table.specs.Holds.{kindByte};
@@ -38,7 +38,7 @@ pub fn gather(
     i: usize,
     left: usize,
 )
-    requires { ⌜ Fillable (now records) (now decls) (now memo) m n × ((i < n) × ((kindByte (now records) i ≡ kindNo NameKind)
+    requires { ⌜ Fillable (now records) (now decls) (now memo) m n × ((i < n) × ((kindByte (now records) i ≡ kindNo Name)
         × ((left ≤ 16) × ((v : Reading (now records) (now decls) m n) → chainOver (tableOf v) left (wordAt (v .tokens) i) ≡ false)))) ⌝ }
     ensures { λ _. ⌜ Fills (now (records .entry)) (now (decls .entry)) (now (memo .entry)) (now (memo .exit)) m n i ⌝ }
 {
@@ -119,7 +119,7 @@ fn note_carriers(records: &[u8], decls: &[u8], memo: &mut [u8], m: usize, n: usi
 // Gathers all bodies, where no chain is over 16 bodies long.
 pub fn gather_all(records: &[u8], decls: &[u8], memo: &mut [u8], m: usize, n: usize)
     requires { ⌜ Reading (now records) (now decls) m n × ((72 * m ≤ length (now memo))
-        × ((v : Reading (now records) (now decls) m n) (w : Name) → chainOver (tableOf v) longestChain w ≡ false)) ⌝ }
+        × ((v : Reading (now records) (now decls) m n) (w : Word) → chainOver (tableOf v) longestChain w ≡ false)) ⌝ }
     ensures { λ _. ⌜ Complete (now (records .entry)) (now (decls .entry)) (now (memo .exit)) m n ⌝ }
 {
     note_carriers(records, decls, memo, m, n);

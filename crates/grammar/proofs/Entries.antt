@@ -11,7 +11,8 @@ use borrow.Author.Tests.{eq-eqb}
 use lib.Dec.{T, eqb, ltb, leb→le, eqb→eq}
 use lib.ListN.{length, getD, drop}
 use lib.Seq.{getD-drop}
-use Rattle.rules.specs.Text.Tokens.{Kind, Name, kinds, kindAt}
+use Rattle.rules.specs.Text.Tokens.{Kind, Name}
+use Rattle.laws_grammar.specs.Cited.Kinds.{kinds, kindAt}
 use Rattle.laws_grammar.specs.Cited.Rows.{State, Move, go, open-to, shut, Row, row, lookup}
 use Rattle.grammar.specs.Places.{place}
 use Rattle.grammar.specs.Entries.{kindCount, moveNo, Says, Ruled, nextOf}

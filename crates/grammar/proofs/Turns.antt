@@ -10,11 +10,12 @@ use native.Mathlib.Omega.{arith}
 use borrow.Author.Tests.{le-leb, lt-leb}
 use lib.ListN.{length, getD, set, drop, length-set}
 use lib.Seq.{drop-cons, drop-length, getD-set-same, getD-set-other}
-use Rattle.rules.specs.Text.Tokens.{Token, tk, Name, kindAt}
+use Rattle.rules.specs.Text.Tokens.{Token, tk, Name}
 use Rattle.rules.specs.Grammar.Trees.{Tokens}
 use Rattle.rules.specs.Grammar.Verdict.{anyInfo}
 use Rattle.laws_grammar.specs.Cited.Answer.{Answer, accepted, refused20, refused21}
 use Rattle.rules.specs.Limits.{deepest}
+use Rattle.laws_grammar.specs.Cited.Kinds.{kindAt}
 use Rattle.laws_grammar.specs.Grammar.Kinds.{kindAt-kindNo}
 use Rattle.laws_grammar.specs.Cited.Rows.{State, title, Stack, Move, go, open-to, shut, row, lookup, too-deep, judge, run, recognise}
 use Rattle.grammar.specs.Places.{place}

@@ -4,11 +4,11 @@ use mathlib.Core.Option.{Option, none, some}
 use mathlib.Core.List.{List}
 use Prim.Native.Nat.{ℕ, _+_, _*_, _%_, _<_}
 use lib.ListN.{getD}
-use Rattle.rules.specs.Text.Tokens.{kindAt}
 use Rattle.laws_grammar.specs.Cited.Rows.{State, Move, go, open-to, shut, row, lookup}
 use Rattle.grammar.specs.Places.{place}
 use Rattle.grammar.specs.declared.Next.{Next}
 use Rattle.grammar.specs.declared.Next.the-variants.{Nowhere, On, Into, Out}
+use Rattle.laws_grammar.specs.Cited.Kinds.{kindAt}
 
 -- how many kinds there are
 abbrev pub kindCount : ℕ

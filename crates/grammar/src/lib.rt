@@ -7,11 +7,11 @@ use table::TABLE;
 use table::TITLE;
 ghost use mathlib.Core.Path.{_≡_};
 ghost use Prim.Native.Nat.{_<_};
-ghost use Rattle.rules.specs.Text.Tokens.{kindAt};
 ghost use Rattle.laws_grammar.specs.Cited.Rows.{State, row, lookup};
 ghost use Rattle.grammar.specs.Places.{place};
 ghost use Rattle.grammar.specs.Entries.{kindCount, Ruled, nextOf};
 ghost use Rattle.grammar.specs.Records.{Records, Answers, kindByte};
+ghost use Rattle.laws_grammar.specs.Cited.Kinds.{kindAt};
 
 // The tokens are a description's, or refused with the number of the token where they are: that of the end is how many there are.
 pub enum Recognised {

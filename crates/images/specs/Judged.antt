@@ -1,5 +1,4 @@
 -- The answer of `judge` as a fault of the rules.
-use Prim.Native.Nat.{ℕ}
 use mathlib.Core.Option.{Option, none, some}
 use Rattle.rules.specs.Faults.Fault.{Fault, fault}
 use Rattle.images.specs.declared.images.Judged.{Judged}

@@ -13,12 +13,11 @@ use Rattle.rules.specs.Declarations.{Table, declarations}
 use Rattle.rules.specs.Steps.Evaluation.{Carriers}
 use Rattle.rules.specs.Steps.Runs.{Conf, Steps, begin}
 use Rattle.rules.specs.Faults.Whole.{mainName}
-use Rattle.rules.specs.Bound.{costOf, turnsFrom}
+use Rattle.rules.specs.Bound.{costOf, turnsFrom, Reached}
 use Rattle.rules.specs.Agreement.{endingIn, stepsIn}
 use Rattle.rules.specs.Calls.Memory.{Memory, Enough}
 use Rattle.rules.specs.Calls.Run.{RunCall}
 use Rattle.rules.specs.Calls.Bound.{BoundCall}
-use Rattle.bounds.specs.Cited.Reached.{Reached}
 use Rattle.isps.specs.Laws.Bound as laws
 
 -- Number, answer and work memory are settled: two results that the contract allows are the same.
@@ -41,7 +40,7 @@ module _ {text : List ℕ} {before after : Memory} {n : ℕ} (call : BoundCall t
       → (endingIn (after .answer) ≡ 5) ↔ ((turnsFrom ds (mainName ds) ≡ true) ⊎ (mostSteps < costOf ds (mainName ds)))
   no-bound-exactly = laws.no-bound-exactly call enough short d stands
 
-  -- where the first means that a REPEAT or RESTART stands in a body to which activations lead from MAIN (`Reached` in Cited/ of the crate `bounds`),
+  -- where the first means that a REPEAT or RESTART stands in a body to which activations lead from MAIN (`Reached` in rules/specs/Bound.antt),
   pub reached-exactly : (endingIn (after .answer) ≡ 4 → ⊥) → (turnsFrom ds (mainName ds) ≡ true) ↔ Reached ds (mainName ds)
   reached-exactly = laws.reached-exactly call enough short d stands
 

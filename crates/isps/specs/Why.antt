@@ -9,7 +9,7 @@ use Rattle.rules.specs.Calls.Memory.{Memory}
 use Rattle.rules.specs.Calls.Check.{CheckCall}
 use Rattle.rules.specs.Reasons.{no-reason}
 use Rattle.rules.specs.Calls.Why.{WhyMemory, WhyCall, reasonSize, reasoned}
-use Rattle.reasons.specs.Told.{RaceTold, ChainTold}
+use Rattle.rules.specs.Truth.{RaceTold, ChainTold}
 use Rattle.reasons.specs.Laws.Told as laws
 use Rattle.reasons.specs.Laws.Unique as unique
 

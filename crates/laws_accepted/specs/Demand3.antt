@@ -17,7 +17,8 @@ use Rattle.rules.specs.Faults.Whole.{mainName}
 use Rattle.rules.specs.Answers.{accepted, Checks}
 use Rattle.laws_grammar.specs.Answers.{accepted-iff-lawful}
 use Rattle.laws_grammar.specs.Grammar.Exact.{unique}
-use Rattle.rules.specs.Steps.Orders.{Ended, EndsWell, EveryOrder}
+use Rattle.rules.specs.Steps.Orders.{Ended, EveryOrder}
+use Rattle.laws_orders.specs.Orders.Ends.{EndsWell}
 use Rattle.laws_orders.specs.Orders.Demand3.{order-free, none-ends}
 use Rattle.laws_accepted.specs.Accepted.Orderly.{accepted-orderly}
 

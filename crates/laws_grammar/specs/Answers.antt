@@ -1,5 +1,5 @@
 -- The answers of Check and Run: each text has one, it is computed, and a text is accepted exactly when the rules allow it.
-use Prim.Native.Nat.{ℕ, _≤_, _<_}
+use Prim.Native.Nat.{ℕ, _≤_}
 use mathlib.Core.Path.{_≡_, refl, sym, ap, _∙_, subst}
 use mathlib.Core.Bool.{Bool, true, false}
 use mathlib.Core.List.{List, [], _∷_}
@@ -13,9 +13,9 @@ use lib.ListN.{length}
 use Rattle.rules.specs.Text.Scan.{scan, End, fine, refuse}
 use Rattle.rules.specs.Limits.{longestText}
 use Rattle.rules.specs.Grammar.Trees.{Tokens, Description, flatten}
-use Rattle.rules.specs.Grammar.Verdict.{Crowded, Accepted, Refused20, Refused21}
+use Rattle.rules.specs.Grammar.Verdict.{Crowded}
 use Rattle.laws_grammar.specs.Cited.Answer.{Answer, accepted, refused20, refused21}
-use Rattle.laws_grammar.specs.Grammar.Answer.{Right}
+use Rattle.laws_grammar.specs.Grammar.Answer.{Right, Accepted}
 use Rattle.rules.specs.Declarations.{declarations}
 use Rattle.rules.specs.Answers.{Verdict, accepted as passes, refused, judgement, placeOf, Checks, too-long, unreadable, no-description, too-deep, judged}
 use Rattle.rules.specs.Answers.{Lawful, Result, refusal, runOn, Runs, not-accepted, ran}
@@ -23,7 +23,7 @@ use Rattle.laws_grammar.specs.Cited.Rows.{title, recognise}
 use Rattle.laws_grammar.specs.Grammar.Meanings.{stackL}
 use Rattle.laws_grammar.specs.Grammar.Reading.{read}
 use Rattle.laws_grammar.specs.Grammar.Complete.{complete}
-use Rattle.laws_grammar.specs.Grammar.Exact.{unique, right, only, accepted-of-description}
+use Rattle.laws_grammar.specs.Grammar.Exact.{right, only}
 
 -- the description that tokens stand for
 unfoldable pub descriptionOf : Tokens → Option Description

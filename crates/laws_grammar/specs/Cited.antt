@@ -1,5 +1,6 @@
 pub mod Answer
 pub mod Heads
+pub mod Kinds
 pub mod Nesting
 pub mod Positions
 pub mod Rows

@@ -6,7 +6,7 @@ use mathlib.Core.Option.{Option, none, some}
 use lib.ListN.{length, getElem?}
 use Rattle.cells.specs.Cells.{cell}
 use Rattle.rules.specs.Grammar.Trees.{Tokens, Action, Declaration, Description}
-use Rattle.rules.specs.Declarations.{Name as Word, Table, declaredOf, declarations, outerName}
+use Rattle.rules.specs.Declarations.{Word, Table, declaredOf, declarations, outerName}
 use Rattle.laws_orders.specs.Cited.Flat.{exit, outer, bind}
 use Rattle.laws_code.specs.Cited.Code.{firstOf}
 use Rattle.laws_code.specs.Cited.Placed.{bodyStarts}

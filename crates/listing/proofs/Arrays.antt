@@ -6,7 +6,7 @@ use mathlib.Core.List.{List, _++_}
 use native.Mathlib.Omega.{arith}
 use borrow.Author.Tests.{lt-ltb, le-ltb}
 use Rattle.cells.specs.Cells.{cell}
-use Rattle.rules.specs.Declarations.{Name, Names, names, howMany}
+use Rattle.rules.specs.Declarations.{Word, Names, names, howMany}
 use Rattle.lines.specs.Appended.{Appended}
 use Rattle.lines.specs.Laws.Appended.{Left, all-left, less-left, none-left}
 use Rattle.listing.specs.Listing.{arrayLine, nameAt, arrayLines}
@@ -28,15 +28,15 @@ module _ (left right i : ℕ) (inside : i < howMany (names left right)) where
   up-is h = rw (le-ltb right left h)
 
 -- i of n lines are appended
-pub record ArrayLeft (before now : List ℕ) (start at : ℕ) (name : Name) (s : Names) (carriers : List ℕ) (w n i : ℕ) : Type 0 where
+pub record ArrayLeft (before now : List ℕ) (start at : ℕ) (name : Word) (s : Names) (carriers : List ℕ) (w n i : ℕ) : Type 0 where
   pub within : i ≤ n
   pub reach : at ≤ start + 128 * i
   pub left : Left before now start at (arrayLines name s carriers w 0 n) (arrayLines name s carriers w i (n - i))
 
-pub array-starts : {buffer : List ℕ} {at : ℕ} {name : Name} {s : Names} {carriers : List ℕ} {w n : ℕ} → ArrayLeft buffer buffer at at name s carriers w n 0
+pub array-starts : {buffer : List ℕ} {at : ℕ} {name : Word} {s : Names} {carriers : List ℕ} {w n : ℕ} → ArrayLeft buffer buffer at at name s carriers w n 0
 array-starts {n = n} = let all : n - 0 ≡ n = omega arith in record { within = omega arith; reach = omega arith; left = rw all all-left }
 
-module _ {before now : List ℕ} {start at : ℕ} {name : Name} {s : Names} {carriers : List ℕ} {w n i : ℕ}
+module _ {before now : List ℕ} {start at : ℕ} {name : Word} {s : Names} {carriers : List ℕ} {w n i : ℕ}
     (l : ArrayLeft before now start at name s carriers w n i) where
   pub array-less : {after : List ℕ} {r m v : ℕ} → i < n → m ≡ nameAt s i → v ≡ cell 8 carriers (w + i)
       → Appended now after at r (arrayLine name m v) × (r ≤ at + 128) → ArrayLeft before after start r name s carriers w n (i + 1)

@@ -7,7 +7,7 @@ use mathlib.Core.Option.{Option, none, some}
 use native.Mathlib.Omega.{arith}
 use Rattle.cells.specs.Cells.{cell}
 use Rattle.rules.specs.Text.Tokens.{Token}
-use Rattle.rules.specs.Declarations.{Name, Names, names, howMany, BitNames, Target, declaredOf, storageWords}
+use Rattle.rules.specs.Declarations.{Word, Names, names, howMany, BitNames, Target, declaredOf, storageWords}
 use Rattle.table.specs.Words.{NameAt}
 use Rattle.table.specs.Laws.Words.{word-folded, word-inside}
 use Rattle.table.specs.Views.{View}
@@ -41,7 +41,7 @@ module _ {text records values : List ℕ} {p : ℕ} (s : Stands text records val
 
 -- the lines by the words' count and names
 module _ (t : Option Target) (b : Option BitNames) where
-  no-lines : (s : Option Names) (name : Name) (carriers : List ℕ) (w : ℕ) → storageWords t b s ≡ 0 → storageLines t b s name carriers w ≡ []
+  no-lines : (s : Option Names) (name : Word) (carriers : List ℕ) (w : ℕ) → storageWords t b s ≡ 0 → storageLines t b s name carriers w ≡ []
   unfolding storageWords storageLines howMany
   no-lines s name carriers w e = by t b s e
     where
@@ -51,7 +51,7 @@ module _ (t : Option Target) (b : Option BitNames) where
       by none (some b) none e = absurd (omega arith)
       by none (some b) (some s) e = absurd (omega arith)
 
-  one-line : (s : Option Names) (name : Name) (carriers : List ℕ) (w : ℕ) → (storageWords t b s ≡ 0 → ⊥) → Missing ≡ shownWords s
+  one-line : (s : Option Names) (name : Word) (carriers : List ℕ) (w : ℕ) → (storageWords t b s ≡ 0 → ⊥) → Missing ≡ shownWords s
       → storageLines t b s name carriers w ≡ wordLine name (cell 8 carriers w)
   unfolding storageWords storageLines
   one-line s name carriers w d e = by t b s d e
@@ -63,11 +63,11 @@ module _ (t : Option Target) (b : Option BitNames) where
       by none (some b) none d e = refl
       by none (some b) (some s) d e = absurd (let z : _≡_ {A = ℕ} 0 1 = cc in omega arith)
 
-  record ArrayOf (s : Option Names) (left right : ℕ) (name : Name) (carriers : List ℕ) (w : ℕ) : Type 0 where
+  record ArrayOf (s : Option Names) (left right : ℕ) (name : Word) (carriers : List ℕ) (w : ℕ) : Type 0 where
     pub count : storageWords t b s ≡ howMany (names left right)
     pub lines : storageLines t b s name carriers w ≡ arrayLines name (names left right) carriers w 0 (howMany (names left right))
 
-  array-of : (s : Option Names) (left right : ℕ) (name : Name) (carriers : List ℕ) (w : ℕ) → (storageWords t b s ≡ 0 → ⊥) → Span left right ≡ shownWords s
+  array-of : (s : Option Names) (left right : ℕ) (name : Word) (carriers : List ℕ) (w : ℕ) → (storageWords t b s ≡ 0 → ⊥) → Span left right ≡ shownWords s
       → ArrayOf s left right name carriers w
   unfolding storageWords storageLines
   array-of s left right name carriers w d e = record { count = count t b s d e; lines = lines t b s d e }

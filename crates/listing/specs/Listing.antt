@@ -6,7 +6,7 @@ use mathlib.Core.Option.{Option, none, some}
 use lib.Dec.{ltb}
 use Rattle.cells.specs.Cells.{cell}
 use Rattle.rules.specs.Text.Bytes.{bytes}
-use Rattle.rules.specs.Declarations.{Name, Names, howMany, BitNames, Target, Declared, Table, wordsOf}
+use Rattle.rules.specs.Declarations.{Word, Names, howMany, BitNames, Target, Declared, Table, wordsOf}
 use Rattle.lines.specs.Digits.{hexCapitals}
 use Rattle.lines.specs.Endings.{labelled}
 
@@ -15,11 +15,11 @@ abbrev pub valueBytes : ℕ → List ℕ
 valueBytes v = bytes " = " ++ (hexCapitals v ++ (10 ∷ []))
 
 -- `A = 0000000000000003`
-abbrev pub wordLine : Name → ℕ → List ℕ
+abbrev pub wordLine : Word → ℕ → List ℕ
 wordLine name v = name ++ valueBytes v
 
 -- `M[2] = 0000000000000003`
-abbrev pub arrayLine : Name → ℕ → ℕ → List ℕ
+abbrev pub arrayLine : Word → ℕ → ℕ → List ℕ
 arrayLine name n v = name ++ (labelled (bytes "[") n ++ (bytes "]" ++ valueBytes v))
 
 -- the i-th name from the left, up or down
@@ -31,12 +31,12 @@ abbrev pub nameAt : Names → ℕ → ℕ
 nameAt s i = nameBy (ltb (s .right) (s .left)) (s .left) i
 
 -- n words of an array from the i-th on; its values stand in the carriers' cells from w on
-unfoldable pub arrayLines : Name → Names → List ℕ → ℕ → ℕ → ℕ → List ℕ
+unfoldable pub arrayLines : Word → Names → List ℕ → ℕ → ℕ → ℕ → List ℕ
 arrayLines name s carriers w i zero = []
 arrayLines name s carriers w i (suc n) = arrayLine name (nameAt s i) (cell 8 carriers (w + i)) ++ arrayLines name s carriers w (i + 1) n
 
 -- none for a mapping nor for what has no bits
-unfoldable pub storageLines : Option Target → Option BitNames → Option Names → Name → List ℕ → ℕ → List ℕ
+unfoldable pub storageLines : Option Target → Option BitNames → Option Names → Word → List ℕ → ℕ → List ℕ
 storageLines (some t) b s name carriers w = []
 storageLines none none s name carriers w = []
 storageLines none (some b) none name carriers w = wordLine name (cell 8 carriers w)

@@ -7,7 +7,7 @@ use lib.ListN.{length}
 use Rattle.rules.specs.Text.Tokens.{Name, LPar, Comma, Semi, Becomes, Equals, BEGIN, END, NEXT, IF, DECODE, REPEAT, LEAVE, NO-OP, kindNo, Token}
 use Rattle.rules.specs.Grammar.Trees.{Tokens}
 use Rattle.rules.specs.Limits.{deepest}
-use Rattle.rules.specs.Declarations.{Name as Word, Table}
+use Rattle.rules.specs.Declarations.{Word, Table}
 use Rattle.rules.specs.Whole.Sets.{member, owner}
 use Rattle.paths.specs.Cited.Early.{Report, activation}
 use Rattle.paths.specs.Cited.Marks.{Marks, Slot, slot, marked, cleared, added, flagOf, markedAt, unmarked}

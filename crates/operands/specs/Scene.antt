@@ -9,7 +9,7 @@ use Rattle.rules.specs.Text.Tokens.{Name, Const, Info, Token, tk}
 use Rattle.rules.specs.Grammar.Trees.{Tokens, Bits, bitsTokens, Operand, operandTokens, Tail, tailTokens, Subscript, subscriptTokens}
 use Rattle.rules.specs.Grammar.Precedence.{cell, factorOf, indexOf, exprOf}
 use Rattle.rules.specs.Values.{Value, value}
-use Rattle.rules.specs.Declarations.{Name as Word, Table, totalWords}
+use Rattle.rules.specs.Declarations.{Word, Table, totalWords}
 use Rattle.rules.specs.Steps.Actions as actions
 use Rattle.rules.specs.Steps.Evaluation.{Carriers, Outcome, gives, faulty, Field, evaluate, evaluateFactor, evaluateAccess}
 use Rattle.laws_grammar.specs.Cited.Nesting.{operandNest, tailNest, subscriptNest}

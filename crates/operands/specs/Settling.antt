@@ -7,7 +7,7 @@ use lib.ListN.{length, getD}
 use Rattle.rules.specs.Text.Tokens.{opKind, kindNo}
 use Rattle.rules.specs.Grammar.Precedence.{Expr}
 use Rattle.rules.specs.Values.{value}
-use Rattle.rules.specs.Declarations.{Name as Word, Table}
+use Rattle.rules.specs.Declarations.{Word, Table}
 use Rattle.rules.specs.Steps.Evaluation.{Carriers, gives, evaluate}
 use Rattle.laws_grammar.specs.Cited.Shunting.{Waiting}
 use Rattle.laws_accepted.specs.Cited.Declared.{Declares}

@@ -2,8 +2,8 @@
 use Prim.Native.Nat.{ℕ, zero, suc}
 use mathlib.Core.Path.{_≡_, refl, sym, ap, ap₂, subst}
 use mathlib.Core.Bool.{Bool, false, false≢true}
-use Rattle.rules.specs.Declarations.{Name, Table}
-use Rattle.rules.specs.Steps.Actions.{Act, seq, par, label, ins, Ins, iff, decode, repeat, leave, restart, call, stop, noop, transfer, Alts, end, alt}
+use Rattle.rules.specs.Declarations.{Word, Table}
+use Rattle.rules.specs.Steps.Actions.{Act, seq, par, label, ins, Ins, iff, decode, repeat, leave, restart, call, stop, noop, transfer, Alts, no-alts, alt}
 use Rattle.rules.specs.Steps.Runs.{bodyAct}
 use Rattle.rules.specs.Whole.Sets.{callsIn, callsI, callsAlts, anyName, chainOver}
 use Rattle.rules.specs.Limits.{longestChain}
@@ -13,8 +13,8 @@ use Rattle.paths.specs.Cited.Early.{Report, passed, inTurn, beside, eith
 use Rattle.paths.specs.Reports.{Sub, sub-refl}
 use Rattle.paths.specs.Covered.{Closed}
 
-module _ (ds : Table) (test : Name) (output : ℕ) where
-  module _ (p : Name → Bool) (f g : Name → Report) (same : (n : Name) → p n ≡ false → f n ≡ g n) where
+module _ (ds : Table) (test : Word) (output : ℕ) where
+  module _ (p : Word → Bool) (f g : Word → Report) (same : (n : Word) → p n ≡ false → f n ≡ g n) where
     mutual
       unfolding early earlyI earlyAlts callsIn callsI callsAlts
 
@@ -36,11 +36,11 @@ module _ (ds : Table) (test : Name) (output : ℕ) where
       earlyI-same (transfer d e) h = refl
 
       earlyAlts-same : (bs : Alts) → anyName p (callsAlts bs) ≡ false → earlyAlts ds test output f bs ≡ earlyAlts ds test output g bs
-      earlyAlts-same end h = refl
+      earlyAlts-same no-alts h = refl
       earlyAlts-same (alt c a bs) h = let n = none-of p (callsIn a) (callsAlts bs) h in ap₂ either (early-same a (n .0)) (earlyAlts-same bs (n .1))
 
   pub early-closed :
-      (k : ℕ) (n : Name) → chainOver ds k n ≡ false
+      (k : ℕ) (n : Word) → chainOver ds k n ≡ false
       → inside n (early ds test output (bodyEarly ds test output k) (bodyAct ds n)) ≡ bodyEarly ds test output k n
   unfolding chainOver bodyEarly
   early-closed zero n h = absurd (false≢true (sym h))

@@ -1,27 +1,26 @@
 -- A report covers what is left of an action if it says all that can still be reached before the test has ended. Steps keep it.
-use Prim.Native.Nat.{ℕ, zero, suc}
-use mathlib.Core.Path.{_≡_, refl, sym, _∙_, ap, subst}
-use mathlib.Core.Bool.{Bool, true, false, cond, not, _||_, _&&_, false≢true}
-use mathlib.Core.List.{List, [], _∷_, _++_}
-use mathlib.Core.Logic.{_⊎_, inl, inr}
+use Prim.Native.Nat.{ℕ}
+use mathlib.Core.Path.{_≡_, refl, sym, ap, subst}
+use mathlib.Core.Bool.{Bool, true, false, cond, not, _&&_, false≢true}
+use mathlib.Core.List.{[]}
+use mathlib.Core.Logic.{inl, inr}
 use lib.Dec.{eqb}
 use borrow.Author.Tests.{eq-eqb}
 use Rattle.rules.specs.Text.Scan.{sameBytes}
-use Rattle.rules.specs.Grammar.Precedence.{Expr}
-use Rattle.rules.specs.Declarations.{Name, Table}
-use Rattle.rules.specs.Steps.Actions.{Access, Act, seq, par, label, ins, Ins, iff, decode, repeat, leave, restart, call, stop, noop, transfer, Alts, end, alt, transferPlace}
-use Rattle.rules.specs.Steps.Control.{Live, one, seqL, both, left, right, labL, loopL, callL, start, Work, moves, tests, nothing}
+use Rattle.rules.specs.Declarations.{Word, Table}
+use Rattle.rules.specs.Steps.Actions.{Act, seq, par, label, ins, Ins, iff, decode, repeat, leave, restart, call, stop, noop, transfer, Alts, no-alts, alt, transferPlace}
+use Rattle.rules.specs.Steps.Control.{Live, one, seqL, both, left, right, labL, loopL, callL, start}
 use Rattle.rules.specs.Steps.Control.{Sig, ends, goes, leaves, restarts, stops, faults, Mv, workI, work}
 use Rattle.rules.specs.Steps.Control.{seqS, bothL, bothR, leftS, rightS, labS, loopS, lost, callS, nextI}
 use Rattle.rules.specs.Steps.Runs.{bodyAct}
-use Rattle.rules.specs.Whole.Sets.{member, stores}
-use Rattle.laws_orders.specs.Orders.Tests.{or-neither, or-left, or-right, member-left, member-right, member-either}
+use Rattle.rules.specs.Whole.Sets.{member}
+use Rattle.laws_orders.specs.Orders.Tests.{or-neither, or-left, or-right, member-left, member-right}
 use Rattle.laws_accepted.specs.Accepted.Named.{same-equal, same-itself}
 use Rattle.rules.specs.Paths.{at, OneOf, May, around, isEnd, endsTest, Writes}
-use Rattle.paths.specs.Cited.Early.{Report, report, nowhere, passed, inTurn, beside, either, inside, turning, activation, written, early, earlyI, earlyAlts}
+use Rattle.paths.specs.Cited.Early.{Report, passed, inTurn, beside, inside, turning, activation, early, earlyI, earlyAlts}
 use Rattle.paths.specs.Reports.{and-true, Sub, sub-refl, sub-trans, either-left, either-right, turn-second, beside-first, beside-second, turning-sub}
 
-module _ (ds : Table) (test : Name) (output : ℕ) (known : Name → Report) where
+module _ (ds : Table) (test : Word) (output : ℕ) (known : Word → Report) where
   abbrev earlyA : Act → Report
   earlyA a = early ds test output known a
 
@@ -107,15 +106,15 @@ module _ (ds : Table) (test : Name) (output : ℕ) (known : Name → Report) whe
 
   -- a LEAVE that the label takes, and one that goes on
   left-covered :
-      (R S : Report) (l k : Name) → Sub (inside l S) R → S .leaves k ≡ true → (b : Bool) → sameBytes k l ≡ b → CoversS R (cond b ends (leaves k))
+      (R S : Report) (l k : Word) → Sub (inside l S) R → S .leaves k ≡ true → (b : Bool) → sameBytes k l ≡ b → CoversS R (cond b ends (leaves k))
   left-covered R S l k s h true e = s .ends (or-right (S .ends) (S .leaves l) (subst (λ z. S .leaves z ≡ true) (same-equal k l e) h))
   left-covered R S l k s h false e = s .leaves k (and-true (not (sameBytes k l)) (S .leaves k) (ap not e) h)
 
-  restart-covered : (R : Report) (t : Live) (k : Name) → Covers R t → (b : Bool) → CoversS R (cond b (goes t) (restarts k))
+  restart-covered : (R : Report) (t : Live) (k : Word) → Covers R t → (b : Bool) → CoversS R (cond b (goes t) (restarts k))
   restart-covered R t k h true = h
   restart-covered R t k h false = tt
 
-  labS-covered : (R S : Report) (l : Name) (a : Act) → Sub (earlyA a) S → Sub (inside l S) R → (x : Sig) → CoversS S x → CoversS R (labS l a x)
+  labS-covered : (R S : Report) (l : Word) (a : Act) → Sub (earlyA a) S → Sub (inside l S) R → (x : Sig) → CoversS S x → CoversS R (labS l a x)
   labS-covered R S l a o s ends h = s .ends (or-left (S .ends) (S .leaves l) h)
   labS-covered R S l a o s (goes r) h = (S, o, h, s)
   labS-covered R S l a o s (leaves k) h = left-covered R S l k s h (sameBytes k l) refl
@@ -133,12 +132,12 @@ module _ (ds : Table) (test : Name) (output : ℕ) (known : Name → Report) whe
   loopS-covered R S a o s (faults m p) h = tt
 
   -- the end of an activation that is not the test's
-  other-ends : (R S : Report) (p : Name) → Sub (activation test p (inside p S)) R → inside p S .ends ≡ true → (b : Bool) → sameBytes p test ≡ b → (b && true) ≡ false → R .ends ≡ true
+  other-ends : (R S : Report) (p : Word) → Sub (activation test p (inside p S)) R → inside p S .ends ≡ true → (b : Bool) → sameBytes p test ≡ b → (b && true) ≡ false → R .ends ≡ true
   other-ends R S p s h true e q = absurd (false≢true (sym q))
   other-ends R S p s h false e q = s .ends (and-true (not (sameBytes p test)) (inside p S .ends) (ap not e) h)
 
   left-call :
-      (R S : Report) (p k : Name) → Sub (activation test p (inside p S)) R → S .leaves k ≡ true → (b : Bool) → sameBytes k p ≡ b
+      (R S : Report) (p k : Word) → Sub (activation test p (inside p S)) R → S .leaves k ≡ true → (b : Bool) → sameBytes k p ≡ b
       → (sameBytes p test && isEnd (cond b ends lost)) ≡ false → CoversS R (cond b ends lost)
   left-call R S p k s h true e q =
       other-ends R S p s (or-right (S .ends) (S .leaves p) (subst (λ z. S .leaves z ≡ true) (same-equal k p e) h)) (sameBytes p test) refl q
@@ -149,7 +148,7 @@ module _ (ds : Table) (test : Name) (output : ℕ) (known : Name → Report) whe
   restart-call R t h false = tt
 
   callS-covered :
-      (R S : Report) (p : Name) → Sub (earlyA (bodyAct ds p)) S → Sub (activation test p (inside p S)) R → (x : Sig) → CoversS S x
+      (R S : Report) (p : Word) → Sub (earlyA (bodyAct ds p)) S → Sub (activation test p (inside p S)) R → (x : Sig) → CoversS S x
       → (sameBytes p test && isEnd (callS (bodyAct ds) p x)) ≡ false → CoversS R (callS (bodyAct ds) p x)
   callS-covered R S p o s ends h q = other-ends R S p s (or-left (S .ends) (S .leaves p) h) (sameBytes p test) refl q
   callS-covered R S p o s (goes r) h q = (S, o, h, s)
@@ -160,15 +159,15 @@ module _ (ds : Table) (test : Name) (output : ℕ) (known : Name → Report) whe
 
   alts-covered : (R : Report) (bs : Alts) (a : Act) → OneOf bs a → Sub (earlyAlts ds test output known bs) R → Covers R (start a)
   unfolding earlyAlts
-  alts-covered R end a o s = absurd o
+  alts-covered R no-alts a o s = absurd o
   alts-covered R (alt c b bs) a (inl e) s = begins a R (rw e (either-left (earlyA b) (earlyAlts ds test output known bs) s))
   alts-covered R (alt c b bs) a (inr o) s = alts-covered R bs a o (either-right (earlyA b) (earlyAlts ds test output known bs) s)
 
   -- what is known of a body counts what its action reaches
   abbrev pub Closed : Type 0
-  Closed = (p : Name) → Sub (inside p (earlyA (bodyAct ds p))) (known p)
+  Closed = (p : Word) → Sub (inside p (earlyA (bodyAct ds p))) (known p)
 
-  activation-sub : (p : Name) (x y : Report) → Sub x y → Sub (activation test p x) (activation test p y)
+  activation-sub : (p : Word) (x y : Report) → Sub x y → Sub (activation test p x) (activation test p y)
   activation-sub p x y s = record { places = s .places; ends = λ h. by (not (sameBytes p test)) h; leaves = λ k h. h }
     where
       by : (b : Bool) → (b && x .ends) ≡ true → (b && y .ends) ≡ true

@@ -1,16 +1,16 @@
 -- Nothing is made up: each place of the analysis is a transfer that some path comes to too early.
 use Prim.Native.Nat.{ℕ, zero, suc}
-use mathlib.Core.Path.{_≡_, refl, sym, _∙_, ap, subst}
+use mathlib.Core.Path.{_≡_, refl, sym, ap, subst}
 use mathlib.Core.Bool.{Bool, true, false, cond, not, _||_, _&&_, false≢true}
-use mathlib.Core.List.{List, [], _∷_, _++_}
+use mathlib.Core.List.{List, [], _∷_}
 use mathlib.Core.Logic.{_⊎_, inl, inr}
 use lib.Dec.{eqb}
 use borrow.Author.Tests.{eqb-true}
 use Rattle.rules.specs.Text.Scan.{sameBytes}
 use Rattle.rules.specs.Grammar.Precedence.{Expr}
-use Rattle.rules.specs.Declarations.{Name, Table}
-use Rattle.rules.specs.Steps.Actions.{Access, Act, seq, par, label, ins, Ins, iff, decode, repeat, leave, restart, call, stop, noop, transfer, Alts, end, alt, transferPlace}
-use Rattle.rules.specs.Steps.Control.{Live, one, seqL, both, left, right, labL, loopL, callL, start, workI, Sig, ends, goes, leaves, restarts, stops, faults, lost, nextI}
+use Rattle.rules.specs.Declarations.{Word, Table}
+use Rattle.rules.specs.Steps.Actions.{Access, Act, seq, par, label, ins, Ins, iff, decode, repeat, leave, restart, call, stop, noop, transfer, Alts, no-alts, alt, transferPlace}
+use Rattle.rules.specs.Steps.Control.{Live, one, seqL, both, right, labL, loopL, callL, start, workI, ends, goes, leaves, lost, nextI}
 use Rattle.rules.specs.Steps.Runs.{bodyAct}
 use Rattle.rules.specs.Whole.Sets.{member, stores}
 use Rattle.rules.specs.Limits.{longestChain}
@@ -19,7 +19,7 @@ use Rattle.laws_orders.specs.Orders.Tests.{or-either, member-either}
 use Rattle.laws_accepted.specs.Accepted.Named.{and-both, same-equal, same-itself}
 use Rattle.rules.specs.Paths.{May, OneOf, spot, Path, outset, TooEarly}
 use Rattle.paths.specs.Cited.Early.{Report, report, nowhere, passed, inTurn, beside, either, inside, turning, activation, written, early, earlyI, earlyAlts, bodyEarly, earlyPlaces}
-use Rattle.paths.specs.Going.{before, firstOf, secondOf, lastLeft, lastRight, labelled, turn, activated, Goes, Says, Comes, says-in, comes-in, says-on, comes-on, says-once}
+use Rattle.paths.specs.Going.{before, firstOf, secondOf, lastRight, labelled, turn, activated, Goes, Says, Comes, says-in, comes-in, says-on, comes-on, says-once}
 
 by : {A B C : Type 0} → A ⊎ B → (A → C) → (B → C) → C
 by (inl u) f g = f u
@@ -29,11 +29,11 @@ not-so : (b : Bool) → not b ≡ true → b ≡ false
 not-so true e = absurd (false≢true e)
 not-so false e = refl
 
-module _ (ds : Table) (test : Name) (output : ℕ) where
+module _ (ds : Table) (test : Word) (output : ℕ) where
   -- all that a report says is reached
   record Real (x : Report) (r : Live) : Type 0 where
     ends : x .ends ≡ true → Says ds test output r ends
-    leaves : (k : Name) → x .leaves k ≡ true → Says ds test output r (leaves k)
+    leaves : (k : Word) → x .leaves k ≡ true → Says ds test output r (leaves k)
     places : (p : ℕ) → member p (x .places) ≡ true → Comes ds test output r p
 
   nowhere-real : (r : Live) → Real nowhere r
@@ -92,7 +92,7 @@ module _ (ds : Table) (test : Name) (output : ℕ) where
             (λ e. comes-in ds test output (secondOf r) t n (q .places n e));
       }
 
-  label-real : (x : Report) (l : Name) (a : Act) (r : Live) → Real x r → Real (inside l x) (labL l a r)
+  label-real : (x : Report) (l : Word) (a : Act) (r : Live) → Real x r → Real (inside l x) (labL l a r)
   label-real x l a r p =
       record {
         ends = λ h.
@@ -113,7 +113,7 @@ module _ (ds : Table) (test : Name) (output : ℕ) where
         places = λ n h. comes-in ds test output (turn a) r n (p .places n h);
       }
 
-  call-real : (x : Report) (n : Name) (r : Live) → Real x r → Real (activation test n (inside n x)) (callL n r)
+  call-real : (x : Report) (n : Word) (r : Live) → Real x r → Real (activation test n (inside n x)) (callL n r)
   call-real x n r p =
       record {
         ends = λ h. let e = and-both (not (sameBytes n test)) (x .ends || x .leaves n) h in back (not-so (sameBytes n test) (e .0)) (or-either (x .ends) (x .leaves n) (e .1));
@@ -129,7 +129,7 @@ module _ (ds : Table) (test : Name) (output : ℕ) where
           (says-in ds test output (activated n) r (leaves n) (rw e refl) (p .leaves n h))
 
   -- with what is known of the bodies
-  module _ (known : Name → Report) (bodies : (n : Name) → Real (activation test n (known n)) (callL n (start (bodyAct ds n)))) where
+  module _ (known : Word → Report) (bodies : (n : Word) → Real (activation test n (known n)) (callL n (start (bodyAct ds n)))) where
     goes-real : (x : Report) (i : Ins) (u : Live) → May (bodyAct ds) i (goes u) → Real x u → Real x (one i)
     goes-real x i u h a = on-real x (one i) u (says-once ds test output i (goes u) h) a
 
@@ -139,7 +139,7 @@ module _ (ds : Table) (test : Name) (output : ℕ) where
     passed-real i h =
         record { ends = λ e. says-once ds test output i ends h; leaves = λ k e. absurd (false≢true e); places = λ p e. absurd (false≢true e) }
 
-    leave-real : (l : Name) → Real (report [] false (λ k. sameBytes k l)) (one (leave l))
+    leave-real : (l : Word) → Real (report [] false (λ k. sameBytes k l)) (one (leave l))
     unfolding member nextI
     leave-real l =
         record {
@@ -188,11 +188,11 @@ module _ (ds : Table) (test : Name) (output : ℕ) where
       ins-real (transfer d e) = transfer-real d e
 
       alts-real : (bs : Alts) (q : ℕ) (e : Expr) (all : Alts) → ((a : Act) → OneOf bs a → OneOf all a) → Real (earlyAlts ds test output known bs) (one (decode q e all))
-      alts-real end q e all o = nowhere-real (one (decode q e all))
+      alts-real no-alts q e all o = nowhere-real (one (decode q e all))
       alts-real (alt c a bs) q e all o =
           either-real _ _ (one (decode q e all)) (alts-goes _ q e all a (o a (inl refl)) (act-real a)) (alts-real bs q e all (λ b h. o b (inr h)))
 
-  activation-nowhere : (n : Name) (r : Live) → Real (activation test n nowhere) r
+  activation-nowhere : (n : Word) (r : Live) → Real (activation test n nowhere) r
   unfolding member
   activation-nowhere n r =
       record {
@@ -201,7 +201,7 @@ module _ (ds : Table) (test : Name) (output : ℕ) where
         places = λ p h. absurd (false≢true h);
       }
 
-  body-real : (k : ℕ) (n : Name) → Real (activation test n (bodyEarly ds test output k n)) (callL n (start (bodyAct ds n)))
+  body-real : (k : ℕ) (n : Word) → Real (activation test n (bodyEarly ds test output k n)) (callL n (start (bodyAct ds n)))
   unfolding bodyEarly
   body-real zero n = activation-nowhere n (callL n (start (bodyAct ds n)))
   body-real (suc k) n = call-real _ n (start (bodyAct ds n)) (act-real (bodyEarly ds test output k) (body-real k) (bodyAct ds n))

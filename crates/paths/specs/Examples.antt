@@ -1,11 +1,10 @@
 -- Short texts with a test and an output, worked out by the definitions: 0 0 where it passes, else the number and the place.
-use Prim.Native.Nat.{ℕ, _*_}
+use Prim.Native.Nat.{ℕ}
 use Prim.Native.String.{String}
 use mathlib.Core.Path.{_≡_, refl}
-use mathlib.Core.Bool.{Bool, true, false, _&&_}
+use mathlib.Core.Bool.{Bool, true, _&&_}
 use mathlib.Core.List.{List, [], _∷_, _++_}
-use lib.Dec.{T, eqb}
-use lib.ListN.{getD, replicate}
+use lib.Dec.{T}
 use Rattle.rules.specs.Text.Bytes.{bytes, classIn, classOf, inName, inConstant, inComment, fold, leading as run-Bytes}
 use Rattle.rules.specs.Answers.{judgement, placeOf, littleEndian, wordsFrom, bytesOf, bufferOf, wordLengths, longWord, runOn}
 use Rattle.rules.specs.Declarations.{howMany, fromLeft, fromRight, bitCount, restOf, declarations, numberFrom, numberOf, storageWords, totalWords}

@@ -2,13 +2,13 @@
 -- alone goes on so inside any action.
 use Prim.Native.Nat.{ℕ, zero, suc}
 use mathlib.Core.Path.{_≡_, refl, sym, _∙_, ap, ap₂, subst}
-use mathlib.Core.Bool.{Bool, true, false, cond, not, _||_, _&&_, false≢true}
-use mathlib.Core.Logic.{_⊎_, inl, inr}
+use mathlib.Core.Bool.{Bool, true, false, _||_, _&&_}
+use mathlib.Core.Logic.{inl, inr}
 use Rattle.rules.specs.Text.Scan.{sameBytes}
-use Rattle.rules.specs.Declarations.{Name, Table}
+use Rattle.rules.specs.Declarations.{Word, Table}
 use Rattle.rules.specs.Steps.Actions.{Act, Ins}
-use Rattle.rules.specs.Steps.Control.{Live, one, seqL, both, left, right, labL, loopL, callL, start}
-use Rattle.rules.specs.Steps.Control.{Sig, ends, goes, leaves, restarts, stops, faults, Mv, work, seqS, bothL, bothR, leftS, rightS, labS, loopS, callS}
+use Rattle.rules.specs.Steps.Control.{Live, one, seqL, both, left, right, labL, loopL, callL}
+use Rattle.rules.specs.Steps.Control.{Sig, goes, Mv, work, seqS, bothL, bothR, leftS, rightS, labS, loopS, callS}
 use Rattle.rules.specs.Steps.Runs.{bodyAct}
 use Rattle.rules.specs.Paths.{at, May, around, isEnd, endsTest, Writes}
 
@@ -18,9 +18,9 @@ pub data Frame : Type 0 where
   firstOf : Live → Frame
   secondOf : Live → Frame
   lastLeft lastRight : Frame
-  labelled : Name → Act → Frame
+  labelled : Word → Act → Frame
   turn : Act → Frame
-  activated : Name → Frame
+  activated : Word → Frame
 
 abbrev pub fill : Frame → Live → Live
 fill (before a) r = seqL r a
@@ -42,8 +42,8 @@ lift (labelled l a) r m = m
 lift (turn a) r m = m
 lift (activated p) r m = m
 
-module _ (ds : Table) (test : Name) (output : ℕ) where
-  abbrev body : Name → Act
+module _ (ds : Table) (test : Word) (output : ℕ) where
+  abbrev body : Word → Act
   body = bodyAct ds
 
   abbrev pub Goes : ℕ → Live → Live → Type 0

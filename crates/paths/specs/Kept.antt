@@ -5,18 +5,18 @@ use mathlib.Core.Bool.{Bool, true, false, _||_, false≢true}
 use mathlib.Core.List.{List, map}
 use Rattle.rules.specs.Grammar.Precedence.{Expr}
 use Rattle.rules.specs.Values.{Value, cut}
-use Rattle.rules.specs.Declarations.{Name, Table}
+use Rattle.rules.specs.Declarations.{Word, Table}
 use Rattle.rules.specs.Steps.Actions.{Access, transferPlace}
-use Rattle.rules.specs.Steps.Evaluation.{Carriers, Outcome, gives, faulty, then, Field, storeAll, evaluate, evaluateAccesses, transferred}
-use Rattle.rules.specs.Steps.Control.{Live, callL, start, Work, moves, tests, nothing, Sig, ends, goes, leaves, restarts, stops, faults, Mv, work, nextI, next}
-use Rattle.rules.specs.Steps.Runs.{Conf, running, finished, stopped, failed, Worked, worked, moved, tested, perform, told, after, bodyAct, step, Steps, begin}
+use Rattle.rules.specs.Steps.Evaluation.{Carriers, Outcome, gives, faulty, storeAll, evaluate, evaluateAccesses, transferred}
+use Rattle.rules.specs.Steps.Control.{Live, Work, moves, tests, nothing, Sig, ends, goes, leaves, restarts, stops, faults, Mv, work, next}
+use Rattle.rules.specs.Steps.Runs.{Conf, running, finished, stopped, failed, Worked, moved, tested, perform, told, after, bodyAct, step, Steps, begin}
 use Rattle.rules.specs.Whole.Sets.{member, stores}
 use Rattle.rules.specs.Faults.Whole.{mainName}
 use Rattle.laws_orders.specs.Orders.Tests.{or-neither}
 use Rattle.laws_orders.specs.Orders.Owners.{ownerAt}
 use Rattle.laws_orders.specs.Orders.Fields.{word, stores-keep}
 use Rattle.laws_orders.specs.Orders.Reading.{wordsIn, then-gave, accesses-land}
-use Rattle.rules.specs.Paths.{at, May, around, endsTest, Spot, spot, Path, outset, Writes, TooEarly, endsBy, testEnded}
+use Rattle.rules.specs.Paths.{Writes, TooEarly, endsBy, testEnded}
 use Rattle.paths.specs.Runs.{no-early-store}
 
 abbrev pub carriersIn : Conf → Carriers
@@ -25,7 +25,7 @@ carriersIn (finished s) = s
 carriersIn (stopped s) = s
 carriersIn (failed m p s) = s
 
-module _ (ds : Table) (test : Name) (output : ℕ) where
+module _ (ds : Table) (test : Word) (output : ℕ) where
   -- a transfer that goes through keeps each word that it does not store to
   transfer-keeps : (d : List Access) (e : Expr) (s t : Carriers) → transferred ds s d e ≡ gives t → (i : ℕ) → wordsIn ds (stores ds d) i ≡ false → word t i ≡ word s i
   unfolding transferred

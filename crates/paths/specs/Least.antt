@@ -1,12 +1,12 @@
 -- The lowest place as a number that is kept on the way.
 use Prim.Native.Nat.{ℕ, min, _≤_, _<_}
-use mathlib.Core.Path.{_≡_, refl, sym, _∙_, ap, ap₂}
-use mathlib.Core.Bool.{Bool, true, false, cond}
+use mathlib.Core.Path.{_≡_, sym, _∙_, ap}
+use mathlib.Core.Bool.{cond}
 use mathlib.Core.List.{List, [], _∷_, _++_}
 use native.Mathlib.Omega.{arith}
 use lib.Dec.{ltb}
 use borrow.Author.Tests.{lt-ltb, le-ltb}
-use Rattle.rules.specs.Paths.{Profile, passes, fails}
+use Rattle.rules.specs.Paths.{passes, fails}
 use Rattle.paths.specs.Cited.Least.{least}
 use Rattle.paths.specs.Cited.Early.{lowest, verdict}
 

@@ -7,7 +7,7 @@ use mathlib.Core.Logic.{_↔_}
 use mathlib.Core.Option.{some}
 use Rattle.rules.specs.Text.Scan.{scan}
 use Rattle.rules.specs.Grammar.Trees.{Description, flatten}
-use Rattle.rules.specs.Declarations.{Name, Table, declarations}
+use Rattle.rules.specs.Declarations.{Word, Table, declarations}
 use Rattle.rules.specs.Steps.Evaluation.{Carriers}
 use Rattle.rules.specs.Steps.Control.{Live, Mv, work}
 use Rattle.rules.specs.Steps.Runs.{running, Steps, step, begin}
@@ -29,24 +29,24 @@ use Rattle.paths.specs.Kept.{carriersIn}
 use Rattle.paths.specs.Texts as texts
 
 -- SOUND and EXACT: in an orderly description the analysis lists exactly the places of the transfers that some path reaches too early.
-pub listed-exactly : (ds : Table) (test : Name) (output : ℕ) → Orderly ds → (p : ℕ) → (member p (earlyPlaces ds test output) ≡ true) ↔ TooEarly ds test output p
+pub listed-exactly : (ds : Table) (test : Word) (output : ℕ) → Orderly ds → (p : ℕ) → (member p (earlyPlaces ds test output) ≡ true) ↔ TooEarly ds test output p
 listed-exactly ds test output o p = (exact.exact ds test output p, sound.sound ds test output o p)
 
 -- THE VERDICT: the one that is computed is one that the definitions allow, and they allow one.
-pub profile-right : (ds : Table) (test output : Name) → Orderly ds → Profiles ds test output (profile ds test output)
+pub profile-right : (ds : Table) (test output : Word) → Orderly ds → Profiles ds test output (profile ds test output)
 profile-right = verdict.right
 
-pub one-answer : (ds : Table) (test output : Name) {x y : Profile} → Profiles ds test output x → Profiles ds test output y → x ≡ y
+pub one-answer : (ds : Table) (test output : Word) {x y : Profile} → Profiles ds test output x → Profiles ds test output y → x ≡ y
 one-answer = verdict.one-answer
 
 -- RUNS: any single steps of any members, from any carriers, are a path, and an activation of the test has ended on it if it has in them.
 pub runs-are-paths :
-    (ds : Table) (test : Name) (n : ℕ) (s t : Carriers) (r : Live) (q : Steps ds n (begin ds (mainName ds) s) (running r t))
+    (ds : Table) (test : Word) (n : ℕ) (s t : Carriers) (r : Live) (q : Steps ds n (begin ds (mainName ds) s) (running r t))
     → Path ds test n (outset ds (mainName ds)) (spot r (testEnded ds test n (begin ds (mainName ds) s) (running r t) q))
 runs-are-paths = runs.runs-are-paths
 
 -- Of a profile that passes, whatever steps have been taken in a run (q) and whichever member steps next (m):
-module _ (ds : Table) (test output : Name) (accepts : Profiles ds test output passes) (o : ℕ) (its : storageOf ds output ≡ some o) where
+module _ (ds : Table) (test output : Word) (accepts : Profiles ds test output passes) (o : ℕ) (its : storageOf ds output ≡ some o) where
   in-no-path : (p : ℕ) → ¬ TooEarly ds test o p
   in-no-path p w = verdict.accepted-none ds test output accepts o its p w
 

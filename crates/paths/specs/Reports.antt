@@ -1,15 +1,12 @@
 -- Reports ordered by what they say is reached.
 use Prim.Native.Nat.{ℕ}
-use mathlib.Core.Path.{_≡_, refl, sym, _∙_, ap, subst}
-use mathlib.Core.Bool.{Bool, true, false, cond, not, _||_, _&&_, false≢true}
-use mathlib.Core.List.{List, [], _∷_, _++_}
-use mathlib.Core.Logic.{_⊎_, inl, inr}
-use Rattle.rules.specs.Text.Scan.{sameBytes}
-use Rattle.rules.specs.Declarations.{Name}
+use mathlib.Core.Path.{_≡_}
+use mathlib.Core.Bool.{Bool, true, false, cond, _&&_}
+use mathlib.Core.List.{[]}
+use Rattle.rules.specs.Declarations.{Word}
 use Rattle.rules.specs.Whole.Sets.{member}
-use Rattle.laws_orders.specs.Orders.Tests.{or-either, or-left, or-right, member-left, member-right, member-either}
-use Rattle.laws_accepted.specs.Accepted.Named.{and-both}
-use Rattle.paths.specs.Cited.Early.{Report, inTurn, beside, either, inside, turning, activation}
+use Rattle.laws_orders.specs.Orders.Tests.{or-left, or-right, member-left, member-right}
+use Rattle.paths.specs.Cited.Early.{Report, inTurn, beside, either, turning}
 
 pub and-true : (a b : Bool) → a ≡ true → b ≡ true → (a && b) ≡ true
 and-true true b p q = q
@@ -18,7 +15,7 @@ and-true false b p q = p
 pub record Sub (x y : Report) : Type 0 where
   pub places : (p : ℕ) → member p (x .places) ≡ true → member p (y .places) ≡ true
   pub ends : x .ends ≡ true → y .ends ≡ true
-  pub leaves : (k : Name) → x .leaves k ≡ true → y .leaves k ≡ true
+  pub leaves : (k : Word) → x .leaves k ≡ true → y .leaves k ≡ true
 
 pub sub-refl : (x : Report) → Sub x x
 sub-refl x = record { places = λ p h. h; ends = λ h. h; leaves = λ k h. h }

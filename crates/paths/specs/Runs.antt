@@ -1,19 +1,19 @@
 -- Every run, in any order and from any carriers, is a path.
 use Prim.Native.Nat.{ℕ, zero, suc}
 use mathlib.Core.Path.{_≡_, refl, sym, _∙_, ap, ap₂, subst}
-use mathlib.Core.Bool.{Bool, true, false, cond, _||_, or-assoc, or-false, false≢true}
-use mathlib.Core.Logic.{_⊎_, inl, inr}
+use mathlib.Core.Bool.{Bool, true, false, cond, _||_, or-assoc, or-false}
+use mathlib.Core.Logic.{inl, inr}
 use mathlib.Core.Option.{Option, none, some}
 use Rattle.rules.specs.Selectors.{takes}
-use Rattle.rules.specs.Declarations.{Name, Table}
-use Rattle.rules.specs.Steps.Actions.{Act, Ins, iff, decode, repeat, leave, restart, call, stop, noop, transfer, Alts, end, alt}
+use Rattle.rules.specs.Declarations.{Word, Table}
+use Rattle.rules.specs.Steps.Actions.{Act, Ins, iff, decode, repeat, leave, restart, call, stop, noop, transfer, Alts, no-alts, alt}
 use Rattle.rules.specs.Steps.Evaluation.{Carriers, Outcome, gives, faulty}
-use Rattle.rules.specs.Steps.Control.{Live, one, seqL, both, left, right, labL, loopL, callL, start, workI}
+use Rattle.rules.specs.Steps.Control.{Live, one, seqL, both, left, right, labL, loopL, callL, start}
 use Rattle.rules.specs.Steps.Control.{Sig, ends, goes, leaves, restarts, stops, faults, Mv, work, choose, pickS, nextI, next}
 use Rattle.rules.specs.Steps.Control.{seqS, bothL, bothR, leftS, rightS, labS, loopS, callS}
 use Rattle.rules.specs.Steps.Runs.{Conf, running, finished, stopped, failed, Worked, perform, told, after, bodyAct, step, Steps, begin}
 use Rattle.rules.specs.Faults.Whole.{mainName}
-use Rattle.rules.specs.Paths.{at, OneOf, May, around, endsTest, Spot, spot, Path, outset, Writes, TooEarly, endsBy, testEnded}
+use Rattle.rules.specs.Paths.{at, OneOf, May, around, endsTest, spot, Path, outset, Writes, TooEarly, endsBy, testEnded}
 
 abbrev isGoing : Sig → Type 0
 isGoing ends = ⊥
@@ -23,7 +23,7 @@ isGoing (restarts k) = ⊥
 isGoing stops = ⊥
 isGoing (faults m p) = ⊥
 
-module _ (body : Name → Act) where
+module _ (body : Word → Act) where
   -- `around` is what `next` does around an instruction
   pub next-around : (r : Live) (m : Mv r) (v : ℕ) → next body r m v ≡ around body r m (nextI body (at r m) v)
   next-around (one i) m v = refl
@@ -68,7 +68,7 @@ module _ (body : Name → Act) where
 
   chosen : (bs : Alts) (v : ℕ) → Chosen bs (choose bs v)
   unfolding choose
-  chosen end v = tt
+  chosen no-alts v = tt
   chosen (alt c a bs) v = chosen-by c a bs (takes c v) (choose bs v) (chosen bs v)
 
   picked : (p : ℕ) (e : _) (bs : Alts) (o : Option Act) → Chosen bs o → Said (decode p e bs) (pickS p o)
@@ -120,7 +120,7 @@ told-runs s u (restarts l) t v e = absurd (subst isRunning (sym e) tt)
 told-runs s u stops t v e = absurd (subst isRunning (sym e) tt)
 told-runs s u (faults m p) t v e = absurd (subst isRunning (sym e) tt)
 
-module _ (ds : Table) (test : Name) where
+module _ (ds : Table) (test : Word) where
   -- steps that come to something running come from something running
   from-running : (n : ℕ) (c : Conf) (r : Live) (s : Carriers) → Steps ds n c (running r s) → isRunning c
   from-running zero c r s q = subst isRunning (sym q) tt

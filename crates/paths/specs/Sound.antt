@@ -1,28 +1,27 @@
 -- Nothing is missed: a transfer that some path comes to too early is among the places of the analysis.
 use Prim.Native.Nat.{ℕ, zero, suc}
 use mathlib.Core.Path.{_≡_, refl, sym, _∙_, ap, subst}
-use mathlib.Core.Bool.{Bool, true, false, cond, not, _||_, _&&_, false≢true}
-use Rattle.rules.specs.Text.Scan.{sameBytes}
-use Rattle.rules.specs.Declarations.{Name, Table}
-use Rattle.rules.specs.Steps.Control.{Live, callL, start, Sig, goes, Mv, work}
+use mathlib.Core.Bool.{Bool, true, false, false≢true}
+use Rattle.rules.specs.Declarations.{Word, Table}
+use Rattle.rules.specs.Steps.Control.{Live, callL, start}
 use Rattle.rules.specs.Steps.Runs.{bodyAct}
 use Rattle.rules.specs.Whole.Sets.{member}
 use Rattle.rules.specs.Limits.{longestChain}
 use Rattle.laws_orders.specs.Orders.Orderly.{Orderly}
 use Rattle.rules.specs.Faults.Whole.{mainName}
-use Rattle.rules.specs.Paths.{at, May, around, endsTest, Spot, spot, Path, outset, Writes, TooEarly}
-use Rattle.paths.specs.Cited.Early.{Report, report, inside, activation, early, bodyEarly, earlyPlaces}
-use Rattle.paths.specs.Reports.{Sub, sub-refl}
+use Rattle.rules.specs.Paths.{endsTest, Spot, spot, Path, outset, TooEarly}
+use Rattle.paths.specs.Cited.Early.{Report, inside, activation, early, bodyEarly, earlyPlaces}
+use Rattle.paths.specs.Reports.{sub-refl}
 use Rattle.paths.specs.Covered.{Covers, CoversS, Closed, begins, step-covered, covers-writes}
 use Rattle.paths.specs.Closing.{early-closed, all-closed}
 
-module _ (ds : Table) (test : Name) (output : ℕ) where
+module _ (ds : Table) (test : Word) (output : ℕ) where
   -- what has ended has ended
   stays-ended : (n : ℕ) (r t : Live) → Path ds test n (spot r true) (spot t false) → ⊥
-  stays-ended zero r t q = false≢true (sym (ap (λ (c : Spot). c .ended) q))
+  stays-ended zero r t q = false≢true (sym (ap (λ (c : Spot). c .test-ended) q))
   stays-ended (suc n) r t q = stays-ended n (q .2) t (q .5)
 
-  module _ (known : Name → Report) (closed : Closed ds test output known) (R : Report) where
+  module _ (known : Word → Report) (closed : Closed ds test output known) (R : Report) where
     -- a path on which no activation of the test has ended stays within the report
     pub path-covered : (n : ℕ) (r t : Live) → Covers ds test output known R r → Path ds test n (spot r false) (spot t false) → Covers ds test output known R t
     path-covered zero r t h q = subst (Covers ds test output known R) (ap (λ (c : Spot). c .live) q) h

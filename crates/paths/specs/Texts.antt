@@ -1,12 +1,12 @@
 -- A text and two lent names: the answer that is computed is one that the call may give, and there is no other.
 use Prim.Native.Nat.{ℕ}
-use mathlib.Core.Path.{_≡_, refl, sym, _∙_, ap, subst}
+use mathlib.Core.Path.{_≡_, sym, _∙_, ap, subst}
 use mathlib.Core.List.{List}
 use mathlib.Core.Option.{Option, none, some}
 use native.Mathlib.Omega.{arith}
 use Rattle.rules.specs.Text.Scan.{scan}
 use Rattle.rules.specs.Grammar.Trees.{Description, flatten}
-use Rattle.rules.specs.Declarations.{Name, declarations}
+use Rattle.rules.specs.Declarations.{Word, declarations}
 use Rattle.laws_orders.specs.Orders.Orderly.{Orderly}
 use Rattle.rules.specs.Answers.{Verdict, Checks, accepted, refused}
 use Rattle.laws_grammar.specs.Grammar.Exact.{unique}
@@ -17,11 +17,11 @@ use Rattle.paths.specs.Cited.Early.{profile}
 use Rattle.paths.specs.Verdict.{right, one-answer}
 
 -- the answer of a text
-abbrev pub byDescription : Option Description → Name → Name → Profile
+abbrev pub byDescription : Option Description → Word → Word → Profile
 byDescription none test output = fails 0 0
 byDescription (some d) test output = profile (declarations d) test output
 
-abbrev pub byVerdict : Verdict → Option Description → Name → Name → Profile
+abbrev pub byVerdict : Verdict → Option Description → Word → Word → Profile
 byVerdict (refused m p) d test output = fails m p
 byVerdict (accepted n w) d test output = byDescription d test output
 

@@ -1,7 +1,7 @@
 -- The computed profile is what the definitions ask for, and they allow one answer.
-use Prim.Native.Nat.{ℕ, zero, suc, min, _≤_}
-use mathlib.Core.Path.{_≡_, refl, sym, _∙_, ap, ap₂, subst}
-use mathlib.Core.Bool.{Bool, true, false, _||_, false≢true}
+use Prim.Native.Nat.{ℕ, min, _≤_}
+use mathlib.Core.Path.{_≡_, refl, sym, _∙_, ap, subst}
+use mathlib.Core.Bool.{true, false, _||_, false≢true}
 use mathlib.Core.List.{List, [], _∷_}
 use mathlib.Core.Logic.{_⊎_, inl, inr}
 use mathlib.Core.Option.{Option, none, some, Option·some-injective}
@@ -9,7 +9,7 @@ use native.Mathlib.Decide.{decLe}
 use native.Mathlib.Omega.{arith}
 use lib.Dec.{eqb}
 use borrow.Author.Tests.{eqb-true, eq-eqb}
-use Rattle.rules.specs.Declarations.{Name, Table, bodyOf}
+use Rattle.rules.specs.Declarations.{Word, Table, bodyOf}
 use Rattle.rules.specs.Grammar.Trees.{Action}
 use Rattle.rules.specs.Whole.Sets.{member}
 use Rattle.laws_orders.specs.Orders.Orderly.{Orderly}
@@ -80,7 +80,7 @@ abbrev isSome : {A : Type 0} → Option A → Type 0
 isSome none = ⊥
 isSome (some a) = Unit {0}
 
-module _ (ds : Table) (test output : Name) where
+module _ (ds : Table) (test output : Word) where
   -- by the places, on a storage carrier
   judged :
       (o : ℕ) → ¬ (bodyOf ds test ≡ none) → storageOf ds output ≡ some o → (ps : List ℕ)

@@ -6,13 +6,13 @@ use mathlib.Core.Bool.{Bool, true, cond, _&&_}
 use mathlib.Core.List.{List, [], _∷_}
 use Rattle.rules.specs.Grammar.Trees.{Action, block, labelled, if-then, decode, repeat, leave, restart, activate, stop, no-op, transfer, Members, end, also, next}
 use Rattle.rules.specs.Grammar.Trees.{Alternatives, counted, selected, Counted, counted-end, counted-more, Selected, select, otherwise, SelectedMore, selected-end, selected-more}
-use Rattle.rules.specs.Declarations.{Name, Table}
+use Rattle.rules.specs.Declarations.{Word, Table}
 use Rattle.rules.specs.Steps.Actions.{access, joinedAccesses}
 use Rattle.paths.specs.Cited.Marks.{Marks, unmarked, Slot, slot, marked, cleared, added, flagOf, markedAt}
 use Rattle.paths.specs.Cited.Early.{Report, activation, written}
 
 -- with what is known of the bodies
-module _ (ds : Table) (test : Name) (output : ℕ) (known : Name → Report) where
+module _ (ds : Table) (test : Word) (output : ℕ) (known : Word → Report) where
   -- inside the labels ls, with the flags from d on free, and the flag k at the end
   unfoldable mutual
     pub walk : Action → List Slot → ℕ → ℕ → Bool → Marks → Marks
@@ -53,5 +53,5 @@ module _ (ds : Table) (test : Name) (output : ℕ) (known : Name → Report) whe
     walkMore (selected-more i s) ls d k b w = walkSelected s ls d k b w
 
   -- a body, with its own name as the outermost label: flag 1 tells whether its end is reached
-  unfoldable pub walkBody : Action → Name → Marks
+  unfoldable pub walkBody : Action → Word → Marks
   walkBody a n = walk a (slot n 1 ∷ []) 2 1 true unmarked

@@ -1,5 +1,5 @@
 -- The walk of a body comes to the body's report.
-use Prim.Native.Nat.{ℕ, zero, suc, _<_}
+use Prim.Native.Nat.{ℕ, suc, _<_}
 use mathlib.Core.Path.{_≡_, refl, sym, _∙_, ap, ap₂, subst, fun-ext}
 use mathlib.Core.Bool.{Bool, true, false, cond, not, _||_, _&&_, or-false, and-false, and-assoc}
 use mathlib.Core.List.{List, [], _∷_, _++_, append-nil, append-assoc}
@@ -10,18 +10,18 @@ use borrow.Author.Tests.{eq-eqb, ne-eqb}
 use Rattle.rules.specs.Text.Scan.{sameBytes}
 use Rattle.rules.specs.Grammar.Trees.{Action, block, labelled, if-then, decode, repeat, leave, restart, activate, stop, no-op, transfer, Members, end, also, next}
 use Rattle.rules.specs.Grammar.Trees.{Alternatives, counted, selected, Counted, counted-end, counted-more, Selected, select, otherwise, SelectedMore, selected-end, selected-more}
-use Rattle.rules.specs.Declarations.{Name, Table, bodyOf}
-use Rattle.rules.specs.Steps.Actions.{Act, par, actOf, Groups, groups, whole, altsOf, countedAlts, selectedAlts, moreAlts, inTurn as joinedTo}
-use Rattle.rules.specs.Steps.Runs.{bodyAct, actOr}
+use Rattle.rules.specs.Declarations.{Word, Table, bodyOf}
+use Rattle.rules.specs.Steps.Actions.{Act, par, actOf, groups, whole, altsOf, countedAlts, selectedAlts, moreAlts, inTurn as joinedTo}
+use Rattle.rules.specs.Steps.Runs.{bodyAct}
 use Rattle.laws_accepted.specs.Accepted.Named.{same-equal, same-itself}
 use Rattle.paths.specs.Bools.{mix, spread, iff-flags, alts-flags, label-flags, call-flags, pass-flags, stay-flags, leave-flags, turn-flags}
 use Rattle.paths.specs.Bools.{end-flags, next-flags, also-flags, also-next-flags}
-use Rattle.paths.specs.Cited.Early.{Report, report, nowhere, passed, inside, either, inTurn, beside, turning, activation, written, early, earlyI, earlyAlts, bodyEarly}
-use Rattle.paths.specs.Cited.Marks.{Flags, Marks, Slot, slot, marked, cleared, added, flagOf, markedAt, unmarked}
+use Rattle.paths.specs.Cited.Early.{Report, report, nowhere, passed, inside, either, inTurn, beside, turning, early, earlyI, earlyAlts, bodyEarly}
+use Rattle.paths.specs.Cited.Marks.{Marks, Slot, slot, marked, cleared, added, flagOf, markedAt, unmarked}
 use Rattle.paths.specs.Walk.{walkBody, walk, walkMembers, walkAlternatives, walkCounted, walkSelected, walkMore}
 
 -- which flags the LEAVEs set, by their targets
-abbrev pub left : List Slot → (Name → Bool) → ℕ → Bool
+abbrev pub left : List Slot → (Word → Bool) → ℕ → Bool
 left [] g j = false
 left (s ∷ ls) g j = (eqb j (s .flag) && g (s .name)) || left ls (λ n. not (sameBytes n (s .name)) && g n) j
 
@@ -36,7 +36,7 @@ below-more : (d : ℕ) (ls : List Slot) → Below d ls → Below (suc d) ls
 below-more d [] h = tt
 below-more d (s ∷ ls) h = let q : s .flag < d = h .0 in (omega arith, below-more d ls (h .1))
 
-left-same : (ls : List Slot) (f g : Name → Bool) (j : ℕ) → ((n : Name) → f n ≡ g n) → left ls f j ≡ left ls g j
+left-same : (ls : List Slot) (f g : Word → Bool) (j : ℕ) → ((n : Word) → f n ≡ g n) → left ls f j ≡ left ls g j
 left-same ls f g j h = ap (λ x. left ls x j) (fun-ext h)
 
 left-none : (ls : List Slot) (j : ℕ) → left ls (λ n. false) j ≡ false
@@ -45,16 +45,16 @@ left-none (s ∷ ls) j =
     ap₂ _||_ (and-false (eqb j (s .flag))) (left-same ls (λ n. not (sameBytes n (s .name)) && false) (λ n. false) j (λ n. and-false (not (sameBytes n (s .name)))) ∙ left-none ls j)
 
 -- a LEAVE sets no free flag
-left-below : (ls : List Slot) (d : ℕ) (g : Name → Bool) → Below d ls → left ls g d ≡ false
+left-below : (ls : List Slot) (d : ℕ) (g : Word → Bool) → Below d ls → left ls g d ≡ false
 left-below [] d g h = refl
 left-below (s ∷ ls) d g h =
     let q : s .flag < d = h .0 in
     ap₂ _||_ (ap (λ x. x && g (s .name)) (ne-eqb d (s .flag) (λ e. omega arith))) (left-below ls d (λ n. not (sameBytes n (s .name)) && g n) (h .1))
 
-left-mix : (ls : List Slot) (f g : Name → Bool) (e : Bool) (j : ℕ) → left ls (λ n. f n || (e && g n)) j ≡ (left ls f j || (e && left ls g j))
+left-mix : (ls : List Slot) (f g : Word → Bool) (e : Bool) (j : ℕ) → left ls (λ n. f n || (e && g n)) j ≡ (left ls f j || (e && left ls g j))
 left-mix [] f g e j = sym (and-false e)
 left-mix (s ∷ ls) f g e j =
-    let c : Name → Bool = λ n. not (sameBytes n (s .name)) in
+    let c : Word → Bool = λ n. not (sameBytes n (s .name)) in
     let t : Bool = eqb j (s .flag) in
     ap (λ z. (t && (f (s .name) || (e && g (s .name)))) || z)
     (left-same ls (λ n. c n && (f n || (e && g n))) (λ n. (c n && f n) || (e && (c n && g n))) j (λ n. spread (c n) (f n) e (g n))
@@ -66,7 +66,7 @@ abbrev hits : Option ℕ → ℕ → Bool
 hits none j = false
 hits (some k) j = eqb j k
 
-same-swapped : (x y : Name) (b : Bool) → sameBytes x y ≡ b → sameBytes y x ≡ b
+same-swapped : (x y : Word) (b : Bool) → sameBytes x y ≡ b → sameBytes y x ≡ b
 same-swapped x y true e = ap (λ z. sameBytes z x) (sym (same-equal x y e)) ∙ same-itself x
 same-swapped x y false e = by (sameBytes y x) refl
   where
@@ -74,24 +74,24 @@ same-swapped x y false e = by (sameBytes y x) refl
     by true h = sym (same-itself x) ∙ (ap (λ z. sameBytes x z) (sym (same-equal y x h)) ∙ e)
     by false h = refl
 
-left-one : (ls : List Slot) (l : Name) (j : ℕ) → left ls (λ n. sameBytes n l) j ≡ hits (flagOf ls l) j
+left-one : (ls : List Slot) (l : Word) (j : ℕ) → left ls (λ n. sameBytes n l) j ≡ hits (flagOf ls l) j
 left-one [] l j = refl
 left-one (s ∷ ls) l j = by (sameBytes l (s .name)) refl (left-one ls l j)
   where
     t : Bool
     t = eqb j (s .flag)
 
-    rest : Name → Bool
+    rest : Word → Bool
     rest n = not (sameBytes n (s .name)) && sameBytes n l
 
-    never : sameBytes l (s .name) ≡ true → (n : Name) → rest n ≡ false
+    never : sameBytes l (s .name) ≡ true → (n : Word) → rest n ≡ false
     never e n = ap (λ z. not (sameBytes n (s .name)) && sameBytes n z) (same-equal l (s .name) e) ∙ nor (sameBytes n (s .name))
       where
         nor : (b : Bool) → (not b && b) ≡ false
         nor true = refl
         nor false = refl
 
-    still : sameBytes l (s .name) ≡ false → (n : Name) → rest n ≡ sameBytes n l
+    still : sameBytes l (s .name) ≡ false → (n : Word) → rest n ≡ sameBytes n l
     still e n = go (sameBytes n l) refl
       where
         go : (b : Bool) → sameBytes n l ≡ b → (not (sameBytes n (s .name)) && b) ≡ b
@@ -145,7 +145,7 @@ no-more true us = sym (append-nil us)
 no-more false us = sym (append-nil us)
 
 label-walked :
-    (ls : List Slot) (d k : ℕ) (b : Bool) (l : Name) (x : Report) (w v : Marks) → Walked (slot l k ∷ ls) d k b x w v → Walked ls d k b (inside l x) w v
+    (ls : List Slot) (d k : ℕ) (b : Bool) (l : Word) (x : Report) (w v : Marks) → Walked (slot l k ∷ ls) d k b x w v → Walked ls d k b (inside l x) w v
 label-walked ls d k b l x w v p =
     record {
       flags = λ j o h.
@@ -202,7 +202,7 @@ turning-walked ls d k b x w v p =
       places = p .places;
     }
 
-leave-walked : (ls : List Slot) (d k : ℕ) (b : Bool) (l : Name) (w : Marks) → Walked ls d k b (report [] false (λ n. sameBytes n l)) w (markedAt (flagOf ls l) b w)
+leave-walked : (ls : List Slot) (d k : ℕ) (b : Bool) (l : Word) (w : Marks) → Walked ls d k b (report [] false (λ n. sameBytes n l)) w (markedAt (flagOf ls l) b w)
 leave-walked ls d k b l w =
     record {
       flags = λ j o h.
@@ -309,7 +309,7 @@ also-next-walked ls d k b c x y r w v u z below p q =
           ∙ also-next-places b c (x .ends) (y .ends) (w .places) (x .places) (y .places) (r .places);
     }
 
-module _ (ds : Table) (test : Name) (output : ℕ) (known : Name → Report) where
+module _ (ds : Table) (test : Word) (output : ℕ) (known : Word → Report) where
   abbrev E : Act → Report
   E a = early ds test output known a
 
@@ -398,7 +398,7 @@ module _ (ds : Table) (test : Name) (output : ℕ) (known : Name → Report) whe
     more-is (selected-more i s) ls d k b w h q = selected-is s ls d k b w h q
 
   pub body-walked :
-      (a : Action) (n : Name) → let w = walkBody ds test output known a n in
+      (a : Action) (n : Word) → let w = walkBody ds test output known a n in
       let x = inside n (E (actOf a)) in
       (w .flags 1 ≡ x .ends) × (w .places ≡ x .places)
   unfolding walkBody
@@ -408,7 +408,7 @@ module _ (ds : Table) (test : Name) (output : ℕ) (known : Name → Report) whe
 
 -- with what is known down chains of k bodies, the walk of a body gives what is known down chains of k + 1
 pub body-level :
-    (ds : Table) (test : Name) (output : ℕ) (k : ℕ) (n : Name) (a : Action) → bodyOf ds n ≡ some a
+    (ds : Table) (test : Word) (output : ℕ) (k : ℕ) (n : Word) (a : Action) → bodyOf ds n ≡ some a
     → let w = walkBody ds test output (bodyEarly ds test output k) a n in
     (w .flags 1 ≡ bodyEarly ds test output (suc k) n .ends) × (w .places ≡ bodyEarly ds test output (suc k) n .places)
 unfolding bodyEarly bodyAct

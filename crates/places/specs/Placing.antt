@@ -7,7 +7,7 @@ use lib.ListN.{length, drop}
 use Rattle.rules.specs.Text.Tokens.{Name, Info, tk}
 use Rattle.rules.specs.Grammar.Trees.{Tokens, Bits, bitsTokens, Subscript, subscriptTokens, Description}
 use Rattle.rules.specs.Grammar.Precedence.{indexOf}
-use Rattle.rules.specs.Declarations.{Name as Word, Table, declarations, outerName, Reach, reach}
+use Rattle.rules.specs.Declarations.{Word, Table, declarations, outerName, Reach, reach}
 use Rattle.rules.specs.Faults.Bodies.{judgeAccess}
 use Rattle.table.specs.Holds.{valueCell}
 use Rattle.table.specs.Words.{NameAt}

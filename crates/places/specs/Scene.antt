@@ -2,7 +2,7 @@
 use Prim.Native.Nat.{ℕ}
 use mathlib.Core.List.{List}
 use Rattle.rules.specs.Grammar.Trees.{Tokens, Description}
-use Rattle.rules.specs.Declarations.{Name as Word, Table, declarations, outerName}
+use Rattle.rules.specs.Declarations.{Word, Table, declarations, outerName}
 use Rattle.table.specs.Ready.{Ready}
 
 pub record Scene (records values decls : List ℕ) (m : ℕ) : Type 0 where

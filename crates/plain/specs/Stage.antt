@@ -5,7 +5,7 @@ use mathlib.Core.List.{List}
 use lib.ListN.{length}
 use Rattle.rules.specs.Text.Tokens.{Const}
 use Rattle.rules.specs.Grammar.Trees.{Tokens, Description}
-use Rattle.rules.specs.Declarations.{Name as Word, Table, declarations, outerName}
+use Rattle.rules.specs.Declarations.{Word, Table, declarations, outerName}
 use Rattle.table.specs.Holds.{tokenAt}
 use Rattle.table.specs.Ready.{Ready}
 use Rattle.spelling.specs.Spelled.{Spelled}

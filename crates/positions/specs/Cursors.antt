@@ -1,8 +1,6 @@
 -- What the cursor of the code stands for: an offset, and the line and column there.
 use Prim.Native.Nat.{ℕ, _+_, _<_, _≤_}
-use mathlib.Core.Path.{_≡_}
-use mathlib.Core.List.{List}
-use Rattle.rules.specs.Positions.{Position, position, behind, positionAt}
+use Rattle.rules.specs.Positions.{Position, position, behind}
 use Rattle.positions.specs.declared.cursors.Cursor.{Cursor}
 
 -- a cursor at an offset and a position

@@ -10,7 +10,7 @@ use Rattle.cells.specs.Cells.{cell}
 use Rattle.rules.specs.Text.Tokens.{BEGIN, kindNo}
 use Rattle.rules.specs.Text.Scan.{sameBytes}
 use Rattle.rules.specs.Grammar.Trees.{Tokens}
-use Rattle.rules.specs.Declarations.{Name as Word, numberOf}
+use Rattle.rules.specs.Declarations.{Word, numberOf}
 use Rattle.rules.specs.Limits.{longestChain}
 use Rattle.paths.specs.Cited.Early.{bodyEarly}
 use Rattle.table.specs.Scans.{no}

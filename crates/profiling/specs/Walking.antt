@@ -7,7 +7,7 @@ use lib.ListN.{length, drop}
 use Rattle.cells.specs.Cells.{cell}
 use Rattle.rules.specs.Text.Tokens.{Name, kindNo}
 use Rattle.rules.specs.Text.Scan.{sameBytes}
-use Rattle.rules.specs.Declarations.{Name as Word}
+use Rattle.rules.specs.Declarations.{Word}
 use Rattle.paths.specs.Cited.Early.{Report}
 use Rattle.paths.specs.Cited.Marks.{Marks}
 use Rattle.paths.specs.Cited.Least.{least}

@@ -8,7 +8,7 @@ use lib.ListN.{drop}
 use Rattle.rules.specs.Text.Tokens.{Name, LBra, Less, Info, Token, tk}
 use Rattle.rules.specs.Grammar.Trees.{Tokens, Bits, bitsTokens, Subscript, subscriptTokens}
 use Rattle.rules.specs.Grammar.Precedence.{indexOf}
-use Rattle.rules.specs.Declarations.{Name as Word, Names, Table, Reach, reach, accessLow, accessBits}
+use Rattle.rules.specs.Declarations.{Word, Names, Table, Reach, reach, accessLow, accessBits}
 use Rattle.rules.specs.Faults.Bodies.{judgeAccess}
 use Rattle.table.specs.Holds.{valueCell}
 

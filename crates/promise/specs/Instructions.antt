@@ -10,7 +10,7 @@ use Rattle.rules.specs.Text.Tokens.{Kind, Info, Token, tk, Op, opKind}
 use Rattle.rules.specs.Grammar.Trees.{Tokens, Bits, bitsTokens, Subscript, subscriptTokens, Joined, joinedTokens, Operand, operandTokens, Tail, tailTokens, Selector, selectorTokens}
 use Rattle.rules.specs.Grammar.Precedence.{Expr, exprOf}
 use Rattle.rules.specs.Selectors.{Case, numbered, listed, otherwise, selectorItems}
-use Rattle.rules.specs.Declarations.{Name as Word, Table}
+use Rattle.rules.specs.Declarations.{Word, Table}
 use Rattle.rules.specs.Limits.{mostDeclarations, deepest}
 use Rattle.rules.specs.Steps.Actions.{Access, access, joinedAccesses}
 use Rattle.rules.specs.Faults.Bodies.{judge, judgeDestination, judgeJoined}

@@ -1,13 +1,13 @@
 -- The reader's promise to the runner: an accepted description stands in the table, every number in it is in range, every length is from 1 to 64, and
 -- every link leads to an instruction or out. The runner knows nothing else.
-use Prim.Native.Nat.{ℕ, _+_, _*_, _<_, _≤_, _^_}
+use Prim.Native.Nat.{ℕ, _*_, _<_, _≤_, _^_}
 use mathlib.Core.Path.{_≡_}
 use mathlib.Core.Bool.{false}
 use mathlib.Core.List.{List}
 use lib.ListN.{length}
 use Rattle.rules.specs.Text.Tokens.{Const}
 use Rattle.rules.specs.Grammar.Trees.{Tokens}
-use Rattle.rules.specs.Declarations.{Name as Word, Table, totalWords}
+use Rattle.rules.specs.Declarations.{Word, Table, totalWords}
 use Rattle.rules.specs.Steps.Runs.{bodyAct}
 use Rattle.rules.specs.Whole.Sets.{chainOver}
 use Rattle.rules.specs.Limits.{mostDeclarations, mostWords, longestChain}

@@ -4,7 +4,7 @@ use mathlib.Core.Path.{_≡_}
 use mathlib.Core.Logic.{_⊎_}
 use mathlib.Core.Option.{some}
 use Rattle.rules.specs.Grammar.Trees.{Action}
-use Rattle.rules.specs.Declarations.{Name as Word, Table, bodyOf}
+use Rattle.rules.specs.Declarations.{Word, Table, bodyOf}
 use Rattle.laws_orders.specs.Cited.Flat.{at, Entries, no-entry, entry, Instr, ifI, decodeI, goI, callI, stopI, moveI, Code}
 
 -- an alternative begins at g

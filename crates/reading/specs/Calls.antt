@@ -5,7 +5,7 @@ use mathlib.Core.Bool.{Bool, true, false}
 use mathlib.Core.List.{List, [], _∷_}
 use lib.ListN.{drop}
 use Rattle.rules.specs.Text.Tokens.{Name, LPar, kindNo}
-use Rattle.rules.specs.Declarations.{Name as Word}
+use Rattle.rules.specs.Declarations.{Word}
 use Rattle.table.specs.Holds.{kindByte}
 use Rattle.table.specs.Words.{wordAt}
 use Rattle.reading.specs.Reading.{Kinded}

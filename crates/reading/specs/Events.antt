@@ -5,7 +5,7 @@ use mathlib.Core.List.{List, [], _∷_, _++_}
 use lib.Dec.{eqb}
 use Rattle.rules.specs.Text.Tokens.{Name, LPar, STOP, Token, kindNo}
 use Rattle.rules.specs.Grammar.Trees.{Tokens}
-use Rattle.rules.specs.Declarations.{Name as Word}
+use Rattle.rules.specs.Declarations.{Word}
 use Rattle.reading.specs.Kinds.{nextNo, stores, ends, closes, mode}
 use Rattle.table.specs.Scans.{no, deeper}
 

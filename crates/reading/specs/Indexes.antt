@@ -2,7 +2,7 @@
 use Prim.Native.Nat.{ℕ}
 use mathlib.Core.Option.{Option, none, some}
 use Rattle.rules.specs.Limits.{mostDeclarations}
-use Rattle.rules.specs.Declarations.{Name as Word, Table, numberOf}
+use Rattle.rules.specs.Declarations.{Word, Table, numberOf}
 
 -- of names that are not declared: behind all
 abbrev pub undeclared : ℕ

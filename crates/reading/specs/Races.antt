@@ -1,6 +1,6 @@
 -- What the events of a member touch.
 use mathlib.Core.List.{List, [], _∷_}
-use Rattle.rules.specs.Declarations.{Name as Word, Table}
+use Rattle.rules.specs.Declarations.{Word, Table}
 use Rattle.rules.specs.Whole.Sets.{Sets, sets, union, owner}
 use Rattle.reading.specs.Events.{Event, reads, writes, activates, halts}
 

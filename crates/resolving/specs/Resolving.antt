@@ -5,7 +5,7 @@ use mathlib.Core.List.{List, map}
 use lib.ListN.{drop}
 use Rattle.rules.specs.Text.Scan.{sameBytes}
 use Rattle.rules.specs.Grammar.Trees.{Tokens, Declaration}
-use Rattle.rules.specs.Declarations.{Name, declaredOf, numberFrom}
+use Rattle.rules.specs.Declarations.{Word, declaredOf, numberFrom}
 use Rattle.rules.specs.Limits.{mostTokens}
 use Rattle.table.specs.Holds.{Holds, insideCell, linkCell}
 use Rattle.table.specs.Kept.{Kept}
@@ -37,10 +37,10 @@ pub record Forgotten (records : List ℕ) (n : ℕ) : Type 0 where
   pub unknown : (t : ℕ) → t < n → insideCell records t ≡ unknownName
 
 -- each spelling has what its word means by the declarations from the k-th on
-pub record MarkedFrom (records : List ℕ) (ts : Tokens) (outer : Name) (list : List Declaration) (k : ℕ) : Type 0 where
+pub record MarkedFrom (records : List ℕ) (ts : Tokens) (outer : Word) (list : List Declaration) (k : ℕ) : Type 0 where
   pub marked : (j : ℕ) → NameAt ts j
       → insideCell records (linkCell records j) ≡ meaningBy (numberFrom k (wordAt ts j) (map declaredOf (drop k list))) (sameBytes outer (wordAt ts j))
 
 -- the names before the token i have their meanings
-pub record MeantTo (records : List ℕ) (ts : Tokens) (outer : Name) (list : List Declaration) (i : ℕ) : Type 0 where
+pub record MeantTo (records : List ℕ) (ts : Tokens) (outer : Word) (list : List Declaration) (i : ℕ) : Type 0 where
   pub means : (j : ℕ) → j < i → NameAt ts j → insideCell records j ≡ meaningOf outer (map declaredOf list) (wordAt ts j)

@@ -13,7 +13,7 @@ ghost use Prim.Native.Nat.{_+_, _*_, _<_, _≤_};
 ghost use lib.ListN.{length};
 ghost use Rattle.rules.specs.Limits.{mostTokens};
 ghost use Rattle.rules.specs.Grammar.Trees.{Tokens, Declaration};
-ghost use Rattle.rules.specs.Declarations.{Name};
+ghost use Rattle.rules.specs.Declarations.{Word};
 ghost use Rattle.table.specs.Words.{wordAt};
 ghost use Rattle.resolving.specs.Resolving.{SpelledIn, Lists, InsideOnly, Forgotten, MarkedFrom, MeantTo};
 
@@ -33,7 +33,7 @@ fn forget(records: &mut [u8], n: usize)
 fn mark_one(records: &mut [u8], decls: &[u8], k: usize)
     requires { ⌜ ((ts : Tokens) × (list : List Declaration) × Lists (now records) (now decls) ts list × (k < length list)) ⌝ }
     ensures { λ _. ⌜ InsideOnly (now (records .entry)) (now (records .exit)) ⌝ }
-    ensures { λ _. ⌜ ((ts : Tokens) (outer : Name) (list : List Declaration) → Lists (now (records .entry)) (now (decls .entry)) ts list → k < length list
+    ensures { λ _. ⌜ ((ts : Tokens) (outer : Word) (list : List Declaration) → Lists (now (records .entry)) (now (decls .entry)) ts list → k < length list
         → MarkedFrom (now (records .entry)) ts outer list (k + 1) → MarkedFrom (now (records .exit)) ts outer list k) ⌝ }
 {
     let p = get16(decls, k) as usize;
@@ -59,7 +59,7 @@ fn mark(records: &mut [u8], decls: &[u8], m: usize)
 fn resolve_one(records: &mut [u8], i: usize)
     requires { ⌜ ((ts : Tokens) × SpelledIn (now records) ts × (i < length ts)) ⌝ }
     ensures { λ _. ⌜ InsideOnly (now (records .entry)) (now (records .exit)) ⌝ }
-    ensures { λ _. ⌜ ((ts : Tokens) (outer : Name) (list : List Declaration) → SpelledIn (now (records .entry)) ts → i < length ts
+    ensures { λ _. ⌜ ((ts : Tokens) (outer : Word) (list : List Declaration) → SpelledIn (now (records .entry)) ts → i < length ts
         → MarkedFrom (now (records .entry)) ts outer list 0 → MeantTo (now (records .entry)) ts outer list i
         → MarkedFrom (now (records .exit)) ts outer list 0 × MeantTo (now (records .exit)) ts outer list (i + 1)) ⌝ }
 {
@@ -73,7 +73,7 @@ fn resolve_one(records: &mut [u8], i: usize)
 fn resolve(records: &mut [u8], n: usize)
     requires { ⌜ ((ts : Tokens) × SpelledIn (now records) ts × (n ≡ length ts)) ⌝ }
     ensures { λ _. ⌜ InsideOnly (now (records .entry)) (now (records .exit)) ⌝ }
-    ensures { λ _. ⌜ ((ts : Tokens) (outer : Name) (list : List Declaration) → SpelledIn (now (records .entry)) ts → n ≡ length ts
+    ensures { λ _. ⌜ ((ts : Tokens) (outer : Word) (list : List Declaration) → SpelledIn (now (records .entry)) ts → n ≡ length ts
         → MarkedFrom (now (records .entry)) ts outer list 0 → MeantTo (now (records .exit)) ts outer list n) ⌝ }
 {
     let mut i: usize = 0;

@@ -3,7 +3,7 @@ use Prim.Native.Nat.{ℕ, _<_}
 use mathlib.Core.Path.{_≡_}
 use mathlib.Core.List.{List, []}
 use mathlib.Core.Option.{some}
-use Rattle.rules.specs.Declarations.{Name, numberOf}
+use Rattle.rules.specs.Declarations.{Word, numberOf}
 use Rattle.rules.specs.Faults.Whole.{faults50}
 use Rattle.paths.specs.Cited.Early.{earlyPlaces}
 use Rattle.paths.specs.Cited.Least.{least}
@@ -14,7 +14,7 @@ use Rattle.profiling.specs.declared.tasks.Task.{Task}
 pub record Asked (records decls : List ℕ) (t : Task) : Type 0 where
   pub written : SpeltDescription records decls (t .m) (t .n)
   pub lawful : faults50 (whole written) ≡ []
-  pub test : Name
+  pub test : Word
   pub aims : numberOf (whole written) test ≡ some (t .aim)
   pub output : t .out < 256
 

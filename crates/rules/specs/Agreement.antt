@@ -7,7 +7,7 @@ use Rattle.rules.specs.Declarations.{Table}
 use Rattle.rules.specs.Steps.Evaluation.{Carriers}
 use Rattle.rules.specs.Steps.Runs.{Conf, running, finished, stopped, failed, Ending, done, halted, paused, faulted, Run}
 use Rattle.rules.specs.Steps.Orders.{EveryOrder}
-use Rattle.rules.specs.Answers.{Result, refusal, ended, littleEndian, bufferOf}
+use Rattle.rules.specs.Answers.{littleEndian, bufferOf}
 
 -- the first number of an answer
 abbrev pub endingCode : Ending → ℕ
@@ -15,10 +15,6 @@ endingCode done = 0
 endingCode halted = 1
 endingCode paused = 2
 endingCode (faulted m p) = 3
-
-abbrev pub resultCode : Result → ℕ
-resultCode (refusal m p) = 4
-resultCode (ended e n b) = endingCode e
 
 -- the ending and the steps that stand in the bytes of an answer: its first number, and its fourth
 abbrev pub endingIn : List ℕ → ℕ

@@ -2,18 +2,17 @@
 -- to 60s." Row 1 speaks of work memory and is said where the calls are.
 use Prim.Native.Nat.{ℕ, zero, suc, _+_, _*_, _/_, _%_, _^_, _≤_, _<_}
 use mathlib.Core.Path.{_≡_}
-use mathlib.Core.Bool.{Bool, true, false}
+use mathlib.Core.Bool.{true, false}
 use mathlib.Core.List.{List, [], _∷_}
 use mathlib.Core.Option.{Option, none, some}
 use lib.Dec.{leb, eqb}
-use lib.ListN.{length, getD, drop, replicate}
+use lib.ListN.{length, drop, replicate}
 use mathlib.Core.List.{_++_}
-use Rattle.rules.specs.Text.Tokens.{Token, tk}
-use Rattle.rules.specs.Text.Scan.{scan, End, fine, refuse}
+use Rattle.rules.specs.Text.Scan.{scan, fine, refuse}
 use Rattle.rules.specs.Limits.{longestText}
 use Rattle.rules.specs.Grammar.Trees.{Tokens, Description, flatten}
 use Rattle.rules.specs.Grammar.Verdict.{Crowded, Refused20, Refused21}
-use Rattle.rules.specs.Declarations.{Name, Declared, Table, BitNames, bitCount, declarations, outerName, totalWords, wordsOf}
+use Rattle.rules.specs.Declarations.{Table, BitNames, bitCount, declarations, outerName, totalWords, wordsOf}
 use Rattle.rules.specs.Steps.Evaluation.{Carriers}
 use Rattle.rules.specs.Steps.Runs.{Run, Ending, done, halted, paused, faulted, run}
 use Rattle.rules.specs.Faults.Fault.{Fault, byPlace, byNumber, least}

@@ -5,17 +5,18 @@ use mathlib.Core.Path.{_≡_}
 use mathlib.Core.Bool.{Bool, true, false, _||_}
 use mathlib.Core.List.{List}
 use lib.Dec.{leb}
-use Rattle.rules.specs.Text.Scan.{scan}
+use Rattle.rules.specs.Text.Scan.{scan, sameBytes}
 use Rattle.rules.specs.Limits.{longestChain, mostSteps}
 use Rattle.rules.specs.Grammar.Trees.{Description, flatten}
-use Rattle.rules.specs.Declarations.{Name, Table, declarations}
-use Rattle.rules.specs.Steps.Actions.{Act, seq, par, label, ins, Ins, iff, decode, repeat, leave, restart, call, stop, noop, transfer, Alts, end, alt}
+use Rattle.rules.specs.Declarations.{Word, Table, declarations}
+use Rattle.rules.specs.Steps.Actions.{Act, seq, par, label, ins, Ins, iff, decode, repeat, leave, restart, call, stop, noop, transfer, Alts, no-alts, alt}
 use Rattle.rules.specs.Steps.Runs.{bodyAct}
+use Rattle.rules.specs.Whole.Sets.{callsIn, anyName}
 use Rattle.rules.specs.Faults.Whole.{mainName}
 use Rattle.rules.specs.Answers.{accepted, refused, Checks}
 
 -- what an action costs where the body p costs `bodies p`
-module _ (bodies : Name → ℕ) where
+module _ (bodies : Word → ℕ) where
   unfoldable mutual
     pub cost : Act → ℕ
     cost (seq a b) = cost a + cost b
@@ -36,11 +37,11 @@ module _ (bodies : Name → ℕ) where
     costIn (transfer d e) = 0
 
     pub dearest : Alts → ℕ
-    dearest end = 0
+    dearest no-alts = 0
     dearest (alt c a bs) = max (cost a) (dearest bs)
 
 -- whether a REPEAT or RESTART stands in an action, or in a body that it activates, where `bodies p` says so of the body p
-module _ (bodies : Name → Bool) where
+module _ (bodies : Word → Bool) where
   unfoldable mutual
     pub turns : Act → Bool
     turns (seq a b) = turns a || turns b
@@ -60,24 +61,38 @@ module _ (bodies : Name → Bool) where
     turnsIn (transfer d e) = false
 
     pub anyTurns : Alts → Bool
-    anyTurns end = false
+    anyTurns no-alts = false
     anyTurns (alt c a bs) = turns a || anyTurns bs
+
+-- "A REPEAT or RESTART can be reached by activations": it stands in p, or in a body to which activations lead from p, whether control gets there or not
+abbrev pub ActivatedIn : Act → Word → Type 0
+ActivatedIn a q = anyName (sameBytes q) (callsIn a) ≡ true
+
+pub data Reaches (ds : Table) : Word → Word → Type 0 where
+  itself : {p : Word} → Reaches ds p p
+  onward : {p q r : Word} → ActivatedIn (bodyAct ds p) q → Reaches ds q r → Reaches ds p r
+
+abbrev pub Turns : Act → Type 0
+Turns a = turns (λ n. false) a ≡ true
+
+abbrev pub Reached : Table → Word → Type 0
+Reached ds p = (q : Word) × Reaches ds p q × Turns (bodyAct ds q)
 
 -- of a body, down a chain of k activations
 module _ (ds : Table) where
-  unfoldable pub costDown : ℕ → Name → ℕ
+  unfoldable pub costDown : ℕ → Word → ℕ
   costDown zero p = 0
   costDown (suc k) p = cost (costDown k) (bodyAct ds p)
 
-  unfoldable pub turnsDown : ℕ → Name → Bool
+  unfoldable pub turnsDown : ℕ → Word → Bool
   turnsDown zero p = false
   turnsDown (suc k) p = turns (turnsDown k) (bodyAct ds p)
 
 -- the cost of a body, and whether a REPEAT or RESTART can be reached from it; no chain of an accepted description is longer
-abbrev pub costOf : Table → Name → ℕ
+abbrev pub costOf : Table → Word → ℕ
 costOf ds = costDown ds longestChain
 
-abbrev pub turnsFrom : Table → Name → Bool
+abbrev pub turnsFrom : Table → Word → Bool
 turnsFrom ds = turnsDown ds longestChain
 
 pub data Bound : Type 0 where

@@ -1,18 +1,18 @@
 -- Declarations, storage and carriers.
 use Prim.Native.Nat.{ℕ, zero, suc, _+_, _-_, min, max}
-use mathlib.Core.Bool.{Bool, true, false, _&&_}
+use mathlib.Core.Bool.{true, false, _&&_}
 use mathlib.Core.List.{List, [], _∷_}
 use mathlib.Core.Option.{Option, none, some}
 use lib.Dec.{leb}
 use lib.ListN.{getElem?}
 use Rattle.rules.specs.Text.Tokens.{Info}
 use Rattle.rules.specs.Text.Scan.{sameBytes}
-use Rattle.rules.specs.Grammar.Trees.{BitsEnd, bit, upto, Bits, all-bits, bits, OwnBits, unnamed, named, Action, block, Members, Meaning, body, mapped, Given, carrier, given}
-use Rattle.rules.specs.Grammar.Trees.{Form, words, with-bits, bare-body, MainBits, bitless, main-bits, Declaration, plain, main, Declarations, declared-all, declared-also, Description, description}
+use Rattle.rules.specs.Grammar.Trees.{BitsEnd, bit, upto, Bits, all-bits, bits, OwnBits, unnamed, named, Action, block, body, mapped, Given, carrier, given}
+use Rattle.rules.specs.Grammar.Trees.{words, with-bits, bare-body, MainBits, bitless, main-bits, Declaration, plain, main, Declarations, declared-all, declared-also, Description, description}
 
 -- a name, as its bytes
-abbrev pub Name : Type 0
-Name = List ℕ
+abbrev pub Word : Type 0
+Word = List ℕ
 
 -- names of bits or words from left to right, either way round; `<5>` is from 5 to 5
 pub record Names : Type 0 where
@@ -104,11 +104,11 @@ abbrev pub outerName : Description → Info
 outerName (description n e b h d ds) = n
 
 -- the number of the first declaration of a name
-unfoldable pub numberFrom : ℕ → Name → Table → Option ℕ
+unfoldable pub numberFrom : ℕ → Word → Table → Option ℕ
 numberFrom i n [] = none
 numberFrom i n (d ∷ ds) = elim (sameBytes (d .name .word) n) [ true ↦ some i | false ↦ numberFrom (suc i) n ds ]
 
-unfoldable pub numberOf : Table → Name → Option ℕ
+unfoldable pub numberOf : Table → Word → Option ℕ
 numberOf ds n = numberFrom 0 n ds
 
 -- Storage: carriers, and bodies with bits of their own. "A mapping adds no word."
@@ -168,7 +168,7 @@ reachNumber ds none = none
 reachNumber ds (some i) = elim (getElem? ds i) [ none ↦ none | some d ↦ reachOf ds i d (d .target) ]
 
 -- a mapping reaches the carrier under it
-unfoldable pub reach : Table → Name → Option Reach
+unfoldable pub reach : Table → Word → Option Reach
 reach ds n = reachNumber ds (numberOf ds n)
 
 -- the body of a name
@@ -176,7 +176,7 @@ unfoldable pub bodyNumber : Table → Option ℕ → Option Action
 bodyNumber ds none = none
 bodyNumber ds (some i) = elim (getElem? ds i) [ none ↦ none | some d ↦ d .body ]
 
-unfoldable pub bodyOf : Table → Name → Option Action
+unfoldable pub bodyOf : Table → Word → Option Action
 bodyOf ds n = bodyNumber ds (numberOf ds n)
 
 -- the bits of an access: all that the name reaches, or the named ones

@@ -1,30 +1,30 @@
 -- Examples that the checker computes from the definitions, worked out by hand from document 01: an edit of a definition that changes what is said here
 -- is refused. Whole texts are worked out in the crate `worked`.
-use Prim.Native.Nat.{ℕ, zero, suc}
+use Prim.Native.Nat.{ℕ}
 use mathlib.Core.Path.{_≡_, refl}
-use mathlib.Core.Bool.{Bool, true, false}
+use mathlib.Core.Bool.{true, false}
 use mathlib.Core.List.{List, [], _∷_, map}
-use mathlib.Core.Option.{Option, none, some}
-use Rattle.rules.specs.Text.Bytes.{bytes, Class, classIn, classOf, inName, inConstant, inComment, fold, leading, forbidden, blank, exclamation, letter, digit, dot, prefix, query, mark, other}
-use Rattle.rules.specs.Text.Tokens.{Token, Info, tk, Name, Const, Masked, At, Op, join, plus, minus, lss, eql, and, eqv, or, xor}
+use mathlib.Core.Option.{none, some}
+use Rattle.rules.specs.Text.Bytes.{bytes, classIn, classOf, inName, inConstant, inComment, fold, leading, forbidden, blank, exclamation, letter, digit, dot, prefix, query, mark, other}
+use Rattle.rules.specs.Text.Tokens.{Info, tk, Name, Const, Masked, At, Op, join, plus, minus, lss, eql, and, eqv, or, xor}
 use Rattle.rules.specs.Text.Constants.{all, any, isBasedDigit, isDigitOf, digitBits, digitValue, valueFrom, freeFrom, freeDigit, decimalBits, bitsFrom, decimal, based}
-use Rattle.rules.specs.Text.Scan.{scan, scanFrom, lexeme, lexemeBy, wordLexeme, constantLexeme, markLexeme, markAt, wordKind, sameBytes, End, fine, refuse, plainInfo, wordInfo, constantInfo, Scan}
-use Rattle.rules.specs.Grammar.Trees.{all-bits, exact, masked, single, to}
+use Rattle.rules.specs.Text.Scan.{scan, scanFrom, lexeme, lexemeBy, wordLexeme, constantLexeme, markLexeme, markAt, wordKind, sameBytes, fine, refuse, plainInfo, wordInfo, constantInfo}
+use Rattle.rules.specs.Grammar.Trees.{all-bits, masked, single, to}
 use Rattle.rules.specs.Grammar.Precedence.{Expr, leaf, node, number, cell, no-index, index}
 use Rattle.rules.specs.Values.{value, opBits, opNumber, operate, bitwise, notNumber, inverse, field, withField, total, cut}
-use Rattle.rules.specs.Selectors.{numbered, otherwise, Item, pattern, between, itemOf, matches, agree, anyMatches, takes}
-use Rattle.rules.specs.Declarations.{Table, Declared, carrierWith, bodyWith, mappingOn, these, names, howMany, fromLeft, fromRight, bitCount, numberFrom, numberOf, storageWords, totalWords, firstWord, reachStorage, lowBit, reachOn, reachUnder, reachOf, reachNumber, reach, bodyNumber, bodyOf, accessLow, accessBits}
-use Rattle.rules.specs.Steps.Actions.{Access, Act, seq, par, label, ins, iff, decode, repeat, leave, restart, call, stop, noop, transfer, end, alt}
+use Rattle.rules.specs.Selectors.{numbered, otherwise, pattern, between, itemOf, matches, agree}
+use Rattle.rules.specs.Declarations.{Table, carrierWith, mappingOn, these, names, howMany, fromLeft, fromRight, bitCount, numberFrom, numberOf, storageWords, firstWord, reachStorage, lowBit, reachOn, reachUnder, reachOf, reachNumber, reach, accessLow, accessBits}
+use Rattle.rules.specs.Steps.Actions.{Access, Act, seq, par, label, ins, iff, decode, repeat, leave, restart, call, stop, noop, transfer, no-alts, alt}
 use Rattle.rules.specs.Steps.Evaluation.{gives, then, wordOr70, wordOf, fieldIn, fieldOf, evaluate, evaluateFactor, evaluateIndex, evaluateAccess, evaluateAccesses, storeAll, transferred}
-use Rattle.rules.specs.Steps.Control.{start, leftmost, workI, nextI, choose}
-use Rattle.rules.specs.Steps.Runs.{Conf, running, finished, Run, runWith, done, paused, faulted, runFrom, bodyAct}
-use Rattle.rules.specs.Whole.Sets.{Sets, owner, readsOf, factorReads, indexReads, subscriptReads, stores, setsOf, setsI, bodySets, touched, member, meet, race}
+use Rattle.rules.specs.Steps.Control.{start, leftmost, workI, nextI}
+use Rattle.rules.specs.Steps.Runs.{running, runWith, done, paused, faulted, runFrom, bodyAct}
+use Rattle.rules.specs.Whole.Sets.{owner, readsOf, factorReads, indexReads, subscriptReads, stores, setsOf, setsI, touched, member, meet, race}
 use Rattle.rules.specs.Positions.{position, behind, further, positionAt, positionOf}
-use Rattle.rules.specs.Faults.Fault.{Fault, fault, byPlace, byNumber, least, leastFrom}
+use Rattle.rules.specs.Faults.Fault.{fault, byPlace, byNumber, least, leastFrom}
 use Rattle.rules.specs.Faults.Bodies.{patternsMeet, reaches, itemsMeet}
 use Rattle.rules.specs.Answers.{bytesOf, littleEndian}
 use Rattle.rules.specs.Images.{weighed, frontOf, checkOf, blocksFor, allZero, isFormed}
-use Rattle.rules.specs.Bound.{cost, costIn, dearest, turns, turnsIn, anyTurns, boundIf, bound, no-bound}
+use Rattle.rules.specs.Bound.{cost, costIn, dearest, turns, turnsIn, anyTurns}
 use lib.ListN.{take}
 
 -- the classes on both sides of each boundary
@@ -192,14 +192,14 @@ padded = refl
 abbrev longest : Act
 longest =
     seq (ins (iff (constantly 1 1) (ins (decode 0 (constantly 1 1)
-    (alt (numbered 0) (ins noop) (alt otherwise (par (ins noop) (seq (ins stop) (ins noop))) end))))))
+    (alt (numbered 0) (ins noop) (alt otherwise (par (ins noop) (seq (ins stop) (ins noop))) no-alts))))))
     (par (ins (call (bytes "P"))) (label (bytes "L") (ins (leave (bytes "L")))))
 
 longest-costs : cost (λ p. 7) longest ≡ 14
 unfolding cost costIn dearest
 longest-costs = refl
 
-turning : map (turns (λ p. false)) (longest ∷ ins (restart (bytes "L")) ∷ ins (decode 0 (constantly 1 1) (alt otherwise (ins (repeat (ins noop))) end)) ∷ [])
+turning : map (turns (λ p. false)) (longest ∷ ins (restart (bytes "L")) ∷ ins (decode 0 (constantly 1 1) (alt otherwise (ins (repeat (ins noop))) no-alts)) ∷ [])
     ≡ false ∷ true ∷ true ∷ []
 unfolding turns turnsIn anyTurns
 turning = refl

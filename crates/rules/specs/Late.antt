@@ -2,12 +2,12 @@
 use Prim.Native.Nat.{ℕ, zero, suc}
 use mathlib.Core.Path.{_≡_}
 use mathlib.Core.Bool.{Bool, true, _||_}
-use Rattle.rules.specs.Declarations.{Name, Table}
+use Rattle.rules.specs.Declarations.{Word, Table}
 use Rattle.rules.specs.Steps.Control.{work}
 use Rattle.rules.specs.Steps.Runs.{Conf, running, finished, stopped, failed, perform, step, Steps}
 use Rattle.rules.specs.Paths.{Writes, endsBy}
 
-module _ (ds : Table) (test : Name) (o : ℕ) where
+module _ (ds : Table) (test : Word) (o : ℕ) where
   -- k steps, with whether an activation has ended before them all
   abbrev pub StoresLate : Bool → (k : ℕ) (c e : Conf) → Steps ds k c e → Type 0
   StoresLate ended zero c e q = Unit {0}

@@ -11,7 +11,7 @@ use Rattle.rules.specs.Limits.{longestChain}
 use Rattle.rules.specs.Text.Scan.{scan}
 use Rattle.rules.specs.Grammar.Trees.{Description, flatten, Action, block, labelled, if-then, decode, repeat, leave, restart, activate, stop, no-op, transfer, Members, end, also, next}
 use Rattle.rules.specs.Grammar.Trees.{Alternatives, counted, selected, Counted, counted-end, counted-more, Selected, select, otherwise, SelectedMore, selected-end, selected-more}
-use Rattle.rules.specs.Declarations.{Name, Table, declarations, numberOf, bodyNumber}
+use Rattle.rules.specs.Declarations.{Word, Table, declarations, numberOf, bodyNumber}
 use Rattle.rules.specs.Steps.Actions.{Act, actOf}
 use Rattle.rules.specs.Steps.Runs.{actOr}
 use Rattle.rules.specs.Whole.Sets.{Sets, touched, race, member, callsIn, chainOver}
@@ -158,7 +158,7 @@ unfoldable pub reason53 : Table → ℕ → Reason
 reason53 ds p = raceReason ds (raceAmong p (groupsOf ds ds))
 
 -- 51: the first activation among these that begins a chain over k bodies long, by the number of the declaration that it names
-unfoldable pub firstOver : Table → ℕ → List Name → Option ℕ
+unfoldable pub firstOver : Table → ℕ → List Word → Option ℕ
 firstOver ds k [] = none
 firstOver ds k (n ∷ ns) = elim (chainOver ds k n) [ true ↦ numberOf ds n | false ↦ firstOver ds k ns ]
 
@@ -176,7 +176,7 @@ chainBehind ds (suc k) listed b =
     ]
 
 -- the body at a place that begins a chain over 16 bodies long
-unfoldable pub refusedBody : Table → ℕ → Table → Option Name
+unfoldable pub refusedBody : Table → ℕ → Table → Option Word
 refusedBody all p [] = none
 refusedBody all p (d ∷ ds) =
     elim (eqb (d .name .place) p && beginsChain all (d .name .word) (d .body)) [ true ↦ some (d .name .word) | false ↦ refusedBody all p ds ]
@@ -193,7 +193,7 @@ abbrev pub chainOf : Table → Option ℕ → Reason
 chainOf ds none = no-reason
 chainOf ds (some b) = chained (placesIn ds (chainBehind ds longestChain [] b))
 
-abbrev pub chainFrom : Table → Option Name → Reason
+abbrev pub chainFrom : Table → Option Word → Reason
 chainFrom ds none = no-reason
 chainFrom ds (some n) = chainOf ds (numberOf ds n)
 

@@ -1,6 +1,6 @@
 -- Selectors. "A `?` in a single selector matches any digit value of its base. In a range, put 0 for each `?`: if left is greater than right, the bounds
 -- are left with its `?` at the highest digit and right with 0; otherwise left with 0 and right with the highest digit."
-use Prim.Native.Nat.{ℕ, zero, suc, _+_, _/_, _%_, max}
+use Prim.Native.Nat.{ℕ, zero, suc, _+_, _/_, _%_}
 use mathlib.Core.Bool.{Bool, true, false, _&&_, _||_}
 use mathlib.Core.List.{List, [], _∷_}
 use lib.Dec.{leb, ltb, eqb}

@@ -7,10 +7,14 @@ use mathlib.Core.List.{List, [], _∷_}
 use mathlib.Core.Logic.{_⊎_}
 use mathlib.Core.Option.{some}
 use lib.ListN.{length, getElem?}
+use Rattle.rules.specs.Text.Scan.{scan}
 use Rattle.rules.specs.Limits.{longestChain}
-use Rattle.rules.specs.Declarations.{Name, Declared, Table, numberOf}
+use Rattle.rules.specs.Grammar.Trees.{Description, flatten}
+use Rattle.rules.specs.Declarations.{Word, Declared, Table, numberOf, declarations}
 use Rattle.rules.specs.Whole.Sets.{Sets, race, member, callsIn, chainOver}
-use Rattle.rules.specs.Reasons.{Member, Race, conflict, Carrier, writers, groupsOf, bodyOfNumber, placesIn}
+use Rattle.rules.specs.Answers.{refused, Checks}
+use Rattle.rules.specs.Reasons.{Member, Race, conflict, Carrier, writers, groupsOf, bodyOfNumber, placesIn, racing, chained}
+use Rattle.rules.specs.Calls.Why.{reasoned}
 
 -- two members of a group that race, the later one at the place; none before the earlier one races with the later one
 pub record RaceStands (p : ℕ) (g : List Member) (r : Race) : Type 0 where
@@ -50,7 +54,7 @@ pub record RaceTrue (ds : Table) (p earlier later carrier name who : ℕ) : Type
 -- a body activates another: a name that stands in its text is declared under that number
 pub record Activates (ds : Table) (b c : ℕ) : Type 0 where
   pub number : ℕ
-  pub name : Name
+  pub name : Word
   pub called : getElem? (callsIn (bodyOfNumber ds b)) number ≡ some name
   pub is : numberOf ds name ≡ some c
 
@@ -67,7 +71,7 @@ Closing listed (b ∷ []) = member b listed ≡ true
 Closing listed (b ∷ c ∷ bs) = Closing (b ∷ listed) (c ∷ bs)
 
 -- the refused body: a declaration at the place whose name begins a chain over 16 bodies long
-pub record RefusedBody (ds : Table) (p : ℕ) (n : Name) : Type 0 where
+pub record RefusedBody (ds : Table) (p : ℕ) (n : Word) : Type 0 where
   pub number : ℕ
   pub declared : Declared
   pub there : getElem? ds number ≡ some declared
@@ -77,7 +81,7 @@ pub record RefusedBody (ds : Table) (p : ℕ) (n : Name) : Type 0 where
 
 -- the numbers of a chain
 pub record ChainTrue (ds : Table) (p : ℕ) (places : List ℕ) : Type 0 where
-  pub name : Name
+  pub name : Word
   pub refused : RefusedBody ds p name
   pub first : ℕ
   pub its-number : numberOf ds name ≡ some first
@@ -85,3 +89,27 @@ pub record ChainTrue (ds : Table) (p : ℕ) (places : List ℕ) : Type 0 where
   pub are : places ≡ placesIn ds (first ∷ others)
   pub linked : Activating ds (first ∷ others)
   pub closes-or-passes : (length (first ∷ others) ≡ suc longestChain) ⊎ Closing [] (first ∷ others)
+
+-- the reason that stands in the numbers names a race of the description in the text
+pub record RaceTold (text reason left : List ℕ) : Type 0 where
+  pub description : Description
+  pub stands : flatten description ≡ scan text .tokens
+  pub place : ℕ
+  pub refusal : Checks text (refused 53 place)
+  pub earlier : ℕ
+  pub later : ℕ
+  pub carrier : ℕ
+  pub name : ℕ
+  pub who : ℕ
+  pub numbers : left ≡ reasoned (racing earlier later carrier name who) reason
+  pub is-true : RaceTrue (declarations description) place earlier later carrier name who
+
+-- the reason that stands in the numbers names a chain of its activations
+pub record ChainTold (text reason left : List ℕ) : Type 0 where
+  pub description : Description
+  pub stands : flatten description ≡ scan text .tokens
+  pub place : ℕ
+  pub refusal : Checks text (refused 51 place)
+  pub places : List ℕ
+  pub numbers : left ≡ reasoned (chained places) reason
+  pub is-true : ChainTrue (declarations description) place places

@@ -5,7 +5,7 @@ use mathlib.Core.List.{List, [], _∷_}
 use mathlib.Core.Option.{some}
 use lib.ListN.{length, getD}
 use Rattle.rules.specs.Grammar.Trees.{Tokens, Action}
-use Rattle.rules.specs.Declarations.{Name as Word, Table, bodyOf, totalWords}
+use Rattle.rules.specs.Declarations.{Word, Table, bodyOf, totalWords}
 use Rattle.rules.specs.Steps.Runs.{Ending, runWith, done, halted, paused, faulted, run}
 use Rattle.laws_orders.specs.Cited.Flat.{Code}
 use Rattle.promise.specs.Promise.{Promise}

@@ -8,7 +8,7 @@ use lib.ListN.{length, drop}
 use Rattle.cells.specs.Cells.{cell}
 use Rattle.rules.specs.Text.Tokens.{Name, kindNo}
 use Rattle.rules.specs.Grammar.Trees.{Tokens}
-use Rattle.rules.specs.Declarations.{Name as Word}
+use Rattle.rules.specs.Declarations.{Word}
 use Rattle.rules.specs.Faults.Whole.{Scope}
 use Rattle.table.specs.Holds.{kindByte, tokenAt, Holds}
 use Rattle.table.specs.Words.{wordAt}

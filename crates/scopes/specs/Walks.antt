@@ -7,7 +7,7 @@ use mathlib.Core.Option.{none, some}
 use lib.Dec.{eqb}
 use Rattle.rules.specs.Text.Tokens.{Name, Comma, Semi, Becomes, BEGIN, END, NEXT, LEAVE, RESTART, Token, kindNo}
 use Rattle.rules.specs.Grammar.Trees.{Tokens}
-use Rattle.rules.specs.Declarations.{Name as Word, Table}
+use Rattle.rules.specs.Declarations.{Word, Table}
 use Rattle.rules.specs.Whole.Sets.{member}
 use Rattle.rules.specs.Faults.Fault.{Fault, when}
 use Rattle.rules.specs.Faults.Whole.{Scope, labelled-in, aimsOut, memberScope}

@@ -6,7 +6,8 @@ use mathlib.Core.List.{List}
 use native.Mathlib.Omega.{arith}
 use lib.ListN.{length}
 use Rattle.cells.specs.Cells.{cell, putCell}
-use Rattle.rules.specs.Text.Tokens.{Name, kindNo, kindAt}
+use Rattle.rules.specs.Text.Tokens.{Name, kindNo}
+use Rattle.laws_grammar.specs.Cited.Kinds.{kindAt}
 use Rattle.laws_grammar.specs.Grammar.Kinds.{kindAt-kindNo}
 use Rattle.table.specs.Holds.{kindByte, tokenAt}
 use Rattle.table.specs.Kept.{Kept, LinkPut}

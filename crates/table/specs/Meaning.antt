@@ -8,7 +8,7 @@ use lib.ListN.{length}
 use Rattle.rules.specs.Text.Tokens.{Name}
 use Rattle.rules.specs.Text.Scan.{sameBytes}
 use Rattle.rules.specs.Grammar.Trees.{Tokens}
-use Rattle.rules.specs.Declarations.{Name as Word, Table, numberOf}
+use Rattle.rules.specs.Declarations.{Word, Table, numberOf}
 use Rattle.table.specs.Holds.{insideCell, tokenAt}
 
 -- a name that is not declared: the outer name, or unknown

@@ -7,7 +7,7 @@ use native.Mathlib.Omega.{arith}
 use lib.ListN.{length, getElem?}
 use Rattle.rules.specs.Text.Tokens.{tk, Becomes, BEGIN}
 use Rattle.rules.specs.Grammar.Trees.{Tokens, Action, block, actionTokens, membersTokens, body, mapped, carrier, given, words, with-bits, bare-body, Declaration, plain, main, declarationTokens, Heading, headingTokens, Declarations, declared-all, declared-also, declarationsTokens, Description, description, flatten}
-use Rattle.rules.specs.Declarations.{Name, Declared, Table, numberOf, bodyNumber, bodyOf, declaredOf, restOf, declarations, outerName}
+use Rattle.rules.specs.Declarations.{Word, Declared, Table, numberOf, bodyNumber, bodyOf, declaredOf, restOf, declarations, outerName}
 use Rattle.rules.specs.Steps.Runs.{actOr, bodyAct}
 use Rattle.rules.specs.Faults.Bodies.{labels, labelFaults, actionFaults, declaredNames, bodyFaults, faults40}
 use Rattle.rules.specs.Answers.{accepted, judgement}
@@ -25,7 +25,7 @@ use Rattle.telling.specs.Cited.Grouped.{BodyGrouped, AllGrouped}
 use Rattle.telling.specs.Holding.{alone, HoldsIn, HoldsGrouped}
 use Rattle.telling.specs.Grouped.{action-grouped}
 
-body-ascends : (n : Name) (i s j : ℕ) (a : Action) → i ≤ s → s + actionSize a ≤ j → Ascends i j (bodyCode n s (some a))
+body-ascends : (n : Word) (i s j : ℕ) (a : Action) → i ≤ s → s + actionSize a ≤ j → Ascends i j (bodyCode n s (some a))
 body-ascends n i s j a p q = ascends-within (code-ascends a (bind n (firstOf s a) exit outer) s exit) p q
 
 declaration-ascends :
@@ -85,7 +85,7 @@ module _ (M : Grouping) (d : Description) (n w : ℕ) (judged : judgement d ≡ 
   abbrev ds : Table
   ds = declarations d
 
-  abbrev out : Name
+  abbrev out : Word
   out = outerName d .word
 
   abbrev starts : ℕ → ℕ
@@ -95,7 +95,7 @@ module _ (M : Grouping) (d : Description) (n w : ℕ) (judged : judgement d ≡ 
   nowhere = length (flatten d)
 
   body-grouped :
-      (p : Name) (i : ℕ) (x : Declared) (a : Action) → getElem? ds i ≡ some x → x .name .word ≡ p → x .body ≡ some a
+      (p : Word) (i : ℕ) (x : Declared) (a : Action) → getElem? ds i ≡ some x → x .name .word ≡ p → x .body ≡ some a
       → HoldsIn M C (alone []) (bind p (firstOf (starts i) a) exit outer) (firstOf (starts i) a) exit (actOr (some a))
   unfolding faults40
   body-grouped p i x a there named its =

@@ -8,14 +8,14 @@ use native.Mathlib.Omega.{arith}
 use lib.ListN.{length}
 use Rattle.rules.specs.Text.Scan.{scan}
 use Rattle.rules.specs.Grammar.Trees.{Description, flatten}
-use Rattle.rules.specs.Declarations.{Name, Table, declarations}
+use Rattle.rules.specs.Declarations.{Word, Table, declarations}
 use Rattle.rules.specs.Steps.Evaluation.{Carriers}
 use Rattle.rules.specs.Steps.Runs.{bodyAct, run}
-use Rattle.rules.specs.Steps.Orders.{EndsWell}
 use Rattle.rules.specs.Faults.Whole.{mainName}
 use Rattle.rules.specs.Stores.{Entry, TraceAnswer}
 use Rattle.rules.specs.Limits.{deepest, longestChain}
 use Rattle.rules.specs.Answers.{accepted, Checks, judgement}
+use Rattle.laws_orders.specs.Orders.Ends.{EndsWell}
 use Rattle.laws_grammar.specs.Answers.{accepted-iff-lawful}
 use Rattle.laws_grammar.specs.Cited.Nesting.{nest}
 use Rattle.laws_grammar.specs.Grammar.Exact.{unique}
@@ -49,7 +49,7 @@ module _ (text : List ℕ) (n w : ℕ) (accepts : Checks text (accepted n w)) (d
   abbrev ds : Table
   ds = declarations d
 
-  abbrev main : Name
+  abbrev main : Word
   main = mainName ds
 
   -- what acceptance gives of it

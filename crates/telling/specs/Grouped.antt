@@ -7,7 +7,7 @@ use mathlib.Core.Option.{Option, none, some}
 use Rattle.rules.specs.Grammar.Trees.{Action, block, labelled, if-then, decode, repeat, leave, restart, activate, stop, no-op, transfer, Members, end, also, next}
 use Rattle.rules.specs.Grammar.Trees.{Alternatives, counted, selected, Counted, counted-end, counted-more, Selected, select, otherwise, SelectedMore, selected-end, selected-more}
 use Rattle.rules.specs.Grammar.Precedence.{exprOf}
-use Rattle.rules.specs.Declarations.{Name, Table}
+use Rattle.rules.specs.Declarations.{Word, Table}
 use Rattle.rules.specs.Steps.Actions.{Act, par, inTurn, actOf, groups, altsOf, countedAlts, selectedAlts, moreAlts}
 use Rattle.rules.specs.Faults.Bodies.{judge, faultsIn, alternativesFaults, actionFaults, membersFaults, insideFaults, insideCounted, insideSelected, insideMore}
 use Rattle.laws_orders.specs.Cited.Flat.{Link, at, no-entry, Code, Labels, bind}
@@ -56,7 +56,7 @@ module _ (C : Code) (M : Grouping) where
       front (rest i c) i i′ ρ f g k a b o (record { leads = refl; followed = m .1; next = m′ .0 ∙ ap suc (sym (m .0)) }) p
       (subst (λ l. HoldsTurn (onward l i′ c) c ρ g k b o) (sym (m′ .1)) q)
 
-  module _ (out : Name) (ds : Table) where
+  module _ (out : Word) (ds : Table) where
     mutual
       unfolding firstOf behind entries countedEntries selectedEntries moreEntries codeAt membersCode alternativesCode countedCode selectedCode moreCode actOf groups altsOf countedAlts selectedAlts moreAlts actionFaults membersFaults insideFaults insideCounted insideSelected insideMore
 

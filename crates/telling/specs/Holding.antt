@@ -3,8 +3,8 @@ use Prim.Native.Nat.{ℕ, suc}
 use mathlib.Core.Path.{_≡_}
 use mathlib.Core.Bool.{Bool, true, false}
 use mathlib.Core.List.{List, [], _∷_}
-use Rattle.rules.specs.Declarations.{Name}
-use Rattle.rules.specs.Steps.Actions.{Act, seq, par, label, ins, Ins, iff, decode, repeat, leave, restart, call, stop, noop, transfer, Alts, end, alt}
+use Rattle.rules.specs.Declarations.{Word}
+use Rattle.rules.specs.Steps.Actions.{Act, seq, par, label, ins, Ins, iff, decode, repeat, leave, restart, call, stop, noop, transfer, Alts, no-alts, alt}
 use Rattle.laws_orders.specs.Cited.Flat.{Link, at, exit, Entries, no-entry, entry, ifI, decodeI, goI, callI, stopI, moveI, Code, Labels, bind, leaveTo, restartTo, Jumps, ownLabel}
 use Rattle.laws_orders.specs.Cited.Flat.{Holds, HoldsI, HoldsAlts}
 use Rattle.telling.specs.Cited.Passing.{Grouping}
@@ -65,12 +65,12 @@ module _ (M : Grouping) where
       HoldsInI c ρ f k (transfer d e) = C .instr f ≡ moveI d e k
 
       pub HoldsInAlts : List ℕ → Labels → Entries → Link → Alts → Type 0
-      HoldsInAlts c ρ t k end = t ≡ no-entry
+      HoldsInAlts c ρ t k no-alts = t ≡ no-entry
       HoldsInAlts c ρ t k (alt x a bs) = (g : ℕ) × (t′ : Entries) × (t ≡ entry x g t′) × HoldsIn (alone c) ρ g k a × HoldsInAlts c ρ t′ k bs
 
     -- no group is around a body
-    abbrev pub HoldsGrouped : (Name → Act) → Type 0
-    HoldsGrouped body = (p : Name) → HoldsIn (alone []) (ownLabel C p) (C .first p) exit (body p)
+    abbrev pub HoldsGrouped : (Word → Act) → Type 0
+    HoldsGrouped body = (p : Word) → HoldsIn (alone []) (ownLabel C p) (C .first p) exit (body p)
 
     mutual
       -- such a code holds the action
@@ -96,5 +96,5 @@ module _ (M : Grouping) where
       holdsI (transfer d e) c ρ f k h = h
 
       holdsAlts : (bs : Alts) (c : List ℕ) (ρ : Labels) (t : Entries) (k : Link) → HoldsInAlts c ρ t k bs → HoldsAlts C ρ t k bs
-      holdsAlts end c ρ t k h = h
+      holdsAlts no-alts c ρ t k h = h
       holdsAlts (alt x a bs) c ρ t k h = (h .0, h .1, h .2, holds a (alone c) ρ (h .0) k (h .3), holdsAlts bs c ρ (h .1) k (h .4))

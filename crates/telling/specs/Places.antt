@@ -7,7 +7,7 @@ use mathlib.Core.Option.{none, some}
 use native.Mathlib.Omega.{arith}
 use lib.ListN.{length, length-append}
 use Rattle.rules.specs.Text.Scan.{sameBytes}
-use Rattle.rules.specs.Declarations.{Name, Table}
+use Rattle.rules.specs.Declarations.{Word, Table}
 use Rattle.rules.specs.Limits.{deepest}
 use Rattle.rules.specs.Steps.Control.{Live, one, seqL, both, left, right, labL, loopL, callL, start, leftmost, Sig, ends, goes, leaves, restarts, stops, faults, next}
 use Rattle.rules.specs.Steps.Runs.{bodyAct}
@@ -69,7 +69,7 @@ module _ (ds : Table) (C : Code) (M : Grouping) where
   whole-few [] h = omega arith
   whole-few (m ∷ κ) h = omega (arith, length-append (M .around m) (whole C M κ), h m, whole-few κ h)
 
-  module _ (P : Prints) (c : ℕ) (p : Name) where
+  module _ (P : Prints) (c : ℕ) (p : Word) where
     -- something of a run of the body of p from left to right is left there, in which activations go at most c deep
     pub record TracePlace (n : ℕ) (κ : List ℕ) : Type 0 where
       left : Live

@@ -4,7 +4,7 @@ use mathlib.Core.Path.{_≡_, refl, sym, _∙_, ap, ap₂, subst}
 use mathlib.Core.Bool.{true}
 use mathlib.Core.List.{List, [], _∷_, _++_, append-assoc, map}
 use mathlib.Core.Option.{Option, none, some}
-use Rattle.rules.specs.Declarations.{Name, Table}
+use Rattle.rules.specs.Declarations.{Word, Table}
 use Rattle.rules.specs.Stores.{made}
 use Rattle.rules.specs.Steps.Evaluation.{Carriers, Outcome, gives, faulty}
 use Rattle.rules.specs.Steps.Actions.{repeat}
@@ -12,7 +12,8 @@ use Rattle.rules.specs.Steps.Control.{Live, one, seqL, both, left, right, labL,
 use Rattle.rules.specs.Steps.Control.{Sig, ends, goes, leaves, restarts, stops, faults, next}
 use Rattle.rules.specs.Steps.Runs.{Conf, running, finished, stopped, failed, Worked, perform, told as toldConf, after, bodyAct, step, begin}
 use Rattle.rules.specs.Steps.Runs.{Run, runWith, done, halted, paused, faulted, runFrom, run}
-use Rattle.rules.specs.Steps.Orders.{EndsWell, endOf}
+use Rattle.rules.specs.Steps.Orders.{endOf}
+use Rattle.laws_orders.specs.Orders.Ends.{EndsWell}
 use Rattle.laws_orders.specs.Orders.Budget.{onward as onwardRun}
 use Rattle.laws_orders.specs.Cited.Flat.{Link, at, exit, Instr, ifI, decodeI, goI, callI, stopI, moveI, Code, At, pc, over, halt, broken, go, push, find, picked, workM, nextM}
 use Rattle.laws_orders.specs.Cited.Flat.{return as returnM, Machine, runs, ended, stood, broke, put, putAfter, stepM, Labels, outer, bind, leaveTo, restartTo, ownLabel}
@@ -204,7 +205,7 @@ module _ (ds : Table) (C : Code) (M : Grouping) where
 
   -- The machine's run of a body is the run from left to right; where that ends well, what it tells is what left to right tells, behind the groups that open
   -- where it begins. Its reports lead from no open group to some.
-  pub record Traces (n : Name) (b : ℕ) (s : Carriers) : Type 0 where
+  pub record Traces (n : Word) (b : ℕ) (s : Carriers) : Type 0 where
     pub same : traceRun ds C M n b s .run ≡ run ds n b s
     pub tells :
         EndsWell (run ds n b s)
@@ -283,13 +284,13 @@ module _ (ds : Table) (C : Code) (M : Grouping) where
                 (moves-as M (q .1) (ap (λ (z : Told). z .passed) (q .0)) refl (moves-none M w))
                 (over-agrees (runWith (faulted i p) k s) (failed i p s) w (λ i. absurd i))
 
-    abbrev outermost : Name → Env
+    abbrev outermost : Word → Env
     outermost n = record { foot = P .body n; mayStop = true; scope = [] }
 
-    first-ok : (n : Name) → OkL P (outermost n) (callL n (start (bodyAct ds n)))
+    first-ok : (n : Word) → OkL P (outermost n) (callL n (start (bodyAct ds n)))
     first-ok n = call-ok P (bodyAct ds) ok (outermost n) n (record { foot = Sub·refl (P .body n); stopping = λ p. refl })
 
-    pub trace-agrees : (n : Name) (b : ℕ) (s : Carriers) → Traces n b s
+    pub trace-agrees : (n : Word) (b : ℕ) (s : Carriers) → Traces n b s
     unfolding traceRun run begin openings whole
     trace-agrees n b s =
         let a = from-agrees b 0 (callL n (start (bodyAct ds n))) (outermost n) s (C .first n) [] (first-ok n)

@@ -8,8 +8,8 @@ use native.Mathlib.Omega.{arith}
 use lib.ListN.{length}
 use Rattle.rules.specs.Text.Scan.{sameBytes}
 use Rattle.rules.specs.Selectors.{takes}
-use Rattle.rules.specs.Declarations.{Name}
-use Rattle.rules.specs.Steps.Actions.{Act, seq, par, label, ins, Ins, iff, decode, repeat, leave, restart, call, stop, noop, transfer, Alts, end, alt}
+use Rattle.rules.specs.Declarations.{Word}
+use Rattle.rules.specs.Steps.Actions.{Act, seq, par, label, ins, Ins, iff, decode, repeat, leave, restart, call, stop, noop, transfer, Alts, no-alts, alt}
 use Rattle.rules.specs.Steps.Control.{Live, one, seqL, both, left, right, labL, loopL, callL, start, leftmost}
 use Rattle.rules.specs.Steps.Control.{Sig, ends, goes, leaves, restarts, stops, faults, seqS, bothL, rightS, labS, loopS, choose, pickS, lost, callS, nextI, next}
 use Rattle.laws_orders.specs.Cited.Flat.{Link, at, exit, Entries, Code, pc, over, halt, broken, push, find, Labels, bind, leaveTo, restartTo, Jumps, ownLabel, callI}
@@ -62,7 +62,7 @@ module _ (C : Code) (M : Grouping) where
   -- instructions that activate
   abbrev pub Activations : List ℕ → Type 0
   Activations [] = Unit {0}
-  Activations (m ∷ κ) = ((p : Name) × (k : Link) × (C .instr m ≡ callI p k)) × Activations κ
+  Activations (m ∷ κ) = ((p : Word) × (k : Link) × (C .instr m ≡ callI p k)) × Activations κ
 
   -- An activation inside the members c goes on with the stack κ; behind it control goes by the link k with the stack τ. MAIN goes on by no instruction, with an
   -- empty stack, and nothing is behind it.
@@ -372,7 +372,7 @@ module _ (C : Code) (M : Grouping) where
   leave-says c ρ k τ w es x y d u o υ m false f g q = g (record { jumped = q .jumped; same = q .same; silent = q .silent })
 
   lab-says :
-      (c : List ℕ) (ρ : Labels) (k : Link) (τ w : List ℕ) (es : List Event) (l : Name) (a : Act) (f : ℕ) (x : Sig) (m : Told)
+      (c : List ℕ) (ρ : Labels) (k : Link) (τ w : List ℕ) (es : List Event) (l : Word) (a : Act) (f : ℕ) (x : Sig) (m : Told)
       → HoldsIn M C (alone c) (bind l f k ρ) f k a → Says (alone c) (bind l f k ρ) k τ w es x m
       → Says (alone c) ρ k τ w (es ++ atRestart l (openings (start a)) x) (labS l a x) m
   unfolding leaveTo restartTo
@@ -443,7 +443,7 @@ module _ (C : Code) (M : Grouping) where
       }
 
   -- An activation goes on behind its instruction.
-  entered : (c : List ℕ) (k : Link) (τ : List ℕ) (n : ℕ) (p : Name) → M .around n ≡ c → C .instr n ≡ callI p k → Entered c k τ (n ∷ τ)
+  entered : (c : List ℕ) (k : Link) (τ : List ℕ) (n : ℕ) (p : Word) → M .around n ≡ c → C .instr n ≡ callI p k → Entered c k τ (n ∷ τ)
   unfolding return whole addresses
   entered c k τ n y p q =
       record {
@@ -494,7 +494,7 @@ module _ (C : Code) (M : Grouping) where
       (c : List ℕ) (ρ : Labels) (k : Link) (τ : List ℕ) (p : ℕ) (t : Entries) (bs : Alts) (v : ℕ) → HoldsInAlts M C c ρ t k bs
       → Says (alone c) ρ k τ (c ++ whole τ) (fresh (pickS p (choose bs v))) (pickS p (choose bs v)) (pickedT C M p c τ (find t v))
   unfolding choose find
-  find-says c ρ k τ p t end v h = rw h (refl, refl)
+  find-says c ρ k τ p t no-alts v h = rw h (refl, refl)
   find-says c ρ k τ p t (alt x a bs) v h =
       rw (h .2) (pick-says c ρ k τ p a (h .0) (takes x v) (choose bs v) (find (h .1) v) (h .3) (find-says c ρ k τ p (h .1) bs v (h .4)))
 
@@ -504,13 +504,13 @@ module _ (C : Code) (M : Grouping) where
   jump-jumps none c τ n v p h = absurd h
   jump-jumps (some k) c τ n v p h = record { jumped = rw (h, p) refl; same = refl; silent = refl }
 
-  module _ (body : Name → Act) (bodies : HoldsGrouped M C body) where
-    pub call-stands : (c : List ℕ) (ρ : Labels) (k : Link) (τ υ : List ℕ) (p : Name) → Entered c k τ υ
+  module _ (body : Word → Act) (bodies : HoldsGrouped M C body) where
+    pub call-stands : (c : List ℕ) (ρ : Labels) (k : Link) (τ υ : List ℕ) (p : Word) → Entered c k τ υ
         → Stands (alone c) ρ k τ (callL p (start (body p))) (C .first p) υ
     call-stands c ρ k τ υ p d = (υ, d, start-stands (body p) (alone []) (ownLabel C p) (C .first p) exit υ (bodies p))
 
     -- what is told where a body begins
-    pub body-moves : (p : Name) (w : List ℕ)
+    pub body-moves : (p : Word) (w : List ℕ)
         → Moves M w (openings (start (body p))) (passage M [] (M .around (C .first p))) (M .around (C .first p) ++ w)
     body-moves p w =
         let b = start-begins (body p) (alone []) (ownLabel C p) (C .first p) exit (bodies p) in
@@ -518,7 +518,7 @@ module _ (C : Code) (M : Grouping) where
         (into-append (b .entered) [] w ∙ ap (λ z. z ++ w) (sym (b .place))) (moves-opened M (b .entered) w (b .firsts))
 
     call-says :
-        (c : List ℕ) (ρ : Labels) (k : Link) (τ υ w : List ℕ) (es : List Event) (p : Name) (x : Sig) (m : Told) → Entered c k τ υ
+        (c : List ℕ) (ρ : Labels) (k : Link) (τ υ w : List ℕ) (es : List Event) (p : Word) (x : Sig) (m : Told) → Entered c k τ υ
         → Says (alone []) (ownLabel C p) exit υ w es x m → Says (alone c) ρ k τ w (es ++ atRestart p (openings (start (body p))) x) (callS body p x) m
     unfolding leaveTo restartTo
     call-says c ρ k τ υ w es p ends m d q = body-ends c k τ υ w es m d q

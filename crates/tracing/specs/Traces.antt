@@ -6,7 +6,7 @@ use mathlib.Core.Option.{some}
 use lib.ListN.{length, take, drop}
 use Rattle.rules.specs.Text.Scan.{scan}
 use Rattle.rules.specs.Grammar.Trees.{Action, Description, flatten}
-use Rattle.rules.specs.Declarations.{Name, Table, declarations, bodyOf, totalWords}
+use Rattle.rules.specs.Declarations.{Word, Table, declarations, bodyOf, totalWords}
 use Rattle.rules.specs.Faults.Whole.{mainName}
 use Rattle.rules.specs.Answers.{accepted, Checks}
 use Rattle.rules.specs.Entries.{entriesIn}
@@ -33,7 +33,7 @@ pub record TraceAt (records values decls memory room entries : List ℕ) (start 
   pub accepts : Checks text (accepted declared words)
   pub description : Description
   pub stands : flatten description ≡ scan text .tokens
-  pub outer : Name
+  pub outer : Word
   pub promise : Promise text records values decls (scan text .tokens) outer (declarations description) (descriptionCode description)
   pub body : Action
   pub main : bodyOf (declarations description) (mainName (declarations description)) ≡ some body

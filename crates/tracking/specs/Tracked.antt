@@ -9,10 +9,10 @@ use Rattle.rules.specs.Grammar.Trees.{Description, flatten}
 use Rattle.rules.specs.Declarations.{declarations}
 use Rattle.rules.specs.Steps.Evaluation.{Carriers}
 use Rattle.rules.specs.Steps.Runs.{run}
-use Rattle.rules.specs.Steps.Orders.{EndsWell}
 use Rattle.rules.specs.Faults.Whole.{mainName}
 use Rattle.rules.specs.Stores.{Entry, TraceAnswer}
 use Rattle.rules.specs.Answers.{accepted, Checks}
+use Rattle.laws_orders.specs.Orders.Ends.{EndsWell}
 use Rattle.laws_code.specs.Cited.Placed.{descriptionCode}
 use Rattle.traces.specs.Cited.Events.{Event, stores, opens, turns, closes}
 use Rattle.telling.specs.Cited.Cells.{Cells, cellGrouping, AllMarked}

@@ -1,7 +1,7 @@
 -- The tokens of selectors.
 use Prim.Native.Nat.{ℕ}
 use mathlib.Core.Path.{_≡_, ap, _∙_}
-use mathlib.Core.List.{List, [], _∷_, map}
+use mathlib.Core.List.{[], _∷_, map}
 use lib.ListN.{getD}
 use Rattle.rules.specs.Text.Tokens.{Kind, Info, tk, Const, Masked, Colon, Comma, LBra, RBra}
 use Rattle.rules.specs.Grammar.Trees.{Tokens, Literal, exact, masked, literalTokens, Range, single, to, rangeTokens, Items, close, item, itemsTokens}

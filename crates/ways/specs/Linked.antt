@@ -3,7 +3,7 @@ use Prim.Native.Nat.{ℕ, suc, _+_, _<_, _≤_}
 use mathlib.Core.Path.{_≡_}
 use mathlib.Core.List.{List}
 use Rattle.rules.specs.Grammar.Trees.{Bits, bitsTokens, Subscript, subscriptTokens, Joined, joinedTokens, Action, block, labelled, if-then, decode, repeat, leave, restart, activate, stop, no-op, transfer, Members, end, also, next, Alternatives, counted, selected, Counted, counted-end, counted-more, Selected, select, otherwise, SelectedMore, selected-end, selected-more}
-use Rattle.rules.specs.Declarations.{Name as Word, Table}
+use Rattle.rules.specs.Declarations.{Word, Table}
 use Rattle.laws_orders.specs.Cited.Flat.{Link, at, Labels, bind, leaveTo, restartTo}
 use Rattle.laws_code.specs.Cited.Code.{size, actionSize, selectorSize, firstOf, behind, target, behindTest}
 use Rattle.table.specs.Meaning.{meaningOf}

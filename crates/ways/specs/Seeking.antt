@@ -7,7 +7,7 @@ use lib.ListN.{drop}
 use Rattle.rules.specs.Text.Tokens.{Token}
 use Rattle.rules.specs.Text.Scan.{sameBytes}
 use Rattle.rules.specs.Grammar.Trees.{Tokens, Action, actionTokens}
-use Rattle.rules.specs.Declarations.{Name as Word, Table}
+use Rattle.rules.specs.Declarations.{Word, Table}
 use Rattle.table.specs.Holds.{Holds}
 use Rattle.table.specs.Scans.{scan}
 use Rattle.table.specs.Words.{NameAt, wordAt}

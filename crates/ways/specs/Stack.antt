@@ -9,7 +9,7 @@ use lib.ListN.{length}
 use Rattle.cells.specs.Cells.{cell}
 use Rattle.rules.specs.Text.Scan.{sameBytes}
 use Rattle.rules.specs.Limits.{mostTokens}
-use Rattle.rules.specs.Declarations.{Name as Word}
+use Rattle.rules.specs.Declarations.{Word}
 use Rattle.laws_orders.specs.Cited.Flat.{Link, Labels, outer, bind}
 use Rattle.table.specs.Holds.{linkCell}
 use Rattle.table.specs.Words.{NameAt, wordAt}

@@ -7,7 +7,7 @@ use lib.ListN.{length, drop}
 use Rattle.rules.specs.Text.Tokens.{kindNo, Info, tk, Const, Masked, LBra, Becomes, END, OTHERWISE}
 use Rattle.rules.specs.Grammar.Trees.{Tokens, Selector, selectorTokens, Action, actionTokens, Counted, countedTokens, SelectedMore, selectedMoreTokens}
 use Rattle.rules.specs.Whole.Sets.{member}
-use Rattle.rules.specs.Declarations.{Name as Word, Table}
+use Rattle.rules.specs.Declarations.{Word, Table}
 use Rattle.laws_grammar.specs.Cited.Nesting.{countedNest, selectedMoreNest}
 use Rattle.laws_orders.specs.Cited.Flat.{Link, Labels}
 use Rattle.laws_code.specs.Cited.Code.{actionSize, selectorSize, firstOf}

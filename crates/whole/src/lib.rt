@@ -13,7 +13,7 @@ ghost use mathlib.Core.Path.{_≡_};
 ghost use mathlib.Core.Bool.{false};
 ghost use Prim.Native.Nat.{_≤_};
 ghost use lib.ListN.{length};
-ghost use Rattle.rules.specs.Declarations.{Name};
+ghost use Rattle.rules.specs.Declarations.{Word};
 ghost use Rattle.rules.specs.Whole.Sets.{chainOver};
 ghost use Rattle.rules.specs.Limits.{longestChain};
 ghost use Rattle.rules.specs.Faults.Whole.{faults50};
@@ -25,7 +25,7 @@ ghost use Rattle.whole.specs.WalkKeys.{Roomy};
 // Gathers what the bodies touch in the front of the room.
 fn gather_in(records: &[u8], decls: &[u8], room: &mut [u8], m: usize, n: usize)
     requires { ⌜ Reading (now records) (now decls) m n × ((51200 ≤ length (now room))
-        × ((v : Reading (now records) (now decls) m n) (w : Name) → chainOver (tableOf v) longestChain w ≡ false)) ⌝ }
+        × ((v : Reading (now records) (now decls) m n) (w : Word) → chainOver (tableOf v) longestChain w ≡ false)) ⌝ }
     ensures { λ _. ⌜ Roomy (now (records .entry)) (now (decls .entry)) (now (room .exit)) m n ⌝ }
 {
     gather_all(records, decls, &mut room[..LABELS], m, n);

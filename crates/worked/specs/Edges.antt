@@ -1,7 +1,6 @@
 -- Texts on both sides of each limit: the longest that passes, and one that passes it by one. The answers come from hand and from an implementation that
 -- shares nothing with this project.
 use Prim.Native.Nat.{ℕ, zero, suc, _+_, _/_, _%_}
-use Prim.Native.String.{String}
 use mathlib.Core.List.{List, [], _∷_, _++_}
 use lib.ListN.{replicate}
 use Rattle.rules.specs.Text.Bytes.{bytes}

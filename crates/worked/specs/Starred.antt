@@ -1,17 +1,17 @@
 -- The starred lines of document 01, one table under one statement: lines 1 and 9 by Check, lines 4, 8 and 10 by Run, the others from the text that they show.
-use Prim.Native.Nat.{ℕ, _*_}
+use Prim.Native.Nat.{ℕ}
 use Prim.Native.String.{String}
-use mathlib.Core.Bool.{Bool, true, false, _&&_}
+use mathlib.Core.Bool.{Bool, true, _&&_}
 use mathlib.Core.List.{List, [], _∷_, _++_}
 use mathlib.Core.Option.{Option, none, some}
-use lib.Dec.{T, eqb}
+use lib.Dec.{T}
 use lib.ListN.{getD, replicate}
 use Rattle.rules.specs.Text.Bytes.{bytes}
-use Rattle.rules.specs.Steps.Runs.{Ending, done, halted, paused, faulted}
-use Rattle.rules.specs.Answers.{Verdict, accepted, refused, Result, refusal, ended}
+use Rattle.rules.specs.Steps.Runs.{done, halted, paused, faulted}
+use Rattle.rules.specs.Answers.{Result, refusal, ended}
 use Rattle.rules.specs.Text.Tokens.{Token, tk, Name}
 use Rattle.rules.specs.Grammar.Verdict.{anyInfo}
-use Rattle.rules.specs.Grammar.Trees.{masked, Range, to}
+use Rattle.rules.specs.Grammar.Trees.{masked, to}
 use Rattle.rules.specs.Values.{Value}
 use Rattle.worked.specs.Worked.{shortVerdict}
 use Rattle.rules.specs.Selectors.{Item, pattern, between}

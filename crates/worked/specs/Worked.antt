@@ -2,13 +2,13 @@
 -- this project.
 use Prim.Native.Nat.{ℕ, _*_}
 use Prim.Native.String.{String}
-use mathlib.Core.Bool.{Bool, true, false, _&&_}
+use mathlib.Core.Bool.{Bool, true, _&&_}
 use mathlib.Core.List.{List, [], _∷_, _++_}
-use lib.Dec.{T, eqb}
-use lib.ListN.{getD, replicate}
+use lib.Dec.{T}
+use lib.ListN.{replicate}
 use Rattle.rules.specs.Text.Bytes.{bytes}
 use Rattle.worked.specs.Edges.{Text, refusesBytes, acceptsBytes, times, carriers, chain, edges}
-use Rattle.rules.specs.Steps.Runs.{Ending, done, halted, paused, faulted}
+use Rattle.rules.specs.Steps.Runs.{done, halted, paused, faulted}
 use Rattle.rules.specs.Answers.{Verdict, accepted, refused, Result, refusal, ended}
 use Rattle.rules.specs.Answers.{judgement, placeOf, littleEndian, wordsFrom, bytesOf, bufferOf, wordLengths, longWord, runOn}
 use Rattle.rules.specs.Declarations.{howMany, fromLeft, fromRight, bitCount, restOf, declarations, numberFrom, numberOf, storageWords, totalWords}

@@ -11,7 +11,7 @@ use Rattle.cells.specs.Cells.{cell}
 use Rattle.rules.specs.Text.Tokens.{Name, Info, Token, tk}
 use Rattle.rules.specs.Text.Scan.{sameBytes}
 use Rattle.rules.specs.Grammar.Trees.{Declaration}
-use Rattle.rules.specs.Declarations.{Name as Word, Declared, Table, declaredOf, numberFrom, numberOf}
+use Rattle.rules.specs.Declarations.{Word, Declared, Table, declaredOf, numberFrom, numberOf}
 use Rattle.rules.specs.Faults.Fault.{Fault, when}
 use Rattle.rules.specs.Faults.Declared.{large, largeBits, largeWords, tooMany, twice, badMapping, mappings, faults30}
 use Rattle.table.specs.Kth.{map-found}

@@ -9,7 +9,7 @@ use lib.ListN.{length, getD, drop}
 use lib.Seq.{getD-drop, drop-drop}
 use Rattle.rules.specs.Grammar.Trees.{Action, stop, Counted, counted-end, counted-more, Selected, select, otherwise, SelectedMore, selected-end, selected-more}
 use Rattle.rules.specs.Grammar.Verdict.{anyInfo}
-use Rattle.rules.specs.Declarations.{Name as Word, Table}
+use Rattle.rules.specs.Declarations.{Word, Table}
 use Rattle.rules.specs.Selectors.{Item, between, selectorItems}
 use Rattle.rules.specs.Faults.Fault.{Fault}
 use Rattle.rules.specs.Faults.Bodies.{selectorPlace, firstPlace, alternative, countedFaults, selectedFaults, moreFaults, actionFaults, insideCounted, insideSelected, insideMore}

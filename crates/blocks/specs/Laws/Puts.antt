@@ -1,14 +1,13 @@
 -- Numbers in the bytes of a block.
 -- Assumes nothing.
 use Prim.Native.Nat.{ℕ, zero, suc, _+_, _-_, _*_, _/_, _%_, _<_, _≤_}
-use mathlib.Core.Path.{_≡_, refl, sym, ap, ap₂, _∙_}
+use mathlib.Core.Path.{_≡_, sym, ap, ap₂, _∙_}
 use mathlib.Core.List.{List, [], _∷_, _++_, append-nil, append-assoc}
 use native.Mathlib.Omega.{arith}
-use mathlib.Core.Bool.{true, false, _&&_}
+use mathlib.Core.Bool.{false, _&&_}
 use borrow.Author.Tests.{eq-eqb, ne-eqb}
 use lib.Dec.{eqb}
-use native.Mathlib.Nat.{mul-le-mul}
-use lib.ListN.{length, getD, take, drop, set, replicate, length-drop, length-append, length-take, length-set, length-replicate, take-append-drop, drop-of-length-le, replicate-append-replicate}
+use lib.ListN.{length, getD, take, drop, set, replicate, length-drop, length-append, length-set, length-replicate, take-append-drop, drop-of-length-le, replicate-append-replicate}
 use lib.Seq.{getD-take, take-nil, take-length, length-take-le, drop-drop, take-at, drop-at, paste}
 use Rattle.cells.specs.Cells.{leAt, putAt, cell, putCell}
 use Rattle.rules.specs.Answers.{littleEndian, bytesOf}

@@ -1,11 +1,11 @@
 -- Laws of the check: it is below 2^32, and one changed byte changes it; numbers and their bytes.
 -- Assumes nothing.
-use Prim.Native.Nat.{ℕ, zero, suc, _+_, _*_, _/_, _%_, _^_, _<_, _≤_}
+use Prim.Native.Nat.{ℕ, zero, suc, _+_, _*_, _/_, _^_, _<_, _≤_}
 use mathlib.Core.Path.{_≡_, refl, sym, ap, _∙_}
 use mathlib.Core.List.{List, [], _∷_, _++_}
 use native.Mathlib.Omega.{arith}
 use native.Mathlib.Nat.{mul-le-mul, eq-of-mul-eq-mul-right, pow-succ'}
-use lib.ListN.{length, getD, take, drop, set, length-set}
+use lib.ListN.{length, getD, take, set, length-set}
 use lib.Seq.{take-all, getD-set-same}
 use Rattle.rules.specs.Answers.{littleEndian, bytesOf}
 use Rattle.buffers.specs.Laws.Buffers.{bytes-back}

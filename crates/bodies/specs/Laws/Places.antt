@@ -15,7 +15,7 @@ use Rattle.rules.specs.Grammar.Precedence.{Expr, leaf, node, Factor, number, ce
 use Rattle.rules.specs.Grammar.Precedence.{insert-by, insert, inserts, arrange, factorOf, linksOf, indexOf, exprOf}
 use Rattle.rules.specs.Values.{opBits}
 use Rattle.rules.specs.Limits.{mostBits, longestText}
-use Rattle.rules.specs.Declarations.{Name as Word, Names, BitNames, Declared, Table, numberOf, namesOf, reach}
+use Rattle.rules.specs.Declarations.{Word, Names, BitNames, Declared, Table, numberOf, namesOf, reach}
 use Rattle.rules.specs.Faults.Fault.{Fault, fault, when}
 use Rattle.rules.specs.Faults.Declared.{inside, declaredAt}
 use Rattle.rules.specs.Faults.Bodies.{Judged, judgedAs, isSound, over, subscripted, accessJudged, judgeName, judgeAccess, judge, judgeFactor, judgeIndex, faultsIn}

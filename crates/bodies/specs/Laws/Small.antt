@@ -19,7 +19,7 @@ use Rattle.rules.specs.Grammar.Trees.{Selected, select, otherwise, selectedToke
 use Rattle.rules.specs.Grammar.Trees.{body, mapped, carrier, given, words, with-bits, bare-body, Declaration, plain, main, ownBitsTokens, mainBitsTokens, declarationsTokens, Description}
 use Rattle.rules.specs.Grammar.Precedence.{exprOf}
 use Rattle.rules.specs.Selectors.{Item, between, selectorItems}
-use Rattle.rules.specs.Declarations.{Name as Word, Declared, Table, declaredOf, declarations, numberOf, outerName}
+use Rattle.rules.specs.Declarations.{Word, Declared, Table, declaredOf, declarations, numberOf, outerName}
 use Rattle.rules.specs.Faults.Fault.{fault}
 use Rattle.rules.specs.Faults.Declared.{isKnown, declaredAt}
 use Rattle.rules.specs.Faults.Bodies.{judge, activated, someMeet, past, selectorPlace, firstPlace, alternative}

@@ -11,7 +11,7 @@ use lib.ListN.{length, drop, getElem?}
 use Rattle.cells.specs.Cells.{cell, putCell}
 use Rattle.rules.specs.Grammar.Trees.{Action, Declaration, actionTokens}
 use Rattle.rules.specs.Limits.{deepest, longestChain}
-use Rattle.rules.specs.Declarations.{Name as Word, Table, Declared, declaredOf, numberOf, bodyOf, bodyNumber}
+use Rattle.rules.specs.Declarations.{Word, Table, Declared, declaredOf, numberOf, bodyOf, bodyNumber}
 use Rattle.rules.specs.Steps.Runs.{bodyAct, actOr}
 use Rattle.rules.specs.Whole.Sets.{callsIn, anyName, chainOver}
 use Rattle.laws_grammar.specs.Cited.Nesting.{actionNest}

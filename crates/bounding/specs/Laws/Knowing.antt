@@ -8,7 +8,7 @@ use native.Mathlib.Omega.{arith}
 use borrow.Author.Tests.{eqb-true, eqb-false}
 use lib.Dec.{eqb}
 use Rattle.rules.specs.Grammar.Trees.{Action}
-use Rattle.rules.specs.Declarations.{Name as Word, Table, bodyOf}
+use Rattle.rules.specs.Declarations.{Word, Table, bodyOf}
 use Rattle.rules.specs.Limits.{longestChain}
 use Rattle.rules.specs.Faults.Fault.{when}
 use Rattle.rules.specs.Faults.Whole.{mains, beginsChain, chains, groupsFaults, faults50}

@@ -9,7 +9,7 @@ use Rattle.cells.specs.Cells.{cell}
 use Rattle.rules.specs.Text.Tokens.{Info, Token, kindNo}
 use Rattle.rules.specs.Grammar.Trees.{Declaration}
 use Rattle.rules.specs.Limits.{longestChain}
-use Rattle.rules.specs.Declarations.{Name as Word, declaredOf, numberOf, bodyOf, bodyNumber}
+use Rattle.rules.specs.Declarations.{Word, declaredOf, numberOf, bodyOf, bodyNumber}
 use Rattle.rules.specs.Faults.Whole.{mainName}
 use Rattle.bounds.specs.Cited.Counts.{endless, countDown}
 use Rattle.bounds.specs.WalkLaws.{cut-low, count-none}

@@ -2,7 +2,7 @@
 use Prim.Native.Nat.{ℕ, _+_, min}
 use mathlib.Core.Bool.{Bool, true, false}
 use lib.Dec.{eqb}
-use Rattle.rules.specs.Declarations.{Name, Table}
+use Rattle.rules.specs.Declarations.{Word, Table}
 use Rattle.rules.specs.Bound.{costDown, turnsDown, Bound, bound, no-bound}
 
 -- one more than a budget can hold
@@ -18,7 +18,7 @@ cut true n = endless
 cut false n = min n endless
 
 -- the count of a body down chains of k activations
-abbrev pub countDown : Table → ℕ → Name → ℕ
+abbrev pub countDown : Table → ℕ → Word → ℕ
 countDown ds k p = cut (turnsDown ds k p) (costDown ds k p)
 
 abbrev pub boundWhen : Bool → ℕ → Bound

@@ -7,7 +7,7 @@ use lib.ListN.{drop}
 use Rattle.rules.specs.Grammar.Trees.{Operand, constant, access, parens, negated, Tail, no-more, with-op, Subscript, no-subscript, subscript, Joined, alone, joined}
 use Rattle.rules.specs.Grammar.Trees.{Action, block, labelled, if-then, decode, repeat, leave, restart, activate, stop, no-op, transfer, Members, end, also, next}
 use Rattle.rules.specs.Grammar.Trees.{Alternatives, counted, selected, Counted, counted-end, counted-more, Selected, select, otherwise, SelectedMore, selected-end, selected-more}
-use Rattle.rules.specs.Declarations.{Name}
+use Rattle.rules.specs.Declarations.{Word}
 use Rattle.rules.specs.Steps.Actions.{Act, par, inTurn, whole, actOf, groups, altsOf, countedAlts, selectedAlts, moreAlts}
 use Rattle.rules.specs.Steps.Runs.{actOr}
 use Rattle.rules.specs.Whole.Sets.{callsIn, callsI, callsAlts}
@@ -50,8 +50,8 @@ unfolding callsIn
 in-front x y none = refl
 in-front x y (some b) = append-assoc (callsIn x) (callsIn y) (callsIn b)
 
-then : (xs ys zs : List Name) {us vs : List Name} → us ≡ xs ++ vs → vs ≡ ys ++ zs → us ≡ (xs ++ ys) ++ zs
-then xs ys zs g h = g ∙ (ap (λ (l : List Name). xs ++ l) h ∙ sym (append-assoc xs ys zs))
+then : (xs ys zs : List Word) {us vs : List Word} → us ≡ xs ++ vs → vs ≡ ys ++ zs → us ≡ (xs ++ ys) ++ zs
+then xs ys zs g h = g ∙ (ap (λ (l : List Word). xs ++ l) h ∙ sym (append-assoc xs ys zs))
 
 mutual
   unfolding actionEvents callsOf callsIn callsI callsAlts actOf groups altsOf countedAlts selectedAlts moreAlts
@@ -78,7 +78,7 @@ mutual
   calls-members x (also i b m) xs es h =
       then (callsIn x) (callsIn (whole (groups (actOf b) m))) (callsOf es) h
       (calls-members (actOf b) m (actionEvents b (membersEvents m es)) es (calls-action b (membersEvents m es)))
-      ∙ ap (λ (l : List Name). l ++ callsOf es) (sym (in-front x (groups (actOf b) m .group) (groups (actOf b) m .behind)))
+      ∙ ap (λ (l : List Word). l ++ callsOf es) (sym (in-front x (groups (actOf b) m .group) (groups (actOf b) m .behind)))
   calls-members x (next i b m) xs es h =
       then (callsIn x) (callsIn (whole (groups (actOf b) m))) (callsOf es) h
       (calls-members (actOf b) m (actionEvents b (membersEvents m es)) es (calls-action b (membersEvents m es)))

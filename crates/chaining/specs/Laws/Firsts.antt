@@ -9,9 +9,9 @@ use borrow.Author.Tests.{eq-eqb, ne-eqb}
 use lib.Dec.{eqb}
 use lib.ListN.{length, drop, getElem?, drop-of-length-le}
 use Rattle.rules.specs.Text.Tokens.{kindNo}
-use Rattle.rules.specs.Text.Tokens.{Name as NameKind}
+use Rattle.rules.specs.Text.Tokens.{Name}
 use Rattle.rules.specs.Limits.{longestChain}
-use Rattle.rules.specs.Declarations.{Name, Declared, Table, declaredOf, numberOf}
+use Rattle.rules.specs.Declarations.{Word, Declared, Table, declaredOf, numberOf}
 use Rattle.rules.specs.Whole.Sets.{callsIn}
 use Rattle.rules.specs.Faults.Whole.{beginsChain}
 use Rattle.rules.specs.Reasons.{firstOver, refusedBody}
@@ -37,7 +37,7 @@ none-numbered : {m r : ℕ} {o : Option ℕ} → m ≤ r → o ≡ none → Numb
 none-numbered l e = record { one = λ h. absurd (omega arith); nothing = λ h. e }
 
 -- a level chooses as its chains do
-pub level-first : (ds : Table) (k : ℕ) (w : List ℕ) (all : Bool) (ns : List Name) → Levelled ds w all k → firstOver ds k ns ≡ firstIn ds (inLevel ds w all) ns
+pub level-first : (ds : Table) (k : ℕ) (w : List ℕ) (all : Bool) (ns : List Word) → Levelled ds w all k → firstOver ds k ns ≡ firstIn ds (inLevel ds w all) ns
 unfolding firstOver firstIn
 level-first ds k w all [] x = refl
 level-first ds k w all (n ∷ ns) x =
@@ -62,7 +62,7 @@ module _ {records decls : List ℕ} {m n from : ℕ} {w : List ℕ} {all : Bool}
       none-numbered (omega arith) (inv .left v ∙ ap (firstIn (tableOf v) (inLevel (tableOf v) w all)) (c .nothing h (kinded v)))
 
   module _ (h : name < n) where
-    pub choice-name : kindByte records name ≡ kindNo NameKind
+    pub choice-name : kindByte records name ≡ kindNo Name
     choice-name = c .found h .is-name
 
     pub choices-fewer : n - next < n - at

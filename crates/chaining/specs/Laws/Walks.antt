@@ -9,7 +9,7 @@ use native.Mathlib.Omega.{arith}
 use lib.Dec.{eqb, ltb}
 use lib.ListN.{length, getElem?, length-append}
 use Rattle.rules.specs.Limits.{longestChain}
-use Rattle.rules.specs.Declarations.{Name, Declared, Table, declaredOf}
+use Rattle.rules.specs.Declarations.{Word, Declared, Table, declaredOf}
 use Rattle.rules.specs.Whole.Sets.{member, callsIn}
 use Rattle.rules.specs.Reasons.{no-reason, chained, firstOver, bodyOfNumber, chainBehind, refusedBody, placeIn, placesIn, chainOf, chainFrom, reason51}
 use Rattle.rules.specs.Calls.Why.{reasonNumbers}
@@ -38,7 +38,7 @@ starts-none : (ds : Table) (place : ℕ) → startOf ds place ≡ none → reaso
 unfolding reason51
 starts-none ds place e = by (refusedBody ds place ds) e
   where
-    by : (o : Option Name) → startBy ds o ≡ none → chainFrom ds o ≡ no-reason
+    by : (o : Option Word) → startBy ds o ≡ none → chainFrom ds o ≡ no-reason
     by none e = refl
     by (some n) e = ap (chainOf ds) e
 
@@ -46,7 +46,7 @@ starts-at : (ds : Table) (place b : ℕ) → startOf ds place ≡ some b → rea
 unfolding reason51
 starts-at ds place b e = by (refusedBody ds place ds) e
   where
-    by : (o : Option Name) → startBy ds o ≡ some b → chainFrom ds o ≡ chained (placesIn ds (chainBehind ds longestChain [] b))
+    by : (o : Option Word) → startBy ds o ≡ some b → chainFrom ds o ≡ chained (placesIn ds (chainBehind ds longestChain [] b))
     by none e = impossible (cc)
     by (some n) e = ap (chainOf ds) e
 

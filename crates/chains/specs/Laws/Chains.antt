@@ -11,7 +11,7 @@ use borrow.Author.Tests.{eq-eqb, ne-eqb, lt-ltb, le-ltb}
 use lib.Dec.{eqb, ltb}
 use lib.ListN.{length, drop}
 use Rattle.rules.specs.Text.Tokens.{Name, kindNo}
-use Rattle.rules.specs.Declarations.{Name as Word, Table, numberOf, bodyNumber, bodyOf}
+use Rattle.rules.specs.Declarations.{Word, Table, numberOf, bodyNumber, bodyOf}
 use Rattle.rules.specs.Steps.Runs.{bodyAct, actOr}
 use Rattle.rules.specs.Whole.Sets.{callsIn, anyName, chainOver}
 use Rattle.table.specs.Holds.{kindByte, insideCell}

@@ -13,7 +13,7 @@ use Rattle.cells.specs.Cells.{cell}
 use Rattle.rules.specs.Text.Tokens.{Name, Token, tk}
 use Rattle.rules.specs.Text.Scan.{sameBytes}
 use Rattle.rules.specs.Grammar.Trees.{Action}
-use Rattle.rules.specs.Declarations.{Name as Word, Declared, Table, declaredOf, numberFrom, numberOf, bodyNumber, bodyOf, outerName}
+use Rattle.rules.specs.Declarations.{Word, Declared, Table, declaredOf, numberFrom, numberOf, bodyNumber, bodyOf, outerName}
 use Rattle.rules.specs.Steps.Runs.{bodyAct, actOr}
 use Rattle.rules.specs.Whole.Sets.{callsIn, anyName, chainOver}
 use Rattle.rules.specs.Limits.{longestChain}

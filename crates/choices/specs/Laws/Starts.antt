@@ -7,10 +7,11 @@ use native.Mathlib.Omega.{arith}
 use lib.ListN.{length, take, drop, length-drop}
 use lib.Seq.{take-all, getD-drop}
 use Rattle.cells.specs.Cells.{leAt, cell}
-use Rattle.rules.specs.Text.Tokens.{Becomes, tk, kindAt, kindNo}
+use Rattle.rules.specs.Text.Tokens.{Becomes, tk, kindNo}
 use Rattle.rules.specs.Limits.{longestText}
 use Rattle.rules.specs.Grammar.Trees.{Tokens}
 use Rattle.rules.specs.Faults.Fault.{fault}
+use Rattle.laws_grammar.specs.Cited.Kinds.{kindAt}
 use Rattle.laws_grammar.specs.Grammar.Kinds.{kindAt-kindNo}
 use Rattle.table.specs.Holds.{kindByte, placeCell}
 use Rattle.table.specs.Keys.{key, noKey}

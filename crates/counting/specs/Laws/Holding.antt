@@ -12,7 +12,7 @@ use Rattle.cells.specs.Laws.{length-put, le-put-same, le-put-below, le-put-abov
 use Rattle.rules.specs.Limits.{deepest}
 use Rattle.bounds.specs.Cited.Counts.{endless, up}
 use Rattle.bounds.specs.WalkLaws.{up-low}
-use Rattle.counting.specs.Machine.{Frame, frame, State, opened, closed, another, counted, turned}
+use Rattle.counting.specs.Machine.{Frame, State, opened, closed, another, counted, turned}
 use Rattle.counting.specs.Holding.{FrameAt, Frames, no-frames, frames, Shows, Does}
 use Rattle.counting.specs.declared.counts.Nest.{Nest}
 

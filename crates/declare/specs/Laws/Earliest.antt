@@ -7,7 +7,7 @@ use mathlib.Core.List.{List, [], _∷_, _++_, append-nil}
 use native.Mathlib.Omega.{arith}
 use native.Mathlib.Decide.{decLt}
 use Rattle.rules.specs.Limits.{longestText}
-use Rattle.rules.specs.Declarations.{Name, Declared, Table, wordsOf}
+use Rattle.rules.specs.Declarations.{Word, Declared, Table, wordsOf}
 use Rattle.rules.specs.Faults.Fault.{Fault, fault, when}
 use Rattle.rules.specs.Faults.Declared.{isKnown, twice, large, tooMany, badMapping, mappings, faults30}
 use Rattle.table.specs.Keys.{key, leastBy, leastKey, Smalls, none-small, also-small}
@@ -20,7 +20,7 @@ pub data Marks : Table → List Fault → Type 0 where
   no-marks : Marks [] []
   mark : (b : Bool) (n : ℕ) {d : Declared} {ds : Table} {fs : List Fault} → n < 128 → Marks ds fs → Marks (d ∷ ds) (when b n (d .name .place) ++ fs)
 
-twice-marks : (known : List Name) (ds : Table) → Marks ds (twice known ds)
+twice-marks : (known : List Word) (ds : Table) → Marks ds (twice known ds)
 unfolding twice
 twice-marks known [] = no-marks
 twice-marks known (d ∷ ds) = mark (isKnown (d .name .word) known) 30 (omega arith) (twice-marks (d .name .word ∷ known) ds)
@@ -35,7 +35,7 @@ unfolding tooMany
 many-marks n w [] = no-marks
 many-marks n w (d ∷ ds) = mark (isTooMany n w d) 32 (omega arith) (many-marks (n + 1) (w + wordsOf d) ds)
 
-mapping-marks : (outer : Name) (all ds : Table) → Marks ds (mappings outer all ds)
+mapping-marks : (outer : Word) (all ds : Table) → Marks ds (mappings outer all ds)
 unfolding mappings
 mapping-marks outer all [] = no-marks
 mapping-marks outer all (d ∷ ds) = mark (badMapping outer all d (d .target)) 33 (omega arith) (mapping-marks outer all ds)
@@ -56,14 +56,14 @@ marks-late z none-within no-marks = omega arith
 marks-late z (also-within l q w) (mark true n h m) = omega (arith, marks-late z w m)
 marks-late z (also-within l q w) (mark false n h m) = marks-late z w m
 
-pub faults-small : (outer : Name) (ds : Table) → Within 0 longestText ds → Smalls (faults30 outer ds)
+pub faults-small : (outer : Word) (ds : Table) → Within 0 longestText ds → Smalls (faults30 outer ds)
 unfolding faults30
 faults-small outer ds w =
     smalls-append (marks-small w (twice-marks _ ds))
     (smalls-append (marks-small w (large-marks ds)) (smalls-append (marks-small w (many-marks 0 0 ds)) (marks-small w (mapping-marks outer ds ds))))
 
 -- what is left behind a declaration with no fault
-pub passed-on : (outer : Name) (all : Table) (known : List Name) (n w : ℕ) (d : Declared) (ds : Table) → ownNumber outer all known n w d ≡ 0
+pub passed-on : (outer : Word) (all : Table) (known : List Word) (n w : ℕ) (d : Declared) (ds : Table) → ownNumber outer all known n w d ≡ 0
     → faultsFrom outer all known n w (d ∷ ds) ≡ faultsFrom outer all (d .name .word ∷ known) (n + 1) (w + wordsOf d) ds
 unfolding ownNumber faultsFrom twice large tooMany mappings
 passed-on outer all known n w d ds e =
@@ -113,7 +113,7 @@ module _ (p n : ℕ) (small : p ≤ longestText) (number : n < 128) (tail fs : L
   }
 
 -- the least fault is that of the first declaration with one
-pub first-fault : {last : ℕ} (outer : Name) (all : Table) (known : List Name) (n w : ℕ) (d : Declared) (ds : Table) → 0 < ownNumber outer all known n w d
+pub first-fault : {last : ℕ} (outer : Word) (all : Table) (known : List Word) (n w : ℕ) (d : Declared) (ds : Table) → 0 < ownNumber outer all known n w d
     → d .name .place ≤ longestText → Within (d .name .place + 1) last ds
     → leastKey (faultsFrom outer all known n w (d ∷ ds)) ≡ key (fault (ownNumber outer all known n w d) (d .name .place))
 unfolding ownNumber faultsFrom twice large tooMany mappings

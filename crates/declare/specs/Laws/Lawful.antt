@@ -9,7 +9,7 @@ use native.Mathlib.Omega.{arith}
 use borrow.Author.Tests.{ltb-false}
 use lib.Dec.{ltb}
 use lib.ListN.{length, getElem?}
-use Rattle.rules.specs.Declarations.{Name, Declared, Table, wordsOf, totalWords}
+use Rattle.rules.specs.Declarations.{Word, Declared, Table, wordsOf, totalWords}
 use Rattle.rules.specs.Faults.Fault.{Fault, when}
 use Rattle.rules.specs.Faults.Declared.{twice, large, tooMany, mappings, faults30}
 use Rattle.rules.specs.Limits.{mostDeclarations, mostWords}
@@ -51,7 +51,7 @@ none-large (x ∷ ds) e zero d f =
     ap isLarge (sym (Option·some-injective x d f)) ∙ no-when (isLarge x) 31 (x .name .place) (empty-first (when (isLarge x) 31 (x .name .place)) (large ds) e)
 none-large (x ∷ ds) e (suc k) d f = none-large ds (empty-second (when (isLarge x) 31 (x .name .place)) (large ds) e) k d f
 
-module _ (outer : Name) (ds : Table) (lawful : faults30 outer ds ≡ []) where
+module _ (outer : Word) (ds : Table) (lawful : faults30 outer ds ≡ []) where
   behind-twice : large ds ++ (tooMany 0 0 ds ++ mappings outer ds ds) ≡ []
   unfolding faults30
   behind-twice = empty-second (twice (outer ∷ []) ds) _ lawful

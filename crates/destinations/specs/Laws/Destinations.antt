@@ -11,7 +11,7 @@ use Rattle.rules.specs.Text.Tokens.{Name, At, Equals, kindNo, Info, Token, tk, 
 use Rattle.rules.specs.Limits.{longestText}
 use Rattle.rules.specs.Values.{opBits}
 use Rattle.rules.specs.Grammar.Trees.{Tokens, Bits, bitsTokens, Subscript, subscriptTokens, Joined, alone, joined, joinedTokens}
-use Rattle.rules.specs.Declarations.{Name as Word, Table, reach}
+use Rattle.rules.specs.Declarations.{Word, Table, reach}
 use Rattle.rules.specs.Faults.Fault.{Fault, when}
 use Rattle.rules.specs.Faults.Bodies.{Judged, judgeDestination, judgeJoined, ownedTwice, storedTwice}
 use Rattle.rules.specs.Whole.Sets.{ownerIn, member}

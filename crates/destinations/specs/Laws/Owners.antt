@@ -9,7 +9,7 @@ use native.Mathlib.Omega.{arith}
 use borrow.Author.Tests.{not-false}
 use lib.ListN.{getElem?}
 use Rattle.rules.specs.Text.Scan.{sameBytes}
-use Rattle.rules.specs.Declarations.{Names as Span-of, BitNames, Target, Declared, Table, Name as Word, declaredOf, numberOf, reach, reachNumber, reachOf, reachStorage, reachUnder, reachOn}
+use Rattle.rules.specs.Declarations.{Names as Span-of, BitNames, Target, Declared, Table, Word, declaredOf, numberOf, reach, reachNumber, reachOf, reachStorage, reachUnder, reachOn}
 use Rattle.rules.specs.Faults.Declared.{declaredAt, goodTarget, fits, badMapping}
 use Rattle.rules.specs.Whole.Sets.{ownerIn}
 use Rattle.table.specs.Holds.{insideCell}

@@ -8,7 +8,8 @@ use native.Mathlib.Decide.{decLt}
 use lib.Dec.{eqb}
 use lib.ListN.{length, List·getD-eq-default}
 use borrow.Author.Tests.{eqb-true, eq-eqb, ne-eqb}
-use Rattle.rules.specs.Text.Tokens.{Kind, kinds, kindNo, kindAt, same, Name, LBra, Less, Op, opKind}
+use Rattle.rules.specs.Text.Tokens.{Kind, kindNo, same, Name, LBra, Less, Op, opKind}
+use Rattle.laws_grammar.specs.Cited.Kinds.{kinds, kindAt}
 use Rattle.laws_grammar.specs.Grammar.Kinds.{kindAt-kindNo}
 use Rattle.values.specs.Operators.{opAt}
 use Rattle.table.specs.Operators.{tightnessAt, endsExpression}

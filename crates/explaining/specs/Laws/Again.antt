@@ -10,7 +10,7 @@ use lib.ListN.{length}
 use Rattle.rules.specs.Limits.{longestText, deepest, longestChain}
 use Rattle.rules.specs.Text.Scan.{scan}
 use Rattle.rules.specs.Grammar.Trees.{Description, flatten}
-use Rattle.rules.specs.Declarations.{Name, Table, declarations}
+use Rattle.rules.specs.Declarations.{Word, Table, declarations}
 use Rattle.rules.specs.Whole.Sets.{chainOver}
 use Rattle.rules.specs.Faults.Fault.{fault, byPlace, byNumber, least}
 use Rattle.rules.specs.Faults.Whole.{mains, chains, faults50}
@@ -94,7 +94,7 @@ raced-at c r =
 -- 50 and 51 are not refused where 53 is
 module _ {records decls : List ℕ} {m n a b first : ℕ} (of50 : (v : Reading records decls m n) → a ≡ leastNumberKey (mains false (tableOf v)))
     (of51 : (v : Reading records decls m n) → b ≡ leastNumberKey (chains (tableOf v) (tableOf v))) (is : first ≡ min a b) where
-  pub no-chains : first ≡ noKey → (v : Reading records decls m n) (w : Name) → chainOver (tableOf v) longestChain w ≡ false
+  pub no-chains : first ≡ noKey → (v : Reading records decls m n) (w : Word) → chainOver (tableOf v) longestChain w ≡ false
   no-chains e v w = short-chains of50 of51 is e v w
 
   pub not-before : {p : ℕ} → (first ≡ noKey → ⊥) → RacedAt records decls m n p → ⊥

@@ -8,7 +8,7 @@ use lib.ListN.{length, drop}
 use Rattle.rules.specs.Text.Tokens.{Kind, Name, Const, LPar, RPar, NOT, kindNo, Info, Token, tk}
 use Rattle.rules.specs.Grammar.Trees.{Tokens, Bits, bitsTokens, Operand, constant, access, parens, negated, operandTokens, Tail, tailTokens, Subscript, subscriptTokens}
 use Rattle.rules.specs.Grammar.Precedence.{factorOf, exprOf}
-use Rattle.rules.specs.Declarations.{Name as Word, Table}
+use Rattle.rules.specs.Declarations.{Word, Table}
 use Rattle.rules.specs.Faults.Bodies.{judgeFactor}
 use Rattle.laws_grammar.specs.Cited.Nesting.{operandNest, tailNest}
 use Rattle.table.specs.Holds.{kindByte, sizeByte, tokenAt}

@@ -11,7 +11,7 @@ use Rattle.rules.specs.Text.Tokens.{Info, Op}
 use Rattle.rules.specs.Values.{opBits}
 use Rattle.rules.specs.Limits.{mostBits}
 use Rattle.rules.specs.Grammar.Precedence.{Expr, node}
-use Rattle.rules.specs.Declarations.{Name as Word, Table}
+use Rattle.rules.specs.Declarations.{Word, Table}
 use Rattle.rules.specs.Faults.Fault.{Fault, when}
 use Rattle.rules.specs.Faults.Bodies.{Judged, over, judge}
 use Rattle.table.specs.Keys.{noKey}

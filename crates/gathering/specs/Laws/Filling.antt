@@ -10,7 +10,7 @@ use lib.Dec.{eqb}
 use lib.ListN.{length, drop}
 use Rattle.cells.specs.Cells.{cell}
 use Rattle.rules.specs.Text.Tokens.{Name, Token, tk, kindNo}
-use Rattle.rules.specs.Declarations.{Name as Word, declaredOf, numberOf, reach, reachNumber, bodyNumber, bodyOf}
+use Rattle.rules.specs.Declarations.{Word, declaredOf, numberOf, reach, reachNumber, bodyNumber, bodyOf}
 use Rattle.rules.specs.Steps.Runs.{bodyAct, actOr}
 use Rattle.rules.specs.Limits.{longestChain}
 use Rattle.rules.specs.Whole.Sets.{Sets, owner, ownerIn, setsOf, bodySets, stopsIn, bodyStops, callsIn, anyName, chainOver, member}

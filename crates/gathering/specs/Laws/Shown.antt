@@ -9,7 +9,7 @@ use borrow.Author.Tests.{eq-eqb, ne-eqb}
 use lib.Dec.{eqb}
 use lib.ListN.{drop}
 use Rattle.rules.specs.Text.Tokens.{Name, STOP, kindNo}
-use Rattle.rules.specs.Declarations.{Name as Word, bodyNumber, bodyOf}
+use Rattle.rules.specs.Declarations.{Word, bodyNumber, bodyOf}
 use Rattle.rules.specs.Steps.Runs.{bodyAct, actOr}
 use Rattle.rules.specs.Whole.Sets.{owner, setsOf, bodySets, stopsIn, bodyStops, member}
 use Rattle.table.specs.Holds.{kindByte, tokenAt, insideCell}

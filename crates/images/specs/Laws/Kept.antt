@@ -7,12 +7,11 @@ use mathlib.Core.List.{List}
 use mathlib.Core.Option.{Option, none, some}
 use native.Mathlib.Omega.{arith}
 use borrow.Author.Tests.{eqb-true, eq-eqb}
-use lib.Dec.{eqb}
 use lib.ListN.{length, getD, set, length-set}
 use Rattle.rules.specs.Text.Scan.{scan}
 use Rattle.rules.specs.Grammar.Trees.{Description, flatten}
 use Rattle.rules.specs.Declarations.{Table, declarations, totalWords}
-use Rattle.rules.specs.Faults.Fault.{Fault, fault}
+use Rattle.rules.specs.Faults.Fault.{Fault}
 use Rattle.rules.specs.Answers.{accepted, refused, Checks}
 use Rattle.rules.specs.Images.{blockSize, blocksFor, imageSize, imageOf, imageFault, heldIn}
 use Rattle.rules.specs.Keeping.{Kept, declined, kept, refusedOr, faultUnless, carriersSize, fault60, fault61, fault62, storing, loading, Keeps, not-accepted, kept-by}

@@ -1,14 +1,14 @@
 -- What the loops over blocks keep, and how a turn keeps it.
 -- Assumes nothing.
-use Prim.Native.Nat.{ℕ, zero, suc, _+_, _-_, _*_, _<_, _≤_, min}
-use mathlib.Core.Path.{_≡_, refl, sym, ap, ap₂, _∙_}
+use Prim.Native.Nat.{ℕ, suc, _+_, _-_, _*_, _<_, _≤_, min}
+use mathlib.Core.Path.{_≡_, sym, ap, ap₂, _∙_}
 use mathlib.Core.Bool.{true, false}
-use mathlib.Core.List.{List, [], _∷_, _++_, append-nil, append-assoc}
+use mathlib.Core.List.{List, [], _++_, append-nil, append-assoc}
 use mathlib.Core.Option.{Option, none, some}
 use native.Mathlib.Omega.{arith}
 use native.Mathlib.Decide.{decLt}
 use borrow.Rule.Slice.PartMut.{putMid, postOf, same-len-mid}
-use lib.ListN.{length, take, drop, length-append, length-take, length-drop, drop-of-length-le, take-append-drop}
+use lib.ListN.{length, take, drop, length-append, length-take, length-drop, drop-of-length-le}
 use lib.Seq.{length-take-le, take-all, take-at, drop-drop, take-length, paste, take-paste, length-paste}
 use Rattle.rules.specs.Faults.Fault.{Fault, fault}
 use Rattle.rules.specs.Images.{payloadSize, headSize, checkedSize, blockSize, blockOf, blocksFrom, blocksFor, imageSize, imageOf, isChecked, isFormed, faultBy, blockFault, orFault, blocksFault, imageFault, heldFrom, heldIn}

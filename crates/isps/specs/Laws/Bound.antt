@@ -14,16 +14,15 @@ use Rattle.rules.specs.Steps.Evaluation.{Carriers}
 use Rattle.rules.specs.Steps.Runs.{Conf, Steps, begin, Ending, done, halted, paused, faulted}
 use Rattle.rules.specs.Faults.Whole.{mainName}
 use Rattle.rules.specs.Answers.{accepted, Checks, Result, refusal, ended, resultOf, littleEndian, bytesOf, wordsFrom}
-use Rattle.rules.specs.Agreement.{endingCode, resultCode, endingIn, stepsIn}
-use Rattle.rules.specs.Bound.{costOf, turnsFrom, Bound, bound, no-bound, not-bounded, boundOf, Bounds, not-accepted, bounded-by}
+use Rattle.rules.specs.Agreement.{endingCode, endingIn, stepsIn}
+use Rattle.rules.specs.Bound.{costOf, turnsFrom, Bound, bound, no-bound, not-bounded, boundOf, Bounds, not-accepted, bounded-by, Reached}
 use Rattle.rules.specs.Calls.Memory.{Memory, Enough, numberBytes, answered, settled}
 use Rattle.rules.specs.Calls.Run.{RunCall}
 use Rattle.rules.specs.Calls.Bound.{BoundCall, boundNumber, boundNumbers, short-memory, long-text, answer}
 use Rattle.laws_grammar.specs.Grammar.Exact.{unique}
 use Rattle.bounds.specs.Longest as longest
 use Rattle.bounds.specs.Longest.{bounding, one-bound}
-use Rattle.bounds.specs.Cited.Reached.{Reached}
-use Rattle.isps.specs.Laws.Calls.{ran-steps}
+use Rattle.isps.specs.Laws.Calls.{ran-steps, resultCode}
 use Rattle.isps.specs.Laws.Orders.{Answers, answers, runOf, ran-by}
 
 pub one-bound-call : {text : List ℕ} {before after after′ : Memory} {n n′ : ℕ} → BoundCall text before after n → BoundCall text before after′ n′

@@ -8,8 +8,8 @@ use native.Mathlib.Omega.{arith}
 use lib.ListN.{length, drop}
 use Rattle.rules.specs.Limits.{longestText}
 use Rattle.rules.specs.Steps.Runs.{Ending, done, halted, paused, faulted}
-use Rattle.rules.specs.Answers.{Verdict, accepted, refused, Checks, Result, refusal, ended, Runs, littleEndian, bytesOf, verdictNumbers, ranNumbers, resultNumbers, Lawful}
-use Rattle.rules.specs.Agreement.{endingCode, resultCode, endingIn}
+use Rattle.rules.specs.Answers.{Verdict, accepted, refused, Checks, Result, refusal, ended, littleEndian, bytesOf, verdictNumbers, ranNumbers, resultNumbers, Lawful}
+use Rattle.rules.specs.Agreement.{endingCode, endingIn}
 use Rattle.laws_grammar.specs.Answers.{one-verdict, one-result, accepted-iff-lawful}
 use Rattle.laws.specs.Refusals.Numbered.{checks-numbered}
 use Rattle.rules.specs.Calls.Memory.{Memory, Enough, numberBytes, answered, settled}
@@ -62,6 +62,11 @@ ran-code text done n b = refl
 ran-code text halted n b = refl
 ran-code text paused n b = refl
 ran-code text (faulted m p) n b = refl
+
+-- the first number of the answer to a run
+abbrev pub resultCode : Result → ℕ
+resultCode (refusal m p) = 4
+resultCode (ended e n b) = endingCode e
 
 pub result-code : (text : List ℕ) (x : Result) (b : List ℕ) → littleEndian 4 (answered (resultNumbers text x) b) ≡ resultCode x
 unfolding littleEndian answered numberBytes bytesOf

@@ -18,13 +18,13 @@ use Rattle.rules.specs.Steps.Evaluation.{Carriers}
 use Rattle.rules.specs.Steps.Orders.{Ended, Well, endAs, endOf, NoStep}
 use Rattle.rules.specs.Faults.Whole.{mainName}
 use Rattle.rules.specs.Answers.{accepted, Checks, Result, refusal, ended, resultOf, Runs, not-accepted, ran, runOn, longWord, wordLengths, wordsFrom, bufferOf, resultNumbers}
-use Rattle.rules.specs.Agreement.{endingCode, resultCode, endingIn, stepsIn, Agrees, codeAt, carriersAt, SameEnd}
+use Rattle.rules.specs.Agreement.{endingCode, endingIn, stepsIn, Agrees, codeAt, carriersAt, SameEnd}
 use Rattle.laws_grammar.specs.Grammar.Exact.{unique}
 use Rattle.laws_orders.specs.Orders.Budget.{run-bounded}
 use Rattle.laws_accepted.specs.Demand3.{accepted-order-free, accepted-none-ends}
 use Rattle.rules.specs.Calls.Memory.{Memory, Enough, answered}
 use Rattle.rules.specs.Calls.Run.{RunCall, carriersLeft, short-memory, long-text, answer}
-use Rattle.isps.specs.Laws.Calls.{result-code, ran-steps}
+use Rattle.isps.specs.Laws.Calls.{result-code, ran-steps, resultCode}
 
 abbrev pub runOf : Table → List ℕ → ℕ → Run
 runOf ds buffer budget = steps.run ds (mainName ds) budget (wordsFrom (totalWords ds) buffer)

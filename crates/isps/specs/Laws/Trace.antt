@@ -1,12 +1,11 @@
 -- The contract of `isps_trace` settles what it speaks of, and its answers are exact.
 -- Assumes nothing.
-use Prim.Native.Nat.{ℕ, zero, suc, _+_, _*_, _/_, _%_, _<_, _≤_}
+use Prim.Native.Nat.{ℕ, _<_, _≤_}
 use mathlib.Core.Path.{_≡_, refl, sym, ap, _∙_, subst}
 use mathlib.Core.Bool.{Bool, true, false, false≢true}
 use mathlib.Core.List.{List, [], _∷_}
 use mathlib.Core.Logic.{_↔_}
 use native.Mathlib.Omega.{arith}
-use lib.Dec.{leb, eqb}
 use lib.ListN.{length, take, drop}
 use Rattle.rules.specs.Limits.{longestText}
 use Rattle.rules.specs.Text.Scan.{scan}
@@ -16,8 +15,8 @@ use Rattle.rules.specs.Steps.Evaluation.{Carriers}
 use Rattle.rules.specs.Steps.Runs.{Ending, done, halted, paused, faulted}
 use Rattle.rules.specs.Steps.Orders.{Well}
 use Rattle.rules.specs.Faults.Whole.{mainName}
-use Rattle.rules.specs.Answers.{Result, refusal, ended, Runs, wordsFrom, littleEndian, bytesOf, refusedNumbers, ranNumbers, resultNumbers}
-use Rattle.rules.specs.Agreement.{endingCode, resultCode, endingIn}
+use Rattle.rules.specs.Answers.{Result, refusal, ended, Runs, wordsFrom, littleEndian, bytesOf, ranNumbers, resultNumbers}
+use Rattle.rules.specs.Agreement.{endingCode, endingIn}
 use Rattle.rules.specs.Stores.{Entry, Order, Fails, Decides, TraceVerdict, just-so, upTo, TraceAnswer}
 use Rattle.rules.specs.Entries.{entriesIn, isList}
 use Rattle.rules.specs.Calls.Memory.{Memory, Enough, numberBytes, answered, settled}
@@ -28,7 +27,7 @@ use Rattle.laws_grammar.specs.Grammar.Exact.{unique}
 use Rattle.laws_grammar.specs.Answers.{one-result}
 use Rattle.traces.specs.Answers.{one-answer}
 use Rattle.listed.specs.Laws.Entries.{list-few}
-use Rattle.isps.specs.Laws.Calls.{four-bytes, ran-code, result-code}
+use Rattle.isps.specs.Laws.Calls.{four-bytes, ran-code, result-code, resultCode}
 use Rattle.isps.specs.Laws.Orders as orders
 
 apart : {m p n : ℕ} {e : Ending} {b : List ℕ} → refusal m p ≡ ended e n b → ⊥
@@ -315,7 +314,7 @@ module _ {text carriers entries fourth left : List ℕ} {budget n : ℕ} {before
     none-ends (no-list r f) h k l z = absurd (omega arith)
     none-ends (matched {e} d′ s r t w a) h k l z = absurd (orders.not-well e h w)
     none-ends (not-ended {e} {n} {b} r t w) h k l z =
-        orders.none-ends-by d stands r w (z .steps) (z .last) (z .within) (z .makes .order) (z .ended)
+        orders.none-ends-by d stands r w (z .steps) (z .last) (z .within) (z .makes .order) (z .ends-well)
 
     pub no-order : 2 ≤ endingIn (after .answer) → endingIn (after .answer) < 4 → (l : List Entry) → IsOrder l → ⊥
     no-order h k l z = none-ends (given .traces) (omega (arith, coded)) (omega (arith, coded)) l z

@@ -17,7 +17,7 @@ use Rattle.lent.specs.Laws.Settled.{settled-same}
 use Rattle.lent.specs.declared.answers.Answer.{Answer}
 use Rattle.kept.specs.Kept.{keptOf, Near, Answered}
 use Rattle.kept.specs.declared.endings.Ending.{Ending}
-use Rattle.kept.specs.declared.endings.Ending.the-variants.{Refused, Done}
+use Rattle.kept.specs.declared.endings.Ending.the-variants.{Refused}
 
 -- the numbers of an ending, by its case
 pub numbers-by : (text left : List ℕ) {e f : Ending} {ns : List ℕ} → ns ≡ keptNumbers text (keptOf f left) → e ≡ f → ns ≡ keptNumbers text (keptOf e left)

@@ -1,6 +1,6 @@
 -- The cases of Store and Load, from what start and judge found.
 -- Assumes nothing.
-use Prim.Native.Nat.{ℕ, _+_, _*_, _<_, _≤_}
+use Prim.Native.Nat.{ℕ, _*_, _<_, _≤_}
 use mathlib.Core.Path.{_≡_, refl, sym, ap, ap₂, _∙_, subst}
 use mathlib.Core.Bool.{Bool, true, false}
 use mathlib.Core.List.{List}
@@ -11,20 +11,20 @@ use lib.Dec.{eqb}
 use lib.ListN.{length}
 use Rattle.rules.specs.Declarations.{Table, totalWords}
 use Rattle.rules.specs.Steps.Runs.{run}
-use Rattle.rules.specs.Faults.Fault.{Fault, fault}
+use Rattle.rules.specs.Faults.Fault.{fault}
 use Rattle.rules.specs.Faults.Whole.{mainName}
-use Rattle.rules.specs.Answers.{Result, ended, resultOf, startOr61, runOn, wordsFrom, wordLengths, longWord}
+use Rattle.rules.specs.Answers.{Result, resultOf, startOr61, runOn, wordsFrom, wordLengths, longWord}
 use Rattle.rules.specs.Answers.{refusal as not-run}
 use Rattle.rules.specs.Images.{imageSize, imageOf, blocksFor, imageFault, heldIn}
 use Rattle.rules.specs.Keeping.{Kept, declined, kept, refusedOr, faultUnless, at61, carriersSize, fault60, fault61, fault62, storing, loading, keptIn}
-use Rattle.starts.specs.Starts.{Starts, begins, declines, Begins, Declines}
+use Rattle.starts.specs.Starts.{Starts, Begins, Declines}
 use Rattle.laws_accepted.specs.Accepted.Declared.{declares, few-words}
 use Rattle.starts.specs.declared.Started.{Started}
 use Rattle.images.specs.Judged.{faultOf}
 use Rattle.images.specs.declared.images.Judged.{Judged}
 use Rattle.images.specs.declared.images.Judged.the-variants.{Fine, Refused as Bad}
 use Rattle.images.specs.Laws.Images.{length-held-in, blocks-near}
-use Rattle.kept.specs.Kept.{Stands, tableOf, keptOf, Keeping, Written, wrong-length, written, Taken}
+use Rattle.kept.specs.Kept.{Stands, tableOf, Keeping, Written, wrong-length, written, Taken}
 use Rattle.kept.specs.declared.endings.Ending.{Ending}
 use Rattle.kept.specs.declared.endings.Ending.the-variants.{Refused, Done}
 

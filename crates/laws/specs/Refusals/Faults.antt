@@ -1,6 +1,6 @@
 -- Every fault of the 30s, the 40s and the 50s has a number of its ten or above.
-use Prim.Native.Nat.{ℕ, zero, suc, _+_, _≤_}
-use mathlib.Core.Path.{_≡_, refl, subst}
+use Prim.Native.Nat.{ℕ, _+_, _≤_}
+use mathlib.Core.Path.{_≡_, subst}
 use mathlib.Core.Bool.{Bool, true, false, not, _&&_, _||_}
 use mathlib.Core.List.{List, [], _∷_, _++_}
 use mathlib.Core.Option.{Option, none, some}
@@ -14,7 +14,7 @@ use Rattle.rules.specs.Grammar.Precedence.{Expr, leaf, node, Factor, number, ce
 use Rattle.rules.specs.Text.Scan.{sameBytes}
 use Rattle.rules.specs.Values.{opBits}
 use Rattle.rules.specs.Selectors.{Item, between, selectorItems}
-use Rattle.rules.specs.Declarations.{Name, Names, BitNames, Declared, Table, numberOf, namesOf, wordsOf, reach}
+use Rattle.rules.specs.Declarations.{Word, Names, BitNames, Declared, Table, numberOf, namesOf, wordsOf, reach}
 use Rattle.rules.specs.Steps.Actions.{actOf}
 use Rattle.rules.specs.Whole.Sets.{Sets, touched, mayStop, ownerIn}
 use Rattle.rules.specs.Faults.Fault.{Fault, fault, when, leastFrom, least}
@@ -66,7 +66,7 @@ least-from n before [] h e = let z : _≡_ {A = ℕ} 0 1 = cc in absurd (omega a
 least-from n before (g ∷ fs) {f} h e = let z : leastFrom before g fs ≡ f = cc in subst (λ (x : Fault). n ≤ x .number) z (least-from-by n before g fs (h .each .0) (h .each .1))
 
 -- the 30s
-twice-from : (known : List Name) (ds : Table) → From 30 (twice known ds)
+twice-from : (known : List Word) (ds : Table) → From 30 (twice known ds)
 unfolding twice
 twice-from known [] = none-of
 twice-from known (d ∷ ds) = both (tested (isKnown (d .name .word) known) 30 (d .name .place) (omega arith)) (twice-from (d .name .word ∷ known) ds)
@@ -82,12 +82,12 @@ many-from n w [] = none-of
 many-from n w (d ∷ ds) =
     both (tested (ltb mostDeclarations (n + 1) || ltb mostWords (w + wordsOf d)) 32 (d .name .place) (omega arith)) (many-from (n + 1) (w + wordsOf d) ds)
 
-mappings-from : (outer : Name) (every ds : Table) → From 30 (mappings outer every ds)
+mappings-from : (outer : Word) (every ds : Table) → From 30 (mappings outer every ds)
 unfolding mappings
 mappings-from outer every [] = none-of
 mappings-from outer every (d ∷ ds) = both (tested (badMapping outer every d (d .target)) 33 (d .name .place) (omega arith)) (mappings-from outer every ds)
 
-pub from-30 : (outer : Name) (ds : Table) → From 30 (faults30 outer ds)
+pub from-30 : (outer : Word) (ds : Table) → From 30 (faults30 outer ds)
 unfolding faults30
 from-30 outer ds = both (twice-from (outer ∷ []) ds) (both (large-from ds) (both (many-from 0 0 ds) (mappings-from outer ds ds)))
 
@@ -103,11 +103,11 @@ access-from : (p : ℕ) (w : Option Names) (c : Option BitNames) (x : Index) (b 
 access-from p w none x b = one-of (omega arith)
 access-from p w (some c) x b = both (tested (not (subscripted w x)) 41 p (omega arith)) (bits-from p c b)
 
-undeclared-from : (outer : Name) (i : Info) → From 40 (undeclared outer i)
+undeclared-from : (outer : Word) (i : Info) → From 40 (undeclared outer i)
 undeclared-from outer i =
     both (tested (not (sameBytes outer (i .word))) 40 (i .place) (omega arith)) (tested (sameBytes outer (i .word)) 41 (i .place) (omega arith))
 
-module _ (outer : Name) (ds : Table) where
+module _ (outer : Word) (ds : Table) where
   name-from : (i : Info) (x : Index) (b : Bits) (o : Option Declared) → From 40 (judgeName outer ds i x b o .faults)
   unfolding judgeName
   name-from i x b none = undeclared-from outer i
@@ -186,16 +186,16 @@ unfolding alternativesFaults
 alternatives-from n (counted a c) = both (alternative-from n 0 (firstPlace a) [] (between 0 0 ∷ [])) (counted-from n 1 c)
 alternatives-from n (selected s) = selected-from n 0 [] s
 
-labels-from : (known : List Name) (ls : List Info) → From 40 (labelFaults known ls)
+labels-from : (known : List Word) (ls : List Info) → From 40 (labelFaults known ls)
 unfolding labelFaults
 labels-from known [] = none-of
 labels-from known (l ∷ ls) = both (tested (isKnown (l .word) known) 44 (l .place) (omega arith)) (labels-from (l .word ∷ known) ls)
 
-module _ (outer : Name) (ds : Table) where
+module _ (outer : Word) (ds : Table) where
   mutual
     unfolding actionFaults membersFaults insideFaults insideCounted insideSelected insideMore
 
-    action-from : (ls : List Name) (a : Action) → From 40 (actionFaults outer ds ls a)
+    action-from : (ls : List Word) (a : Action) → From 40 (actionFaults outer ds ls a)
     action-from ls (block b a m) = both (action-from ls a) (members-from ls m)
     action-from ls (labelled n b a) = action-from (n .word ∷ ls) a
     action-from ls (if-then i o t w a) = both (in-from outer ds o t) (action-from ls a)
@@ -210,28 +210,28 @@ module _ (outer : Name) (ds : Table) where
         both (joined-from outer ds (judgeDestination outer ds n s b) j (factor-from outer ds (cell n (indexOf s) b)))
         (both (stored-from outer ds (ownerIn (reach ds (n .word))) j) (in-from outer ds o t))
 
-    members-from : (ls : List Name) (m : Members) → From 40 (membersFaults outer ds ls m)
+    members-from : (ls : List Word) (m : Members) → From 40 (membersFaults outer ds ls m)
     members-from ls (end e) = none-of
     members-from ls (also i a m) = both (action-from ls a) (members-from ls m)
     members-from ls (next i a m) = both (action-from ls a) (members-from ls m)
 
-    inside-from : (ls : List Name) (v : Alternatives) → From 40 (insideFaults outer ds ls v)
+    inside-from : (ls : List Word) (v : Alternatives) → From 40 (insideFaults outer ds ls v)
     inside-from ls (counted a c) = both (action-from ls a) (inside-counted-from ls c)
     inside-from ls (selected s) = inside-selected-from ls s
 
-    inside-counted-from : (ls : List Name) (c : Counted) → From 40 (insideCounted outer ds ls c)
+    inside-counted-from : (ls : List Word) (c : Counted) → From 40 (insideCounted outer ds ls c)
     inside-counted-from ls (counted-end e) = none-of
     inside-counted-from ls (counted-more c a more) = both (action-from ls a) (inside-counted-from ls more)
 
-    inside-selected-from : (ls : List Name) (s : Selected) → From 40 (insideSelected outer ds ls s)
+    inside-selected-from : (ls : List Word) (s : Selected) → From 40 (insideSelected outer ds ls s)
     inside-selected-from ls (select s b a m) = both (action-from ls a) (inside-more-from ls m)
     inside-selected-from ls (otherwise i b a e) = action-from ls a
 
-    inside-more-from : (ls : List Name) (m : SelectedMore) → From 40 (insideMore outer ds ls m)
+    inside-more-from : (ls : List Word) (m : SelectedMore) → From 40 (insideMore outer ds ls m)
     inside-more-from ls (selected-end e) = none-of
     inside-more-from ls (selected-more c s) = inside-selected-from ls s
 
-  body-from : (n : Name) (o : Option Action) → From 40 (bodyFaults outer ds n o)
+  body-from : (n : Word) (o : Option Action) → From 40 (bodyFaults outer ds n o)
   body-from n none = none-of
   body-from n (some a) = both (action-from (n ∷ []) a) (labels-from (declaredNames outer ds ds) (labels a []))
 

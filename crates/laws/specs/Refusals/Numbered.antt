@@ -1,12 +1,11 @@
 -- A refusal that Check may give has a number that is not 0.
-use Prim.Native.Nat.{ℕ, _<_, _≤_}
+use Prim.Native.Nat.{ℕ, _<_}
 use mathlib.Core.Path.{_≡_, refl, subst}
 use mathlib.Core.List.{List}
 use mathlib.Core.Option.{Option, none, some}
 use native.Mathlib.Omega.{arith}
-use Rattle.rules.specs.Text.Scan.{scan}
 use Rattle.rules.specs.Grammar.Trees.{Description}
-use Rattle.rules.specs.Declarations.{declarations, outerName, totalWords}
+use Rattle.rules.specs.Declarations.{declarations, outerName}
 use Rattle.rules.specs.Faults.Fault.{Fault, byPlace, byNumber, least}
 use Rattle.rules.specs.Faults.Declared.{faults30}
 use Rattle.rules.specs.Faults.Bodies.{faults40}

@@ -10,7 +10,7 @@ use lib.ListN.{length, getElem?}
 use borrow.Author.Tests.{ltb-false, not-false}
 use Rattle.rules.specs.Text.Scan.{sameBytes}
 use Rattle.rules.specs.Grammar.Trees.{carrier, given, body, mapped, words, with-bits, bare-body, Declaration, plain, main, Declarations, declared-all, declared-also, Description, description}
-use Rattle.rules.specs.Declarations.{Name, Names, howMany, BitNames, one-unnamed, these, bitCount, Target, Declared, declaredOf, Table, restOf, declarations, outerName, numberOf, wordsOf, totalWords}
+use Rattle.rules.specs.Declarations.{Word, Names, howMany, BitNames, one-unnamed, these, bitCount, Target, Declared, declaredOf, Table, restOf, declarations, outerName, numberOf, wordsOf, totalWords}
 use Rattle.rules.specs.Faults.Fault.{when}
 use Rattle.rules.specs.Faults.Declared.{twice, farNames, largeBits, largeWords, large, tooMany, goodTarget, declaredAt, badMapping, mappings, faults30}
 use Rattle.rules.specs.Limits.{largestName, mostDeclarations, mostWords, mostBits}
@@ -79,7 +79,7 @@ total-from (d ∷ ds) n w p q e =
     let b = r .1 in
     (omega arith, omega arith)
 
-module _ {outer : Name} {ds : Table} (h : Declares outer ds) where
+module _ {outer : Word} {ds : Table} (h : Declares outer ds) where
   no-fault : (twice (outer ∷ []) ds ≡ []) × ((large ds ≡ []) × ((tooMany 0 0 ds ≡ []) × (mappings outer ds ds ≡ [])))
   unfolding faults30
   no-fault =

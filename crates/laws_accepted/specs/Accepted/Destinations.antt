@@ -8,7 +8,7 @@ use Rattle.rules.specs.Grammar.Trees.{Tokens, Bits, bitsTokens, Subscript, subs
 use Rattle.rules.specs.Grammar.Precedence.{cell, indexOf}
 use Rattle.rules.specs.Values.{total}
 use Rattle.rules.specs.Limits.{mostBits}
-use Rattle.rules.specs.Declarations.{Name, Table}
+use Rattle.rules.specs.Declarations.{Word, Table}
 use Rattle.rules.specs.Steps.Actions.{Access, access, joinedAccesses}
 use Rattle.rules.specs.Steps.Evaluation.{Carriers, gives, then, Field, fieldOf, evaluateIndex, evaluateAccess, evaluateAccesses}
 use Rattle.rules.specs.Faults.Bodies.{Judged, judgedAs, over, judgeDestination, judgeJoined}
@@ -43,7 +43,7 @@ module _ (n : Info) (s : Subscript) (b : Bits) (j : Joined) (ts : Tokens) (c : C
   pub behind-destination : ConstantsOk ts
   behind-destination = rest-ok (joined-writes j) ts (behind-access s b (joinedTokens j ts) c)
 
-module _ (outer : Name) (ds : Table) where
+module _ (outer : Word) (ds : Table) where
   -- fields inside words that are there
   abbrev pub AllInside : List Field → Type 0
   AllInside [] = Unit {0}
@@ -54,7 +54,7 @@ module _ (outer : Name) (ds : Table) where
     pub each : AllInside fs
     pub bits : total (map (λ f. f .size) fs) ≡ allBits outer ds to
 
-module _ {outer : Name} {ds : Table} (h : Declares outer ds) where
+module _ {outer : Word} {ds : Table} (h : Declares outer ds) where
   -- accesses joined to a part that is judged so
   joined-sized :
       (j : Joined) (so-far : Judged) → SubscriptsOk (joinedAccesses j) → judgeJoined outer ds so-far j ≡ []

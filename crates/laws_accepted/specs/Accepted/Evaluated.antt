@@ -10,7 +10,7 @@ use Rattle.rules.specs.Grammar.Trees.{Bits}
 use Rattle.rules.specs.Grammar.Precedence.{Expr, leaf, node, Factor, number, cell, group, inverse as inverse-factor, Index}
 use Rattle.rules.specs.Values.{Value, value, opBits, opNumber, operate, notNumber, inverse, field}
 use Rattle.rules.specs.Limits.{mostBits}
-use Rattle.rules.specs.Declarations.{Name, Table, totalWords, Reach, accessLow, accessBits}
+use Rattle.rules.specs.Declarations.{Word, Table, totalWords, Reach, accessLow, accessBits}
 use Rattle.rules.specs.Steps.Evaluation.{Carriers, Outcome, gives, faulty, then, Field, wordOf, fieldIn, fieldOf, readField, evaluate, evaluateFactor, evaluateIndex}
 use Rattle.rules.specs.Faults.Bodies.{judge, judgeFactor, judgeAccess}
 use Rattle.laws_orders.specs.Orders.Tests.{impossible}
@@ -52,7 +52,7 @@ unfolding operate
 operate-worth results o m n x y v w =
     record { length = ap₂ (opBits o) (v .length) (w .length); fits = results o (x .bits) (x .number) (y .bits) (y .number) (v .fits) (w .fits) }
 
-module _ {outer : Name} {ds : Table} (h : Declares outer ds) where
+module _ {outer : Word} {ds : Table} (h : Declares outer ds) where
   -- the bits that an access stands for, whatever its subscript comes to
   pub field-inside :
       (i : Info) (x : Index) (b : Bits) (n : ℕ) (f : Field) → Reaches outer ds i x b → fieldOf ds i b n ≡ gives f

@@ -6,9 +6,9 @@ use mathlib.Core.List.{List, [], _∷_, _++_}
 use mathlib.Core.Option.{Option, none, some}
 use Rattle.rules.specs.Grammar.Trees.{Action, block, labelled, if-then, decode, repeat, leave, restart, activate, stop, no-op, transfer, Members, end, also, next}
 use Rattle.rules.specs.Grammar.Trees.{Alternatives, counted, selected, Counted, counted-end, counted-more, Selected, select, otherwise, SelectedMore, selected-end, selected-more}
-use Rattle.rules.specs.Declarations.{Name, Table}
+use Rattle.rules.specs.Declarations.{Word, Table}
 use Rattle.rules.specs.Selectors.{Case, numbered, listed, otherwise as any-value, selectorItems}
-use Rattle.rules.specs.Steps.Actions.{Act, par, Alts, end as no-alternative, alt, whole, inTurn, actOf, groups, altsOf, countedAlts, selectedAlts, moreAlts}
+use Rattle.rules.specs.Steps.Actions.{Act, par, Alts, no-alts, alt, whole, inTurn, actOf, groups, altsOf, countedAlts, selectedAlts, moreAlts}
 use Rattle.rules.specs.Steps.Actions.{Groups as Block}
 use Rattle.rules.specs.Whole.Sets.{Sets, setsOf, touched, race, stopsIn, mayStop}
 use Rattle.laws_orders.specs.Orders.Orderly.{AllApart, AllApartAlts, without, jumpsOut, jumpsI, jumpsAlts}
@@ -23,7 +23,7 @@ use Rattle.laws_accepted.specs.Accepted.Jumps.{all-known-join, all-known
 use Rattle.laws_accepted.specs.Accepted.Races.{no-races-union}
 
 -- jumps that stay in a scope: outside any group of two or more they may go anywhere
-abbrev Stay : Scope → List Name → Type 0
+abbrev Stay : Scope → List Word → Type 0
 Stay none ks = Unit {0}
 Stay (some ls) ks = AllKnown ls ks
 
@@ -31,21 +31,21 @@ stay-none : (s : Scope) → Stay s []
 stay-none none = tt
 stay-none (some ls) = tt
 
-stay-join : (s : Scope) (xs ys : List Name) → Stay s xs → Stay s ys → Stay s (xs ++ ys)
+stay-join : (s : Scope) (xs ys : List Word) → Stay s xs → Stay s ys → Stay s (xs ++ ys)
 stay-join none xs ys p q = tt
 stay-join (some ls) xs ys p q = all-known-join ls xs ys p q
 
-stay-without : (l : Name) (s : Scope) (ks : List Name) → Stay (labelled-in l s) ks → Stay s (without l ks)
+stay-without : (l : Word) (s : Scope) (ks : List Word) → Stay (labelled-in l s) ks → Stay s (without l ks)
 stay-without l none ks h = tt
 stay-without l (some ls) ks h = all-known-without l ls ks h
 
-stay-aim : (s : Scope) (n : Name) (p : ℕ) → when (aimsOut s n) 52 p ≡ [] → Stay s (n ∷ [])
+stay-aim : (s : Scope) (n : Word) (p : ℕ) → when (aimsOut s n) 52 p ≡ [] → Stay s (n ∷ [])
 stay-aim none n p e = tt
 stay-aim (some ls) n p e = aimed n ls 52 p e
 
 module _ (ds : Table) where
   -- what does not leave its member leaves nothing
-  stay-member : (b : Bool) (s : Scope) (ks : List Name) → Stay (memberScope ds b s) ks → Stay s ks
+  stay-member : (b : Bool) (s : Scope) (ks : List Word) → Stay (memberScope ds b s) ks → Stay s ks
   stay-member false s ks h = h
   stay-member true s ks h = subst (Stay s) (sym (none-known ks h)) (stay-none s)
 
@@ -191,7 +191,7 @@ module _ (ds : Table) where
     selected-grouped (select x b a m) s e =
         let h = both-empty (groupFaults ds s a) (moreGroups ds s m) e in
         alternative (listed (selectorItems x)) s (actOf a) (moreAlts m) (grouped a s (h .0)) (more-grouped m s (h .1))
-    selected-grouped (otherwise i b a f) s e = alternative any-value s (actOf a) no-alternative (grouped a s e) (record { groups = tt; stays = stay-none s })
+    selected-grouped (otherwise i b a f) s e = alternative any-value s (actOf a) no-alts (grouped a s e) (record { groups = tt; stays = stay-none s })
 
     more-grouped : (m : SelectedMore) (s : Scope) → moreGroups ds s m ≡ [] → Alternatively s (moreAlts m)
     more-grouped (selected-end i) s e = record { groups = tt; stays = stay-none s }

@@ -14,7 +14,7 @@ use Rattle.rules.specs.Grammar.Trees.{Bits, all-bits, bits}
 use Rattle.rules.specs.Grammar.Precedence.{Expr, leaf, node, Factor, number, cell, group, inverse, Index, no-index, index}
 use Rattle.rules.specs.Values.{opBits}
 use Rattle.rules.specs.Limits.{mostBits}
-use Rattle.rules.specs.Declarations.{Name, Names, howMany, BitNames, bitCount, namesOf, Declared, Table, numberOf, Reach, reachNumber, reach, accessLow, accessBits}
+use Rattle.rules.specs.Declarations.{Word, Names, howMany, BitNames, bitCount, namesOf, Declared, Table, numberOf, Reach, reachNumber, reach, accessLow, accessBits}
 use Rattle.rules.specs.Faults.Fault.{Fault, when}
 use Rattle.rules.specs.Faults.Declared.{inside, declaredAt}
 use Rattle.rules.specs.Faults.Bodies.{Judged, soundBits, isSound, over, subscripted, bitsJudged, accessJudged, judgeName, judgeAccess, judge, judgeFactor, judgeIndex}
@@ -83,7 +83,7 @@ module _ (r : Reach) (length : Length (bitCount (r .bits))) (fits : r .low + bit
       let g = bits-fitting b (not-false there (when-empty (not there) 41 p (f .0))) (f .1) in
       subst (Fitting r x b) (sym (sound-bits (when (not there) 41 p ++ j .faults) (j .bits) e)) g
 
-module _ (outer : Name) (ds : Table) where
+module _ (outer : Word) (ds : Table) where
   -- its length is from 1 to 64
   mutual
     unfolding judge judgeFactor
@@ -98,7 +98,7 @@ module _ (outer : Name) (ds : Table) where
     factor-length (group l e r) q = sized-length e q
     factor-length (inverse i f) q = factor-length f q
 
-module _ {outer : Name} {ds : Table} (h : Declares outer ds) where
+module _ {outer : Word} {ds : Table} (h : Declares outer ds) where
   pub access-reaches : (i : Info) (x : Index) (b : Bits) → judgeAccess outer ds i x b .faults ≡ [] → Reaches outer ds i x b
   unfolding judgeAccess judgeName reach reachNumber
   access-reaches i x b e = number (numberOf ds (i .word)) refl e

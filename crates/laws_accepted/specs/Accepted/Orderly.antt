@@ -5,7 +5,7 @@ use mathlib.Core.Bool.{false}
 use mathlib.Core.List.{[], _∷_}
 use mathlib.Core.Option.{Option, none, some}
 use Rattle.rules.specs.Grammar.Trees.{Action, Description}
-use Rattle.rules.specs.Declarations.{Name, Table, bodyOf, declarations, outerName}
+use Rattle.rules.specs.Declarations.{Word, Table, bodyOf, declarations, outerName}
 use Rattle.rules.specs.Steps.Actions.{actOf}
 use Rattle.rules.specs.Steps.Runs.{actOr, bodyAct}
 use Rattle.rules.specs.Whole.Sets.{anyName, callsIn, callsI, chainOver}
@@ -20,13 +20,13 @@ use Rattle.laws_accepted.specs.Accepted.Named.{none-known, FoundBody, fo
 use Rattle.laws_accepted.specs.Accepted.Jumps.{all-known-without, jumps-aim}
 use Rattle.laws_accepted.specs.Accepted.Grouped.{body-groups}
 
-module _ (outer : Name) (ds : Table) (of40 : faults40 outer ds ds ≡ []) (of50 : faults50 ds ≡ []) where
+module _ (outer : Word) (ds : Table) (of40 : faults40 outer ds ds ≡ []) (of50 : faults50 ds ≡ []) where
   no-chains-groups : (chains ds ds ≡ []) × (groupsFaults ds ds ≡ [])
   unfolding faults50
   no-chains-groups = both-empty (chains ds ds) (groupsFaults ds ds) (both-empty (mains false ds) _ of50 .1)
 
   -- what the three rows leave of a body under its name
-  module _ (n : Name) (a : Action) (f : FoundBody ds n a) where
+  module _ (n : Word) (a : Action) (f : FoundBody ds n a) where
     body-chains : chainOver ds longestChain n ≡ false
     unfolding chains
     body-chains =
@@ -62,15 +62,15 @@ module _ (outer : Name) (ds : Table) (of40 : faults40 outer ds ds ≡ []) (of50 
         groups = λ n. grouped n (bodyOf ds n) refl;
       }
     where
-      chained : (n : Name) (o : Option Action) → bodyOf ds n ≡ o → chainOver ds longestChain n ≡ false
+      chained : (n : Word) (o : Option Action) → bodyOf ds n ≡ o → chainOver ds longestChain n ≡ false
       chained n none e = rw e refl
       chained n (some a) e = body-chains n a (found-body ds n a e)
 
-      jumping : (n : Name) (o : Option Action) → bodyOf ds n ≡ o → without n (jumpsOut (actOr o)) ≡ []
+      jumping : (n : Word) (o : Option Action) → bodyOf ds n ≡ o → without n (jumpsOut (actOr o)) ≡ []
       jumping n none e = refl
       jumping n (some a) e = body-jumps n a (found-body ds n a e)
 
-      grouped : (n : Name) (o : Option Action) → bodyOf ds n ≡ o → AllApart ds (actOr o)
+      grouped : (n : Word) (o : Option Action) → bodyOf ds n ≡ o → AllApart ds (actOr o)
       grouped n none e = tt
       grouped n (some a) e = body-grouped n a (found-body ds n a e)
 

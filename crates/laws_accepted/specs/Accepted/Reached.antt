@@ -10,7 +10,7 @@ use lib.Dec.{leb, eqb}
 use lib.ListN.{length, getElem?}
 use borrow.Author.Tests.{leb-true, leb-false, eqb-true, le-ltb}
 use Rattle.rules.specs.Limits.{mostBits}
-use Rattle.rules.specs.Declarations.{Name, Names, howMany, fromRight, BitNames, one-unnamed, these, bitCount, Target, Declared, Table, numberOf, wordsOf, totalWords, firstWord}
+use Rattle.rules.specs.Declarations.{Word, Names, howMany, fromRight, BitNames, one-unnamed, these, bitCount, Target, Declared, Table, numberOf, wordsOf, totalWords, firstWord}
 use Rattle.rules.specs.Declarations.{Reach, reachStorage, lowBit, reachOn, reachUnder, reachOf, reachNumber, reach}
 use Rattle.rules.specs.Steps.Evaluation.{gives, wordOf}
 use Rattle.rules.specs.Faults.Declared.{among, sameWay, inside, fits, goodTarget, declaredAt}
@@ -86,7 +86,7 @@ pub record Carried (ds : Table) (d : Declared) (r : Reach) : Type 0 where
 
 -- a name reaches what its declaration does
 pub reach-at :
-    (ds : Table) (n : Name) (i : ℕ) (d : Declared) → numberOf ds n ≡ some i → getElem? ds i ≡ some d
+    (ds : Table) (n : Word) (i : ℕ) (d : Declared) → numberOf ds n ≡ some i → getElem? ds i ≡ some d
     → reach ds n ≡ reachOf ds i d (d .target)
 unfolding reach reachNumber
 reach-at ds n i d p q = ap (reachNumber ds) p ∙ ap (λ (o : Option Declared). elim o [ none ↦ none | some d ↦ reachOf ds i d (d .target) ]) q
@@ -103,7 +103,7 @@ owner-past [] w h = refl
 owner-past (d ∷ ds) w h =
     ap (λ t. cond t 0 (suc (ownerAt ds (w - wordsOf d)))) (le-ltb w (wordsOf d) (omega arith)) ∙ ap suc (owner-past ds (w - wordsOf d) (omega arith))
 
-module _ {outer : Name} {ds : Table} (h : Declares outer ds) where
+module _ {outer : Word} {ds : Table} (h : Declares outer ds) where
   module _ (i : ℕ) (d : Declared) (there : getElem? ds i ≡ some d) (c : BitNames) (with-bits : d .bits ≡ some c) where
     -- it is storage itself
     storage-carried : (r : Reach) × (reachStorage ds i d (d .bits) ≡ some r) × Carried ds d r
@@ -183,7 +183,7 @@ module _ {outer : Name} {ds : Table} (h : Declares outer ds) where
   bitless i d (some t) e = rw e refl
 
   -- whatever a name reaches is what its declaration does
-  pub name-carried : (n : Name) (r : Reach) → reach ds n ≡ some r → (d : Declared) × Carried ds d r
+  pub name-carried : (n : Word) (r : Reach) → reach ds n ≡ some r → (d : Declared) × Carried ds d r
   unfolding reach reachNumber
   name-carried n r e = number (numberOf ds n) e
     where
@@ -207,7 +207,7 @@ module _ {outer : Name} {ds : Table} (h : Declares outer ds) where
       number (some i) z = at i (getElem? ds i) refl z
 
   -- a word that an access comes to is one of the carriers'
-  pub reach-inside : (n : Name) (r : Reach) (p v k : ℕ) → reach ds n ≡ some r → wordOf p (r .words) v ≡ gives k → r .first + k < totalWords ds
+  pub reach-inside : (n : Word) (r : Reach) (p v k : ℕ) → reach ds n ≡ some r → wordOf p (r .words) v ≡ gives k → r .first + k < totalWords ds
   reach-inside n r p v k e w = by (decLt (r .first + k) (totalWords ds))
     where
       by : Dec (r .first + k < totalWords ds) → r .first + k < totalWords ds

@@ -8,7 +8,7 @@ use Rattle.rules.specs.Grammar.Trees.{Bits}
 use Rattle.rules.specs.Grammar.Precedence.{Expr, leaf, node, Factor, number, cell, group, inverse, Index, no-index, index}
 use Rattle.rules.specs.Values.{opBits}
 use Rattle.rules.specs.Limits.{mostBits}
-use Rattle.rules.specs.Declarations.{Name, Table, Reach, reach, accessLow, accessBits}
+use Rattle.rules.specs.Declarations.{Word, Table, Reach, reach, accessLow, accessBits}
 use Rattle.rules.specs.Faults.Bodies.{subscripted, judgeAccess, judge, judgeFactor}
 use Rattle.laws_accepted.specs.Cited.Declared.{Length}
 use Rattle.laws_accepted.specs.Cited.Constants.{InBits}
@@ -20,7 +20,7 @@ pub record Fitting (r : Reach) (x : Index) (b : Bits) (n : ℕ) : Type 0 where
   pub length : Length (accessBits r b)
   pub fits : accessLow r b + accessBits r b ≤ mostBits
 
-module _ (outer : Name) (ds : Table) where
+module _ (outer : Word) (ds : Table) where
   -- what an access reaches
   pub record Reaches (i : Info) (x : Index) (b : Bits) : Type 0 where
     pub reached : Reach

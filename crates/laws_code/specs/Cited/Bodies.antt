@@ -4,13 +4,13 @@ use mathlib.Core.List.{List, [], _∷_, _++_}
 use mathlib.Core.Option.{Option, none, some}
 use lib.ListN.{getElem?}
 use Rattle.rules.specs.Grammar.Trees.{Action}
-use Rattle.rules.specs.Declarations.{Name, Declared, Table, numberOf}
+use Rattle.rules.specs.Declarations.{Word, Declared, Table, numberOf}
 use Rattle.laws_orders.specs.Cited.Flat.{exit, Code, outer, bind}
 use Rattle.laws_code.specs.Cited.Code.{Numbered, firstOf, codeAt}
 use Rattle.laws_code.specs.Cited.Numbers.{fetch}
 
 -- a body whose BEGIN is token i; its own name is its outermost label
-abbrev pub bodyCode : Name → ℕ → Option Action → List Numbered
+abbrev pub bodyCode : Word → ℕ → Option Action → List Numbered
 bodyCode n i none = []
 bodyCode n i (some a) = codeAt (bind n (firstOf i a) exit outer) i exit a
 

@@ -6,7 +6,7 @@ use mathlib.Core.Option.{Option, none, some}
 use native.Mathlib.Omega.{arith}
 use lib.ListN.{getElem?}
 use Rattle.rules.specs.Grammar.Trees.{Action}
-use Rattle.rules.specs.Declarations.{Name, Declared, Table, numberOf, bodyNumber, bodyOf}
+use Rattle.rules.specs.Declarations.{Word, Declared, Table, numberOf, bodyNumber, bodyOf}
 use Rattle.rules.specs.Steps.Runs.{actOr, bodyAct}
 use Rattle.rules.specs.Faults.Bodies.{labels, labelFaults, actionFaults, declaredNames, bodyFaults, faults40}
 use Rattle.laws_orders.specs.Orders.Tests.{impossible}
@@ -29,12 +29,12 @@ table-has f (x ∷ ds) starts zero d e h =
 table-has f (x ∷ ds) starts (suc i) d e h =
     table-has f ds (λ i. starts (suc i)) i d e (has-right f (bodyCode (x .name .word) (starts 0) (x .body)) (tableCode (λ i. starts (suc i)) ds) h)
 
-module _ (out : Name) (ds : Table) (starts : ℕ → ℕ) (nowhere : ℕ) (of40 : faults40 out ds ds ≡ []) (up : Ascends 0 nowhere (tableCode starts ds)) where
+module _ (out : Word) (ds : Table) (starts : ℕ → ℕ) (nowhere : ℕ) (of40 : faults40 out ds ds ≡ []) (up : Ascends 0 nowhere (tableCode starts ds)) where
   abbrev C : Code
   C = codeOf ds starts nowhere
 
   body-held :
-      (n : Name) (i : ℕ) (d : Declared) (a : Action) → getElem? ds i ≡ some d → d .name .word ≡ n → d .body ≡ some a
+      (n : Word) (i : ℕ) (d : Declared) (a : Action) → getElem? ds i ≡ some d → d .name .word ≡ n → d .body ≡ some a
       → Holds C (bind n (firstOf (starts i) a) exit outer) (firstOf (starts i) a) exit (actOr (some a))
   unfolding faults40
   body-held n i d a there named its =

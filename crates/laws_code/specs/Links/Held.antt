@@ -9,7 +9,7 @@ use Rattle.rules.specs.Text.Scan.{sameBytes}
 use Rattle.rules.specs.Grammar.Trees.{Action, block, labelled, if-then, decode, repeat, leave, restart, activate, stop, no-op, transfer, Members, end, also, next}
 use Rattle.rules.specs.Grammar.Trees.{Alternatives, counted, selected, Counted, counted-end, counted-more, Selected, select, otherwise, SelectedMore, selected-end, selected-more}
 use Rattle.rules.specs.Grammar.Precedence.{exprOf}
-use Rattle.rules.specs.Declarations.{Name, Table}
+use Rattle.rules.specs.Declarations.{Word, Table}
 use Rattle.rules.specs.Steps.Actions.{Act, par, inTurn, whole, actOf, groups, altsOf, countedAlts, selectedAlts, moreAlts}
 use Rattle.rules.specs.Faults.Fault.{when}
 use Rattle.rules.specs.Faults.Declared.{isKnown}
@@ -22,7 +22,7 @@ use Rattle.laws_code.specs.Cited.Code.{codeAt, membersCode, alternatives
 use Rattle.laws_code.specs.Links.Numbers.{Has, has-left, has-right}
 
 -- the names of the labels around an action
-abbrev pub labelNames : Labels → List Name
+abbrev pub labelNames : Labels → List Word
 labelNames outer = []
 labelNames (bind l f k ρ) = l ∷ labelNames ρ
 
@@ -35,11 +35,11 @@ jumped none x h e = h
 jumped (some k) x h e = e
 
 -- where the innermost label of a name is taken, a known name has a target
-module _ (to : Labels → Name → Option Link) (here : ℕ → Link → Link) where
+module _ (to : Labels → Word → Option Link) (here : ℕ → Link → Link) where
   abbrev Innermost : Type 0
-  Innermost = (l : Name) (f : ℕ) (k : Link) (ρ : Labels) (j : Name) → to (bind l f k ρ) j ≡ cond (sameBytes j l) (some (here f k)) (to ρ j)
+  Innermost = (l : Word) (f : ℕ) (k : Link) (ρ : Labels) (j : Word) → to (bind l f k ρ) j ≡ cond (sameBytes j l) (some (here f k)) (to ρ j)
 
-  known-target : Innermost → (ρ : Labels) (j : Name) → isKnown j (labelNames ρ) ≡ true → HasTarget (to ρ j)
+  known-target : Innermost → (ρ : Labels) (j : Word) → isKnown j (labelNames ρ) ≡ true → HasTarget (to ρ j)
   unfolding isKnown
   known-target step outer j h = absurd (false≢true h)
   known-target step (bind l f k ρ) j h = rw step (by (sameBytes l j) (sameBytes j l) refl refl (known-target step ρ j) h)
@@ -51,15 +51,15 @@ module _ (to : Labels → Name → Option Link) (here : ℕ → Link → Link) w
       by true false p q ih z = absurd (false≢true (sym q ∙ (ap (sameBytes j) (same-equal l j p) ∙ same-itself j)))
       by false false p q ih z = ih z
 
-leave-target : (ρ : Labels) (j : Name) → isKnown j (labelNames ρ) ≡ true → HasTarget (leaveTo ρ j)
+leave-target : (ρ : Labels) (j : Word) → isKnown j (labelNames ρ) ≡ true → HasTarget (leaveTo ρ j)
 unfolding leaveTo
 leave-target = known-target leaveTo (λ f k. k) (λ l f k ρ j. refl)
 
-restart-target : (ρ : Labels) (j : Name) → isKnown j (labelNames ρ) ≡ true → HasTarget (restartTo ρ j)
+restart-target : (ρ : Labels) (j : Word) → isKnown j (labelNames ρ) ≡ true → HasTarget (restartTo ρ j)
 unfolding restartTo
 restart-target = known-target restartTo (λ f k. at f) (λ l f k ρ j. refl)
 
-known : (n : Name) (ls : List Name) (p : ℕ) → when (not (isKnown n ls)) 44 p ≡ [] → isKnown n ls ≡ true
+known : (n : Word) (ls : List Word) (p : ℕ) → when (not (isKnown n ls)) 44 p ≡ [] → isKnown n ls ≡ true
 known n ls p e = not-false (isKnown n ls) (when-empty (not (isKnown n ls)) 44 p e)
 
 module _ (C : Code) where
@@ -70,7 +70,7 @@ module _ (C : Code) where
   in-front ρ f g k x y none p q = (g, p, q)
   in-front ρ f g k x y (some z) p q = (q .0, (g, p, q .1), q .2)
 
-  module _ (out : Name) (ds : Table) where
+  module _ (out : Word) (ds : Table) where
     mutual
       unfolding firstOf behind entries countedEntries selectedEntries moreEntries codeAt membersCode alternativesCode countedCode selectedCode moreCode actOf groups altsOf countedAlts selectedAlts moreAlts actionFaults membersFaults insideFaults insideCounted insideSelected insideMore
 

@@ -7,7 +7,7 @@ use native.Mathlib.Omega.{arith}
 use lib.ListN.{length}
 use Rattle.rules.specs.Text.Tokens.{tk, Becomes, BEGIN}
 use Rattle.rules.specs.Grammar.Trees.{Tokens, Action, block, actionTokens, membersTokens, body, mapped, carrier, given, words, with-bits, bare-body, Declaration, plain, main, declarationTokens, Heading, headingTokens, Declarations, declared-all, declared-also, declarationsTokens, Description, description, flatten}
-use Rattle.rules.specs.Declarations.{Name, declaredOf, restOf, declarations, outerName}
+use Rattle.rules.specs.Declarations.{Word, declaredOf, restOf, declarations, outerName}
 use Rattle.rules.specs.Steps.Runs.{bodyAct}
 use Rattle.rules.specs.Answers.{accepted, judgement}
 use Rattle.laws_grammar.specs.Grammar.Positions.{own-bits-writes, main-bits-writes, heading-writes, declaration-writes}
@@ -19,7 +19,7 @@ use Rattle.laws_code.specs.Cited.Bodies.{bodyCode, tableCode}
 use Rattle.laws_code.specs.Links.Bodies.{assembled}
 use Rattle.laws_code.specs.Cited.Placed.{bodyStart, restStarts, bodyStarts, descriptionCode}
 
-body-ascends : (n : Name) (i s j : ℕ) (a : Action) → i ≤ s → s + actionSize a ≤ j → Ascends i j (bodyCode n s (some a))
+body-ascends : (n : Word) (i s j : ℕ) (a : Action) → i ≤ s → s + actionSize a ≤ j → Ascends i j (bodyCode n s (some a))
 body-ascends n i s j a p q = ascends-within (code-ascends a (bind n (firstOf s a) exit outer) s exit) p q
 
 declaration-ascends :

@@ -12,7 +12,7 @@ use Rattle.rules.specs.Grammar.Trees.{Alternatives, counted, selected, alternat
 use Rattle.rules.specs.Grammar.Trees.{Selected, select, otherwise, selectedTokens, SelectedMore, selected-end, selected-more, selectedMoreTokens}
 use Rattle.rules.specs.Grammar.Precedence.{exprOf}
 use Rattle.rules.specs.Grammar.Trees.{body, mapped, carrier, given, words, with-bits, bare-body, Declaration, plain, main, declarationTokens, Declarations, declared-all, declared-also, declarationsTokens, Description, description, flatten}
-use Rattle.rules.specs.Declarations.{Name, Table, declaredOf, restOf, declarations, outerName}
+use Rattle.rules.specs.Declarations.{Word, Table, declaredOf, restOf, declarations, outerName}
 use Rattle.rules.specs.Faults.Bodies.{judge, faultsIn, judgeDestination, judgeJoined, storedTwice, alternativesFaults, actionFaults, membersFaults, insideFaults, insideCounted, insideSelected, insideMore}
 use Rattle.rules.specs.Faults.Bodies.{labels, labelFaults, declaredNames, bodyFaults, faults40}
 use Rattle.rules.specs.Declarations.{reach}
@@ -34,7 +34,7 @@ use Rattle.laws_code.specs.Cited.Numbers.{fetch}
 use Rattle.laws_code.specs.Cited.Bodies.{bodyCode, tableCode}
 use Rattle.laws_code.specs.Cited.Placed.{bodyStarts, descriptionCode}
 
-module _ (out : Name) (ds : Table) where
+module _ (out : Word) (ds : Table) where
   -- the expression and the destination of an instruction
   abbrev pub SizedInstr : Instr → Type 0
   SizedInstr (ifI e g k) = Sized out ds e
@@ -71,12 +71,12 @@ abbrev pub BodiesOk : Table → Type 0
 BodiesOk [] = Unit {0}
 BodiesOk (d ∷ more) = BodyOk (d .body) × BodiesOk more
 
-module _ {out : Name} {ds : Table} (h : Declares out ds) where
+module _ {out : Word} {ds : Table} (h : Declares out ds) where
   mutual
     unfolding codeAt membersCode alternativesCode countedCode selectedCode moreCode actionFaults membersFaults insideFaults insideCounted insideSelected insideMore faultsIn
 
     pub code-sized :
-        (a : Action) (ρ : Labels) (i : ℕ) (k : Link) (ls : List Name) (ts : Tokens) → actionFaults out ds ls a ≡ [] → ConstantsOk (actionTokens a ts)
+        (a : Action) (ρ : Labels) (i : ℕ) (k : Link) (ls : List Word) (ts : Tokens) → actionFaults out ds ls a ≡ [] → ConstantsOk (actionTokens a ts)
         → SizedCode out ds (codeAt ρ i k a)
     code-sized (block b a m) ρ i k ls ts e c =
         let j = suc i + actionSize a in
@@ -116,7 +116,7 @@ module _ {out : Name} {ds : Table} (h : Declares out ds) where
         )
 
     members-sized :
-        (m : Members) (ρ : Labels) (i : ℕ) (k : Link) (ls : List Name) (ts : Tokens) → membersFaults out ds ls m ≡ [] → ConstantsOk (membersTokens m ts)
+        (m : Members) (ρ : Labels) (i : ℕ) (k : Link) (ls : List Word) (ts : Tokens) → membersFaults out ds ls m ≡ [] → ConstantsOk (membersTokens m ts)
         → SizedCode out ds (membersCode ρ i k m)
     members-sized (end x) ρ i k ls ts e c = tt
     members-sized (also x a m) ρ i k ls ts e c =
@@ -133,7 +133,7 @@ module _ {out : Name} {ds : Table} (h : Declares out ds) where
         (members-sized m ρ j k ls ts (f .1) (rest-ok (action-writes a) (membersTokens m ts) (c .1)))
 
     alternatives-sized :
-        (v : Alternatives) (ρ : Labels) (i : ℕ) (k : Link) (ls : List Name) (ts : Tokens) → insideFaults out ds ls v ≡ []
+        (v : Alternatives) (ρ : Labels) (i : ℕ) (k : Link) (ls : List Word) (ts : Tokens) → insideFaults out ds ls v ≡ []
         → ConstantsOk (alternativesTokens v ts) → SizedCode out ds (alternativesCode ρ i k v)
     alternatives-sized (counted a v) ρ i k ls ts e c =
         let j = i + actionSize a in
@@ -143,7 +143,7 @@ module _ {out : Name} {ds : Table} (h : Declares out ds) where
     alternatives-sized (selected s) ρ i k ls ts e c = selected-sized s ρ i k ls ts e c
 
     counted-sized :
-        (v : Counted) (ρ : Labels) (i : ℕ) (k : Link) (ls : List Name) (ts : Tokens) → insideCounted out ds ls v ≡ [] → ConstantsOk (countedTokens v ts)
+        (v : Counted) (ρ : Labels) (i : ℕ) (k : Link) (ls : List Word) (ts : Tokens) → insideCounted out ds ls v ≡ [] → ConstantsOk (countedTokens v ts)
         → SizedCode out ds (countedCode ρ i k v)
     counted-sized (counted-end x) ρ i k ls ts e c = tt
     counted-sized (counted-more x a v) ρ i k ls ts e c =
@@ -153,7 +153,7 @@ module _ {out : Name} {ds : Table} (h : Declares out ds) where
         (counted-sized v ρ j k ls ts (f .1) (rest-ok (action-writes a) (countedTokens v ts) (c .1)))
 
     selected-sized :
-        (s : Selected) (ρ : Labels) (i : ℕ) (k : Link) (ls : List Name) (ts : Tokens) → insideSelected out ds ls s ≡ [] → ConstantsOk (selectedTokens s ts)
+        (s : Selected) (ρ : Labels) (i : ℕ) (k : Link) (ls : List Word) (ts : Tokens) → insideSelected out ds ls s ≡ [] → ConstantsOk (selectedTokens s ts)
         → SizedCode out ds (selectedCode ρ i k s)
     selected-sized (select s b a m) ρ i k ls ts e c =
         let g = suc (i + selectorSize s) in
@@ -165,12 +165,12 @@ module _ {out : Name} {ds : Table} (h : Declares out ds) where
     selected-sized (otherwise x b a y) ρ i k ls ts e c = code-sized a ρ (suc (suc i)) k ls (tk END y ∷ ts) e (c .1 .1)
 
     more-sized :
-        (m : SelectedMore) (ρ : Labels) (i : ℕ) (k : Link) (ls : List Name) (ts : Tokens) → insideMore out ds ls m ≡ [] → ConstantsOk (selectedMoreTokens m ts)
+        (m : SelectedMore) (ρ : Labels) (i : ℕ) (k : Link) (ls : List Word) (ts : Tokens) → insideMore out ds ls m ≡ [] → ConstantsOk (selectedMoreTokens m ts)
         → SizedCode out ds (moreCode ρ i k m)
     more-sized (selected-end x) ρ i k ls ts e c = tt
     more-sized (selected-more x s) ρ i k ls ts e c = selected-sized s ρ (suc i) k ls ts e (c .1)
 
-  body-sized : (n : Name) (i : ℕ) (o : Option Action) → bodyFaults out ds n o ≡ [] → BodyOk o → SizedCode out ds (bodyCode n i o)
+  body-sized : (n : Word) (i : ℕ) (o : Option Action) → bodyFaults out ds n o ≡ [] → BodyOk o → SizedCode out ds (bodyCode n i o)
   body-sized n i none e c = tt
   body-sized n i (some a) e c =
       let f = both-empty (actionFaults out ds (n ∷ []) a) (labelFaults (declaredNames out ds ds) (labels a [])) e in

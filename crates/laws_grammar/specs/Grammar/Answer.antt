@@ -1,7 +1,13 @@
 -- The answer to the tokens, as one thing: what rows 20 and 21 ask of it.
+use Prim.Native.Nat.{ℕ}
 use Rattle.rules.specs.Grammar.Trees.{Tokens}
-use Rattle.rules.specs.Grammar.Verdict.{Accepted, Refused20, Refused21}
+use Rattle.rules.specs.Grammar.Verdict.{IsDescription, Crowded, Refused20, Refused21}
 use Rattle.laws_grammar.specs.Cited.Answer.{Answer, accepted, refused20, refused21}
+
+-- neither row has anything to refuse
+pub record Accepted (ts : Tokens) : Type 0 where
+  pub whole : IsDescription ts
+  pub shallow : (j : ℕ) → ¬ Crowded ts j
 
 abbrev pub Right : Tokens → Answer → Type 0
 Right ts accepted = Accepted ts

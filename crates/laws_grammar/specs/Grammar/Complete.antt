@@ -1,13 +1,11 @@
 -- COMPLETE: the tokens of a tree are read back as that tree.
 use mathlib.Core.Path.{_≡_, refl, sym, ap, _∙_, subst}
-use mathlib.Core.Bool.{Bool, true, false, _&&_, So, and-eq-true-iff}
-use mathlib.Core.Option.{Option, none, some, Option·map, Option·none-ne-some, Option·some-injective, map-eq-some-iff}
-use mathlib.Core.List.{List, [], _∷_, _++_, map}
+use mathlib.Core.Bool.{Bool, true, false}
+use mathlib.Core.Option.{Option, none, some, Option·map, Option·none-ne-some, map-eq-some-iff}
+use mathlib.Core.List.{[], _∷_, _++_}
 use lib.Dec.{T}
 use Rattle.rules.specs.Text.Tokens.{Kind, Info, Token, tk, same}
 use Rattle.rules.specs.Text.Tokens.{Op, opKind, join, plus, minus, eql, neq, lss, leq, gtr, geq, and, eqv, or, xor}
-use Rattle.rules.specs.Text.Tokens.{Name, Const, Masked, LPar, RPar, LBra, RBra, Less, Greater, Comma, Semi, Colon, Becomes, Equals, Arrow, At, Plus, Minus, Stars}
-use Rattle.rules.specs.Text.Tokens.{BEGIN, END, NEXT, IF, DECODE, OTHERWISE, REPEAT, LEAVE, RESTART, MAIN, STOP, NO-OP, NOT}
 use Rattle.rules.specs.Grammar.Trees.{Tokens, BitsEnd, bit, upto, bitsEndTokens, Bits, all-bits, bits, bitsTokens}
 use Rattle.rules.specs.Grammar.Trees.{Operand, constant, access, parens, negated, operandTokens, Tail, no-more, with-op, tailTokens, Subscript, no-subscript, subscript, subscriptTokens}
 use Rattle.rules.specs.Grammar.Trees.{Joined, alone, joined, joinedTokens, Literal, exact, masked, literalTokens, Range, single, to, rangeTokens, Items, close, item, itemsTokens}
@@ -25,12 +23,12 @@ use Rattle.laws_grammar.specs.Cited.Rows.{body-or-mapping, body-begin, m
 use Rattle.laws_grammar.specs.Cited.Rows.{action, action-name, jump-target, call-open, destination, action-done, alternatives-begin, call-close, first-alternative, selector}
 use Rattle.laws_grammar.specs.Cited.Rows.{selector-rest, selector-second, selector-becomes, otherwise-becomes, list-item, list-item-rest, list-item-second, list-rest}
 use Rattle.laws_grammar.specs.Cited.Rows.{operand, access-rest, access-bits, bits-first, bits-more, bits-second, bits-close, part-done}
-use Rattle.laws_grammar.specs.Cited.Rows.{Move, go, open-to, shut, Stack, after}
-use Rattle.laws_grammar.specs.Grammar.Kinds.{same-eq, same-refl}
+use Rattle.laws_grammar.specs.Cited.Rows.{Stack, after}
+use Rattle.laws_grammar.specs.Grammar.Kinds.{same-eq}
 use Rattle.laws_grammar.specs.Cited.Rows.{first}
-use Rattle.laws_grammar.specs.Grammar.Meanings.{Lang, _⊗_, empty, meaning, moveL, stackL, Step, Steps, steps, lift1, lift, Named, n-label, n-call, n-store, namedTokens, with-name, stored}
+use Rattle.laws_grammar.specs.Grammar.Meanings.{Lang, meaning, stackL, Step, Steps, steps, lift1, lift, Named, n-label, n-call, n-store, namedTokens, stored}
 use Rattle.laws_grammar.specs.Grammar.Meanings.{useL, partL, doneL, ownerL, bodyL, becomesL, operator-step, operators-steps, selector-steps}
-use Rattle.laws_grammar.specs.Grammar.Reading.{find, find-on, split, put, act, read}
+use Rattle.laws_grammar.specs.Grammar.Reading.{find, split, put, act, read}
 
 -- the tokens are read from the stack as the trees x
 pub record Reads (ts : Tokens) (γ : Stack) (x : (stackL γ) .tree) : Type 0 where

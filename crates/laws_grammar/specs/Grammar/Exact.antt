@@ -2,26 +2,26 @@
 use mathlib.Core.Path.{_≡_, refl, sym, ap, _∙_, subst}
 use mathlib.Core.Bool.{Bool, true, false}
 use mathlib.Core.Option.{Option, none, some, Option·none-ne-some, Option·some-injective}
-use mathlib.Core.List.{List, [], _∷_, _++_, append-assoc, append-nil}
-use Prim.Native.Nat.{ℕ, zero, suc, _+_, _≤_, _<_}
+use mathlib.Core.List.{[], _∷_, _++_, append-assoc, append-nil}
+use Prim.Native.Nat.{ℕ, suc, _+_, _≤_, _<_}
 use native.Mathlib.Omega.{arith}
 use native.Mathlib.Decide.{decLt}
 use lib.Dec.{T}
 use lib.ListN.{length, take, drop, getD, length-append, take-append-drop}
-use lib.Seq.{take-append-seam, getD-append-seam, take-take, take-all}
-use Rattle.rules.specs.Text.Tokens.{Kind, Token, tk, Name}
+use lib.Seq.{take-append-seam, getD-append-seam, take-take}
+use Rattle.rules.specs.Text.Tokens.{Token, tk, Name}
 use Rattle.rules.specs.Grammar.Trees.{Tokens, Description, flatten}
 use Rattle.laws_grammar.specs.Cited.Rows.{State, title, Stack, Move, after, row, lookup, too-deep, judge, run, recognise}
 use Rattle.laws_grammar.specs.Grammar.Meanings.{stackL}
 use Rattle.laws_grammar.specs.Grammar.Reading.{read, sound}
 use Rattle.laws_grammar.specs.Grammar.Complete.{complete}
-use Rattle.laws_grammar.specs.Grammar.Follow.{trail, follow, onward, follow-append, follow-of-read, read-of-follow, cons-not-nil, no-empty-some}
+use Rattle.laws_grammar.specs.Grammar.Follow.{trail, follow, onward, follow-append, follow-of-read, read-of-follow, cons-not-nil}
 use Rattle.rules.specs.Grammar.Verdict.{anyInfo}
 use Rattle.laws_grammar.specs.Grammar.Samples.{samples}
-use Rattle.rules.specs.Grammar.Verdict.{opens, count, opened}
+use Rattle.rules.specs.Grammar.Verdict.{opens, opened}
 use Rattle.laws_grammar.specs.Grammar.Depth.{opened-append, opened-one, Deep, deep-title, step-deep, too-deep-full, full-too-deep}
-use Rattle.rules.specs.Grammar.Verdict.{IsDescription, Begins, Crowded, Accepted, Refused20, Refused21}
-use Rattle.laws_grammar.specs.Grammar.Answer.{Right}
+use Rattle.rules.specs.Grammar.Verdict.{IsDescription, Begins, Crowded, Refused20, Refused21}
+use Rattle.laws_grammar.specs.Grammar.Answer.{Right, Accepted}
 use Rattle.laws_grammar.specs.Cited.Answer.{Answer, accepted, refused20, refused21}
 
 abbrev start : Stack

@@ -2,23 +2,21 @@
 use mathlib.Core.Path.{_≡_, refl, sym, ap, _∙_, subst}
 use mathlib.Core.Bool.{Bool, true, false}
 use mathlib.Core.Option.{Option, none, some, Option·map, Option·none-ne-some, Option·some-injective, map-eq-some-iff}
-use mathlib.Core.List.{List, [], _∷_, _++_, append-assoc}
-use Prim.Native.Nat.{ℕ}
-use Rattle.rules.specs.Text.Tokens.{Kind, Info, Token, tk, same}
-use Rattle.rules.specs.Grammar.Trees.{Tokens, Description, flatten}
+use mathlib.Core.List.{[], _∷_, _++_}
+use Rattle.rules.specs.Text.Tokens.{Kind, Token, same}
+use Rattle.rules.specs.Grammar.Trees.{Tokens}
 use Rattle.laws_grammar.specs.Cited.Rows.{Rule, Row, _⇒_, row, lookup, first}
 use Rattle.laws_grammar.specs.Grammar.Meanings.{Lang, meaning, stackL, Step, Steps, steps}
-use Rattle.laws_grammar.specs.Grammar.Reading.{find, put, act, read, sound}
-use Rattle.laws_grammar.specs.Grammar.Complete.{complete}
-use Rattle.laws_grammar.specs.Cited.Rows.{Site, in-block, in-counted, in-selected, in-last, Use, test, choose, value, in-parens, in-subscript}
-use Rattle.laws_grammar.specs.Cited.Rows.{Part, of-expression, of-destination, of-mapping, Owner, of-words, of-name, of-main}
+use Rattle.laws_grammar.specs.Grammar.Reading.{find, put, act, read}
+use Rattle.laws_grammar.specs.Cited.Rows.{in-block, in-counted, in-selected, in-last, test, choose, value, in-parens, in-subscript}
+use Rattle.laws_grammar.specs.Cited.Rows.{of-expression, of-destination, of-mapping, of-words, of-name, of-main}
 use Rattle.laws_grammar.specs.Cited.Rows.{State, title, title-becomes, title-begin, declaration, heading-name, heading-close, declarator, declarator-rest}
 use Rattle.laws_grammar.specs.Cited.Rows.{first-word, word-colon, second-word, words-close, words-bits, own-bits, own-bits-more, own-bits-second, own-bits-close, own-bits-done}
 use Rattle.laws_grammar.specs.Cited.Rows.{body-or-mapping, body-begin, mapping-bits, main-name, main-rest, declaration-done}
 use Rattle.laws_grammar.specs.Cited.Rows.{action, action-name, jump-target, call-open, destination, action-done, alternatives-begin, call-close, first-alternative, selector}
 use Rattle.laws_grammar.specs.Cited.Rows.{selector-rest, selector-second, selector-becomes, otherwise-becomes, list-item, list-item-rest, list-item-second, list-rest}
 use Rattle.laws_grammar.specs.Cited.Rows.{operand, access-rest, access-bits, bits-first, bits-more, bits-second, bits-close, part-done}
-use Rattle.laws_grammar.specs.Cited.Rows.{Move, go, open-to, shut, Stack, after}
+use Rattle.laws_grammar.specs.Cited.Rows.{Move, Stack, after}
 
 -- a step without its tree is a rule
 abbrev pub plain-rule : {M : Lang} → Step M → Rule

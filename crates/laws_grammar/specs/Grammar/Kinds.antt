@@ -1,9 +1,10 @@
 -- A kind is known by its number.
 use mathlib.Core.Path.{_≡_, refl, sym, ap, _∙_}
 use lib.Dec.{T, eqb→eq, eqb-refl}
-use Rattle.rules.specs.Text.Tokens.{Kind, kindNo, kindAt, same}
+use Rattle.rules.specs.Text.Tokens.{Kind, kindNo, same}
 use Rattle.rules.specs.Text.Tokens.{Name, Const, Masked, LPar, RPar, LBra, RBra, Less, Greater, Comma, Semi, Colon, Becomes, Equals, Arrow, At, Plus, Minus, Stars}
 use Rattle.rules.specs.Text.Tokens.{BEGIN, END, NEXT, IF, DECODE, OTHERWISE, REPEAT, LEAVE, RESTART, MAIN, STOP, NO-OP, NOT, AND, EQV, OR, XOR, EQL, NEQ, LSS, LEQ, GTR, GEQ}
+use Rattle.laws_grammar.specs.Cited.Kinds.{kindAt}
 
 pub kindAt-kindNo : (k : Kind) → kindAt (kindNo k) ≡ k
 kindAt-kindNo Name = refl

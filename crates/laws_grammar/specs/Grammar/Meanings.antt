@@ -1,17 +1,15 @@
 -- What each state of the recogniser stands for: a pair of a type of trees, what may still come up to the bracket's end, and their tokens.
 -- And the rows once more, each rule with the tree that it builds from its token and from the trees of the states that it leads to.
-use mathlib.Core.Path.{_≡_, refl, sym, ap, _∙_}
-use mathlib.Core.Bool.{Bool, true, false}
-use mathlib.Core.Option.{Option, none, some}
-use mathlib.Core.List.{List, [], _∷_, _++_, map}
-use Rattle.rules.specs.Text.Tokens.{Kind, Info, Token, tk, same}
+use mathlib.Core.Path.{_≡_, refl, _∙_}
+use mathlib.Core.List.{List, [], _∷_, _++_}
+use Rattle.rules.specs.Text.Tokens.{Kind, Info, tk}
 use Rattle.rules.specs.Text.Tokens.{Op, opKind, join, plus, minus, eql, neq, lss, leq, gtr, geq, and, eqv, or, xor}
-use Rattle.rules.specs.Text.Tokens.{Name, Const, Masked, LPar, RPar, LBra, RBra, Less, Greater, Comma, Semi, Colon, Becomes, Equals, Arrow, At, Plus, Minus, Stars}
+use Rattle.rules.specs.Text.Tokens.{Name, Const, Masked, LPar, RPar, LBra, RBra, Less, Greater, Comma, Semi, Colon, Becomes, Equals, Arrow, At, Stars}
 use Rattle.rules.specs.Text.Tokens.{BEGIN, END, NEXT, IF, DECODE, OTHERWISE, REPEAT, LEAVE, RESTART, MAIN, STOP, NO-OP, NOT}
 use Rattle.rules.specs.Grammar.Trees.{Tokens, BitsEnd, bit, upto, bitsEndTokens, Bits, all-bits, bits, bitsTokens}
 use Rattle.rules.specs.Grammar.Trees.{Operand, constant, access, parens, negated, operandTokens, Tail, no-more, with-op, tailTokens, Subscript, no-subscript, subscript, subscriptTokens}
 use Rattle.rules.specs.Grammar.Trees.{Joined, alone, joined, joinedTokens, Literal, exact, masked, literalTokens, Range, single, to, rangeTokens, Items, close, item, itemsTokens}
-use Rattle.rules.specs.Grammar.Trees.{Selector, one-of, any-of, selectorTokens, Action, block, labelled, if-then, decode, repeat, leave, restart, activate, stop, no-op, transfer, actionTokens}
+use Rattle.rules.specs.Grammar.Trees.{one-of, any-of, Action, block, labelled, if-then, decode, repeat, leave, restart, activate, stop, no-op, transfer, actionTokens}
 use Rattle.rules.specs.Grammar.Trees.{Members, end, also, next, membersTokens, Alternatives, counted, selected, alternativesTokens, Counted, counted-end, counted-more, countedTokens}
 use Rattle.rules.specs.Grammar.Trees.{Selected, select, otherwise, selectedTokens, SelectedMore, selected-end, selected-more, selectedMoreTokens}
 use Rattle.rules.specs.Grammar.Trees.{OwnBits, unnamed, named, ownBitsTokens, Meaning, body, mapped, meaningTokens, Given, carrier, given, givenTokens, Form, words, with-bits, bare-body, formTokens}
@@ -25,7 +23,7 @@ use Rattle.laws_grammar.specs.Cited.Rows.{body-or-mapping, body-begin, m
 use Rattle.laws_grammar.specs.Cited.Rows.{action, action-name, jump-target, call-open, destination, action-done, alternatives-begin, call-close, first-alternative, selector}
 use Rattle.laws_grammar.specs.Cited.Rows.{selector-rest, selector-second, selector-becomes, otherwise-becomes, list-item, list-item-rest, list-item-second, list-rest}
 use Rattle.laws_grammar.specs.Cited.Rows.{operand, access-rest, access-bits, bits-first, bits-more, bits-second, bits-close, part-done}
-use Rattle.laws_grammar.specs.Cited.Rows.{Move, go, open-to, shut, Rule, Row, _⇒_, row, Stack, after}
+use Rattle.laws_grammar.specs.Cited.Rows.{Move, go, open-to, shut, Stack}
 
 -- a type of trees, and the tokens of each in front of what follows
 pub record Lang : Type 1 where

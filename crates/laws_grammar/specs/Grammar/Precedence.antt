@@ -1,10 +1,10 @@
 -- Precedence gives one tree: the tree of a chain has its operands and operators in their order and is tight, and a tight tree is the tree of its chain.
 use mathlib.Core.Path.{_≡_, refl, sym, ap, _∙_}
 use mathlib.Core.List.{List, [], _∷_, _++_, append-assoc}
-use Prim.Native.Nat.{ℕ, zero, suc, _≤_, _<_}
+use Prim.Native.Nat.{ℕ, suc, _≤_, _<_}
 use native.Mathlib.Omega.{arith}
 use native.Mathlib.Decide.{decLt}
-use Rattle.rules.specs.Text.Tokens.{Info, Op, join, plus, minus, eql, neq, lss, leq, gtr, geq, and, eqv, or, xor}
+use Rattle.rules.specs.Text.Tokens.{Info, Op, join, plus, minus, eql, and, or}
 use Rattle.rules.specs.Grammar.Precedence.{tightness, Expr, leaf, node, Factor, number, group, inverse, Link, link, insert-by, insert, inserts, arrange}
 use Rattle.rules.specs.Grammar.Precedence.{factorOf, exprOf}
 use Rattle.laws_grammar.specs.Grammar.Tight.{head, links, Tight}

@@ -2,13 +2,13 @@
 use mathlib.Core.Path.{_≡_, refl, sym, ap, _∙_, subst}
 use mathlib.Core.Bool.{Bool, true, false}
 use mathlib.Core.Option.{Option, none, some, Option·map, Option·none-ne-some, Option·some-injective, map-eq-some-iff}
-use mathlib.Core.List.{List, [], _∷_, _++_, map}
+use mathlib.Core.List.{[], _∷_}
 use lib.Dec.{T}
 use Rattle.rules.specs.Text.Tokens.{Kind, Info, Token, tk, same}
-use Rattle.laws_grammar.specs.Grammar.Kinds.{same-eq, same-refl}
-use Rattle.rules.specs.Grammar.Trees.{Tokens, Description, flatten}
-use Rattle.laws_grammar.specs.Cited.Rows.{State, title, Move, go, open-to, shut, Stack, after, first}
-use Rattle.laws_grammar.specs.Grammar.Meanings.{Lang, _⊗_, empty, meaning, moveL, stackL, Step, Steps, steps}
+use Rattle.laws_grammar.specs.Grammar.Kinds.{same-eq}
+use Rattle.rules.specs.Grammar.Trees.{Tokens}
+use Rattle.laws_grammar.specs.Cited.Rows.{State, Move, go, open-to, shut, Stack, after, first}
+use Rattle.laws_grammar.specs.Grammar.Meanings.{Lang, meaning, moveL, stackL, Step, Steps, steps}
 
 unfoldable pub find : {M : Lang} → Steps M → Kind → Option (Step M)
 find [] k = none

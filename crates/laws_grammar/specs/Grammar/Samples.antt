@@ -1,18 +1,14 @@
 -- A tree for each state: every state can be brought to its end.
 use mathlib.Core.List.{List, [], _∷_}
-use Rattle.rules.specs.Text.Tokens.{Kind, Info, Token, tk, same}
-use Rattle.rules.specs.Text.Tokens.{Op, opKind, join, plus, minus, eql, neq, lss, leq, gtr, geq, and, eqv, or, xor}
-use Rattle.rules.specs.Text.Tokens.{Name, Const, Masked, LPar, RPar, LBra, RBra, Less, Greater, Comma, Semi, Colon, Becomes, Equals, Arrow, At, Plus, Minus, Stars}
-use Rattle.rules.specs.Text.Tokens.{BEGIN, END, NEXT, IF, DECODE, OTHERWISE, REPEAT, LEAVE, RESTART, MAIN, STOP, NO-OP, NOT}
-use Rattle.rules.specs.Grammar.Trees.{Tokens, BitsEnd, bit, upto, bitsEndTokens, Bits, all-bits, bits, bitsTokens}
-use Rattle.rules.specs.Grammar.Trees.{Operand, constant, access, parens, negated, operandTokens, Tail, no-more, with-op, tailTokens, Subscript, no-subscript, subscript, subscriptTokens}
-use Rattle.rules.specs.Grammar.Trees.{Joined, alone, joined, joinedTokens, Literal, exact, masked, literalTokens, Range, single, to, rangeTokens, Items, close, item, itemsTokens}
-use Rattle.rules.specs.Grammar.Trees.{Selector, one-of, any-of, selectorTokens, Action, block, labelled, if-then, decode, repeat, leave, restart, activate, stop, no-op, transfer, actionTokens}
-use Rattle.rules.specs.Grammar.Trees.{Members, end, also, next, membersTokens, Alternatives, counted, selected, alternativesTokens, Counted, counted-end, counted-more, countedTokens}
-use Rattle.rules.specs.Grammar.Trees.{Selected, select, otherwise, selectedTokens, SelectedMore, selected-end, selected-more, selectedMoreTokens}
-use Rattle.rules.specs.Grammar.Trees.{OwnBits, unnamed, named, ownBitsTokens, Meaning, body, mapped, meaningTokens, Given, carrier, given, givenTokens, Form, words, with-bits, bare-body, formTokens}
-use Rattle.rules.specs.Grammar.Trees.{MainBits, bitless, main-bits, mainBitsTokens, Declaration, plain, main, declarationTokens, Heading, no-heading, heading, headingTokens}
-use Rattle.rules.specs.Grammar.Trees.{Declarations, declared-all, declared-also, declarationsTokens, Description, description, descriptionTokens}
+use Rattle.rules.specs.Grammar.Trees.{bit, all-bits}
+use Rattle.rules.specs.Grammar.Trees.{constant, no-more, no-subscript}
+use Rattle.rules.specs.Grammar.Trees.{alone, exact, single, close}
+use Rattle.rules.specs.Grammar.Trees.{Action, stop}
+use Rattle.rules.specs.Grammar.Trees.{end, Alternatives, counted, counted-end}
+use Rattle.rules.specs.Grammar.Trees.{otherwise, selected-end}
+use Rattle.rules.specs.Grammar.Trees.{unnamed, mapped, carrier, Form, with-bits}
+use Rattle.rules.specs.Grammar.Trees.{bitless, Declaration, plain, no-heading}
+use Rattle.rules.specs.Grammar.Trees.{declared-all, description}
 use Rattle.laws_grammar.specs.Cited.Rows.{Site, in-block, in-counted, in-selected, in-last, Use, test, choose, value, in-parens, in-subscript}
 use Rattle.laws_grammar.specs.Cited.Rows.{Part, of-expression, of-destination, of-mapping, Owner, of-words, of-name, of-main}
 use Rattle.laws_grammar.specs.Cited.Rows.{State, title, title-becomes, title-begin, declaration, heading-name, heading-close, declarator, declarator-rest}
@@ -21,9 +17,8 @@ use Rattle.laws_grammar.specs.Cited.Rows.{body-or-mapping, body-begin, m
 use Rattle.laws_grammar.specs.Cited.Rows.{action, action-name, jump-target, call-open, destination, action-done, alternatives-begin, call-close, first-alternative, selector}
 use Rattle.laws_grammar.specs.Cited.Rows.{selector-rest, selector-second, selector-becomes, otherwise-becomes, list-item, list-item-rest, list-item-second, list-rest}
 use Rattle.laws_grammar.specs.Cited.Rows.{operand, access-rest, access-bits, bits-first, bits-more, bits-second, bits-close, part-done}
-use Rattle.laws_grammar.specs.Cited.Rows.{Move, go, open-to, shut, Stack, after}
 use Rattle.rules.specs.Grammar.Verdict.{anyInfo}
-use Rattle.laws_grammar.specs.Grammar.Meanings.{Lang, meaning, stackL, doneL, useL, partL, ownerL, bodyL, becomesL, n-call}
+use Rattle.laws_grammar.specs.Grammar.Meanings.{meaning, stackL, doneL, useL, partL, ownerL, bodyL, becomesL, n-call}
 
 an-action : Action
 an-action = stop anyInfo anyInfo anyInfo

@@ -1,5 +1,5 @@
 -- What binding asks of a tree: the operators bind as tightly as document 01 has it, and each associates to the left.
-use mathlib.Core.List.{List, [], _∷_}
+use mathlib.Core.List.{List, _∷_}
 use Prim.Native.Nat.{ℕ, suc, _≤_}
 use Rattle.rules.specs.Grammar.Precedence.{tightness, Expr, leaf, node, Factor, Link, link}
 

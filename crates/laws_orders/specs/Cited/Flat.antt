@@ -7,8 +7,8 @@ use mathlib.Core.Option.{Option, none, some}
 use Rattle.rules.specs.Text.Scan.{sameBytes}
 use Rattle.rules.specs.Grammar.Precedence.{Expr}
 use Rattle.rules.specs.Selectors.{Case, takes}
-use Rattle.rules.specs.Declarations.{Name, Table}
-use Rattle.rules.specs.Steps.Actions.{Access, Act, seq, par, label, ins, Ins, iff, decode, repeat, leave, restart, call, stop, noop, transfer, Alts, end, alt}
+use Rattle.rules.specs.Declarations.{Word, Table}
+use Rattle.rules.specs.Steps.Actions.{Access, Act, seq, par, label, ins, Ins, iff, decode, repeat, leave, restart, call, stop, noop, transfer, Alts, no-alts, alt}
 use Rattle.rules.specs.Steps.Control.{Work, moves, tests, nothing}
 use Rattle.rules.specs.Steps.Evaluation.{Carriers, Outcome, gives, faulty}
 use Rattle.rules.specs.Steps.Runs.{Worked, perform}
@@ -27,14 +27,14 @@ pub data Instr : Type 0 where
   ifI : Expr → ℕ → Link → Instr
   decodeI : ℕ → Expr → Entries → Instr
   goI : Link → Instr
-  callI : Name → Link → Instr
+  callI : Word → Link → Instr
   stopI : Instr
   moveI : List Access → Expr → Link → Instr
 
 -- the instructions by number, and where each body begins
 pub record Code : Type 0 where
   pub instr : ℕ → Instr
-  pub first : Name → ℕ
+  pub first : Word → ℕ
 
 -- the control of the machine: at an instruction with a stack, or behind its last step
 pub data At : Type 0 where
@@ -105,13 +105,13 @@ module _ (ds : Table) (C : Code) where
 -- the labels around an action: of each, where it begins and where control goes when it has ended
 pub data Labels : Type 0 where
   outer : Labels
-  bind : Name → ℕ → Link → Labels → Labels
+  bind : Word → ℕ → Link → Labels → Labels
 
-unfoldable pub leaveTo : Labels → Name → Option Link
+unfoldable pub leaveTo : Labels → Word → Option Link
 leaveTo outer j = none
 leaveTo (bind l f k ρ) j = cond (sameBytes j l) (some k) (leaveTo ρ j)
 
-unfoldable pub restartTo : Labels → Name → Option Link
+unfoldable pub restartTo : Labels → Word → Option Link
 restartTo outer j = none
 restartTo (bind l f k ρ) j = cond (sameBytes j l) (some (at f)) (restartTo ρ j)
 
@@ -141,12 +141,12 @@ module _ (C : Code) where
     HoldsI ρ f k (transfer d e) = C .instr f ≡ moveI d e k
 
     pub HoldsAlts : Labels → Entries → Link → Alts → Type 0
-    HoldsAlts ρ t k end = t ≡ no-entry
+    HoldsAlts ρ t k no-alts = t ≡ no-entry
     HoldsAlts ρ t k (alt c a bs) = (g : ℕ) × (t′ : Entries) × (t ≡ entry c g t′) × Holds ρ g k a × HoldsAlts ρ t′ k bs
 
   -- a body's own name is its outermost label
-  abbrev pub ownLabel : Name → Labels
+  abbrev pub ownLabel : Word → Labels
   ownLabel p = bind p (C .first p) exit outer
 
-  abbrev pub HoldsBodies : (Name → Act) → Type 0
-  HoldsBodies body = (p : Name) → Holds (ownLabel p) (C .first p) exit (body p)
+  abbrev pub HoldsBodies : (Word → Act) → Type 0
+  HoldsBodies body = (p : Word) → Holds (ownLabel p) (C .first p) exit (body p)

@@ -3,13 +3,14 @@ use Prim.Native.Nat.{ℕ, zero, suc, _+_, _≤_}
 use mathlib.Core.Path.{_≡_, refl, sym, _∙_, subst}
 use native.Mathlib.Omega.{arith}
 use lib.ListN.{length}
-use Rattle.rules.specs.Declarations.{Name, Table}
+use Rattle.rules.specs.Declarations.{Word, Table}
 use Rattle.rules.specs.Steps.Evaluation.{Carriers, Outcome, gives, faulty}
 use Rattle.rules.specs.Steps.Control.{Live, callL, start, Sig, ends, goes, leaves, restarts, stops, faults, Mv, leftmost, work, next}
 use Rattle.rules.specs.Steps.Runs.{Conf, running, finished, stopped, failed, Worked, perform, told, after, bodyAct, step, begin}
 use Rattle.rules.specs.Steps.Runs.{done, halted, paused, faulted, Run, runWith, runFrom, run}
 use Rattle.laws_orders.specs.Orders.Effect.{work-length}
-use Rattle.rules.specs.Steps.Orders.{Ended, EndsWell, endOf}
+use Rattle.rules.specs.Steps.Orders.{Ended, endOf}
+use Rattle.laws_orders.specs.Orders.Ends.{EndsWell}
 use Rattle.laws_orders.specs.Orders.Descent.{LeftSteps, allowed, fault-stuck}
 use Rattle.laws_orders.specs.Orders.Carriers.{frames}
 
@@ -66,7 +67,7 @@ module _ (ds : Table) where
       by ih (stopped u) e = record { short = omega arith; pausing = λ p. cc; same-length = e }
       by ih (failed m q u) e = record { short = omega arith; pausing = λ p. cc; same-length = e }
 
-  pub run-bounded : (n : Name) (b : ℕ) (s : Carriers) → Bounded b s (run ds n b s)
+  pub run-bounded : (n : Word) (b : ℕ) (s : Carriers) → Bounded b s (run ds n b s)
   unfolding run begin
   run-bounded n b s = let e : 0 + b ≡ b = omega arith in subst (λ z. Bounded z s (run ds n b s)) e (bounded b 0 (callL n (start (bodyAct ds n))) s)
 

@@ -3,28 +3,28 @@ use Prim.Native.Nat.{ℕ, zero, suc}
 use mathlib.Core.Path.{_≡_, refl, sym, _∙_, ap, ap₂}
 use mathlib.Core.Bool.{Bool, false, _||_, or-assoc, or-false, false≢true}
 use mathlib.Core.List.{List, [], _∷_, _++_}
-use Rattle.rules.specs.Declarations.{Name, Table}
-use Rattle.rules.specs.Steps.Actions.{Act, seq, par, label, ins, Ins, iff, decode, repeat, leave, restart, call, stop, noop, transfer, Alts, end, alt}
+use Rattle.rules.specs.Declarations.{Word, Table}
+use Rattle.rules.specs.Steps.Actions.{Act, seq, par, label, ins, Ins, iff, decode, repeat, leave, restart, call, stop, noop, transfer, Alts, no-alts, alt}
 use Rattle.rules.specs.Steps.Runs.{bodyAct}
 use Rattle.rules.specs.Whole.Sets.{Sets, sets, union, readsOf, setsOf, setsI, setsAlts, bodySets, stopsIn, stopsI, stopsAlts, bodyStops}
 use Rattle.rules.specs.Whole.Sets.{callsIn, callsI, callsAlts, anyName, chainOver}
 use Rattle.laws_orders.specs.Orders.Tests.{or-neither}
 
-any-append : (p : Name → Bool) (xs ys : List Name) → anyName p (xs ++ ys) ≡ (anyName p xs || anyName p ys)
+any-append : (p : Word → Bool) (xs ys : List Word) → anyName p (xs ++ ys) ≡ (anyName p xs || anyName p ys)
 unfolding anyName
 any-append p [] ys = refl
 any-append p (x ∷ xs) ys = ap (λ b. p x || b) (any-append p xs ys) ∙ sym (or-assoc (p x) (anyName p xs) (anyName p ys))
 
-pub none-of : (p : Name → Bool) (xs ys : List Name) → anyName p (xs ++ ys) ≡ false → (anyName p xs ≡ false) × (anyName p ys ≡ false)
+pub none-of : (p : Word → Bool) (xs ys : List Word) → anyName p (xs ++ ys) ≡ false → (anyName p xs ≡ false) × (anyName p ys ≡ false)
 none-of p xs ys h = or-neither (anyName p xs) (anyName p ys) (sym (any-append p xs ys) ∙ h)
 
-pub not-this : (p : Name → Bool) (n : Name) → anyName p (n ∷ []) ≡ false → p n ≡ false
+pub not-this : (p : Word → Bool) (n : Word) → anyName p (n ∷ []) ≡ false → p n ≡ false
 unfolding anyName
 not-this p n h = sym (or-false (p n)) ∙ h
 
 -- what is gathered of an action goes by what is known of the bodies that it activates
-module _ (p : Name → Bool) where
-  module _ (ds : Table) (f g : Name → Sets) (same : (n : Name) → p n ≡ false → f n ≡ g n) where
+module _ (p : Word → Bool) where
+  module _ (ds : Table) (f g : Word → Sets) (same : (n : Word) → p n ≡ false → f n ≡ g n) where
     mutual
       unfolding setsOf setsI setsAlts callsIn callsI callsAlts
 
@@ -46,10 +46,10 @@ module _ (p : Name → Bool) where
       setsI-same (transfer d e) h = refl
 
       setsAlts-same : (bs : Alts) → anyName p (callsAlts bs) ≡ false → setsAlts ds f bs ≡ setsAlts ds g bs
-      setsAlts-same end h = refl
+      setsAlts-same no-alts h = refl
       setsAlts-same (alt c a bs) h = let n = none-of p (callsIn a) (callsAlts bs) h in ap₂ union (sets-same a (n .0)) (setsAlts-same bs (n .1))
 
-  module _ (f g : Name → Bool) (same : (n : Name) → p n ≡ false → f n ≡ g n) where
+  module _ (f g : Word → Bool) (same : (n : Word) → p n ≡ false → f n ≡ g n) where
     mutual
       unfolding stopsIn stopsI stopsAlts callsIn callsI callsAlts
 
@@ -71,16 +71,16 @@ module _ (p : Name → Bool) where
       stopsI-same (transfer d e) h = refl
 
       stopsAlts-same : (bs : Alts) → anyName p (callsAlts bs) ≡ false → stopsAlts f bs ≡ stopsAlts g bs
-      stopsAlts-same end h = refl
+      stopsAlts-same no-alts h = refl
       stopsAlts-same (alt c a bs) h = let n = none-of p (callsIn a) (callsAlts bs) h in ap₂ _||_ (stops-same a (n .0)) (stopsAlts-same bs (n .1))
 
 module _ (ds : Table) where
-  pub sets-closed : (k : ℕ) (n : Name) → chainOver ds k n ≡ false → setsOf ds (bodySets ds k) (bodyAct ds n) ≡ bodySets ds k n
+  pub sets-closed : (k : ℕ) (n : Word) → chainOver ds k n ≡ false → setsOf ds (bodySets ds k) (bodyAct ds n) ≡ bodySets ds k n
   unfolding chainOver bodySets
   sets-closed zero n h = absurd (false≢true (sym h))
   sets-closed (suc k) n h = sets-same (chainOver ds k) ds (bodySets ds (suc k)) (bodySets ds k) (sets-closed k) (bodyAct ds n) h
 
-  pub stops-closed : (k : ℕ) (n : Name) → chainOver ds k n ≡ false → stopsIn (bodyStops ds k) (bodyAct ds n) ≡ bodyStops ds k n
+  pub stops-closed : (k : ℕ) (n : Word) → chainOver ds k n ≡ false → stopsIn (bodyStops ds k) (bodyAct ds n) ≡ bodyStops ds k n
   unfolding chainOver bodyStops
   stops-closed zero n h = absurd (false≢true (sym h))
   stops-closed (suc k) n h = stops-same (chainOver ds k) (bodyStops ds (suc k)) (bodyStops ds k) (stops-closed k) (bodyAct ds n) h

@@ -8,8 +8,8 @@ use native.Mathlib.Omega.{arith}
 use lib.ListN.{length}
 use Rattle.rules.specs.Text.Scan.{sameBytes}
 use Rattle.rules.specs.Selectors.{takes}
-use Rattle.rules.specs.Declarations.{Name, Table}
-use Rattle.rules.specs.Steps.Actions.{Act, seq, par, label, ins, Ins, iff, decode, repeat, leave, restart, call, stop, noop, transfer, Alts, end, alt}
+use Rattle.rules.specs.Declarations.{Word, Table}
+use Rattle.rules.specs.Steps.Actions.{Act, seq, par, label, ins, Ins, iff, decode, repeat, leave, restart, call, stop, noop, transfer, Alts, no-alts, alt}
 use Rattle.rules.specs.Steps.Control.{Live, one, seqL, both, left, right, labL, loopL, callL, start, leftmost}
 use Rattle.rules.specs.Steps.Control.{Sig, ends, goes, leaves, restarts, stops, faults, seqS, bothL, rightS, labS, loopS, choose, pickS, lost, callS, nextI, next}
 use Rattle.rules.specs.Steps.Runs.{bodyAct}
@@ -20,7 +20,7 @@ use Rattle.laws_orders.specs.Orders.Stands.{Stands}
 
 module _ (ds : Table) where
   -- none of some bodies begins a chain of over k
-  abbrev pub Short : ℕ → List Name → Type 0
+  abbrev pub Short : ℕ → List Word → Type 0
   Short k ns = anyName (chainOver ds k) ns ≡ false
 
   -- a residual of left to right in which activations go at most k deep
@@ -50,7 +50,7 @@ module _ (ds : Table) where
   start-chained k (label l a) h = (h, start-chained k a h)
   start-chained k (ins i) h = h
 
-  pub call-chained : (k : ℕ) (p : Name) → chainOver ds k p ≡ false → Chained k (callL p (start (bodyAct ds p)))
+  pub call-chained : (k : ℕ) (p : Word) → chainOver ds k p ≡ false → Chained k (callL p (start (bodyAct ds p)))
   unfolding chainOver
   call-chained zero p h = absurd (false≢true (sym h))
   call-chained (suc k) p h = (h, start-chained k (bodyAct ds p) h)
@@ -84,7 +84,7 @@ module _ (ds : Table) where
   caught-chained k x y true p q = p
   caught-chained k x y false p q = q
 
-  lab-chained : (k : ℕ) (l : Name) (a : Act) (x : Sig) → Short k (callsIn a) → ChainedS k x → ChainedS k (labS l a x)
+  lab-chained : (k : ℕ) (l : Word) (a : Act) (x : Sig) → Short k (callsIn a) → ChainedS k x → ChainedS k (labS l a x)
   lab-chained k l a ends h q = q
   lab-chained k l a (goes r) h q = (h, q)
   lab-chained k l a (leaves j) h q = caught-chained k ends (leaves j) (sameBytes j l) tt tt
@@ -101,7 +101,7 @@ module _ (ds : Table) where
   loop-chained k a stops h q = q
   loop-chained k a (faults m p) h q = q
 
-  callS-chained : (k : ℕ) (p : Name) (x : Sig) → Short k (callsIn (bodyAct ds p)) → ChainedS k x → ChainedS (suc k) (callS (bodyAct ds) p x)
+  callS-chained : (k : ℕ) (p : Word) (x : Sig) → Short k (callsIn (bodyAct ds p)) → ChainedS k x → ChainedS (suc k) (callS (bodyAct ds) p x)
   callS-chained k p ends h q = q
   callS-chained k p (goes r) h q = (h, q)
   callS-chained k p (leaves j) h q = caught-chained (suc k) ends lost (sameBytes j p) tt tt
@@ -112,7 +112,7 @@ module _ (ds : Table) where
 
   choose-chained : (k p : ℕ) (bs : Alts) (v : ℕ) → Short k (callsAlts bs) → ChainedS k (pickS p (choose bs v))
   unfolding callsAlts choose
-  choose-chained k p end v h = tt
+  choose-chained k p no-alts v h = tt
   choose-chained k p (alt c a bs) v h =
       let n = none-of (chainOver ds k) (callsIn a) (callsAlts bs) h in by (takes c v) (start-chained k a (n .0)) (choose-chained k p bs v (n .1))
     where

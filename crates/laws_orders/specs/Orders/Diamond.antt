@@ -3,7 +3,7 @@ use Prim.Native.Nat.{ℕ}
 use mathlib.Core.Path.{_≡_, refl, sym, _∙_, ap}
 use mathlib.Core.Bool.{false≢true}
 use mathlib.Core.Logic.{_⊎_, inl, inr}
-use Rattle.rules.specs.Declarations.{Name}
+use Rattle.rules.specs.Declarations.{Word}
 use Rattle.rules.specs.Steps.Actions.{Act}
 use Rattle.rules.specs.Steps.Control.{Live, one, seqL, both, left, right, labL, loopL, callL}
 use Rattle.rules.specs.Steps.Control.{Sig, ends, goes, leaves, restarts, stops, faults, Mv, work}
@@ -20,7 +20,7 @@ pub record Faulty (x : Sig) : Type 0 where
 faulty-by : (f : Sig → Sig) → ((m p : ℕ) → f (faults m p) ≡ faults m p) → (x y : Sig) → y ≡ f x → Faulty x → Faulty y
 faulty-by f k x y e h = record { number = h .number; place = h .place; is = e ∙ (ap f (h .is) ∙ k (h .number) (h .place)) }
 
-module _ (body : Name → Act) where
+module _ (body : Word → Act) where
   -- after the move m with the value v, the move k is still there, with the same work
   pub record After (r : Live) (m k : Mv r) (v : ℕ) : Type 0 where
     pub rest : Live
@@ -84,13 +84,13 @@ module _ (body : Name → Act) where
   inRight : Frame right rightS
   inRight = record { up = λ r m. m; work-up = λ r m. refl; next-up = λ r m v. refl; f-goes = λ r. refl; f-faults = λ m p. refl }
 
-  inLab : (l : Name) (a : Act) → Frame (labL l a) (labS l a)
+  inLab : (l : Word) (a : Act) → Frame (labL l a) (labS l a)
   inLab l a = record { up = λ r m. m; work-up = λ r m. refl; next-up = λ r m v. refl; f-goes = λ r. refl; f-faults = λ m p. refl }
 
   inLoop : (a : Act) → Frame (loopL a) (loopS a)
   inLoop a = record { up = λ r m. m; work-up = λ r m. refl; next-up = λ r m v. refl; f-goes = λ r. refl; f-faults = λ m p. refl }
 
-  inCall : (p : Name) → Frame (callL p) (callS body p)
+  inCall : (p : Word) → Frame (callL p) (callS body p)
   inCall p = record { up = λ r m. m; work-up = λ r m. refl; next-up = λ r m v. refl; f-goes = λ r. refl; f-faults = λ m p. refl }
 
   -- what a step of a member of a group of several can say

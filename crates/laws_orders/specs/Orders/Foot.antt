@@ -5,7 +5,7 @@ use mathlib.Core.Path.{_≡_}
 use mathlib.Core.Bool.{Bool, true, false, false≢true}
 use mathlib.Core.List.{List}
 use Rattle.rules.specs.Grammar.Precedence.{Expr}
-use Rattle.rules.specs.Declarations.{Name}
+use Rattle.rules.specs.Declarations.{Word}
 use Rattle.rules.specs.Steps.Actions.{Access}
 use Rattle.rules.specs.Steps.Control.{Work, moves, tests, nothing}
 
@@ -58,8 +58,8 @@ Sub·trans s t = record { reads = λ i p. t .reads i (s .reads i p); writes = λ
 
 -- what is declared: of a body its footprint and whether it may stop; of a transfer its footprint; of a test what it reads
 pub record Prints : Type 0 where
-  pub body : Name → Foot
-  pub stops : Name → Bool
+  pub body : Word → Foot
+  pub stops : Word → Bool
   pub move : List Access → Expr → Foot
   pub test : Expr → Cells
 

@@ -7,8 +7,8 @@ use mathlib.Core.Logic.{inl, inr}
 use mathlib.Core.Option.{Option, none, some}
 use Rattle.rules.specs.Text.Scan.{sameBytes}
 use Rattle.rules.specs.Selectors.{takes}
-use Rattle.rules.specs.Declarations.{Name}
-use Rattle.rules.specs.Steps.Actions.{Act, seq, par, label, ins, Ins, iff, decode, repeat, leave, restart, call, stop, noop, transfer, Alts, end, alt}
+use Rattle.rules.specs.Declarations.{Word}
+use Rattle.rules.specs.Steps.Actions.{Act, seq, par, label, ins, Ins, iff, decode, repeat, leave, restart, call, stop, noop, transfer, Alts, no-alts, alt}
 use Rattle.rules.specs.Steps.Control.{Live, one, seqL, both, left, right, labL, loopL, callL, start}
 use Rattle.rules.specs.Steps.Control.{Sig, ends, goes, leaves, restarts, stops, faults, Mv, workI, work}
 use Rattle.rules.specs.Steps.Control.{seqS, bothL, bothR, leftS, rightS, labS, loopS, choose, pickS, lost, callS, nextI, next}
@@ -18,16 +18,16 @@ use Rattle.laws_orders.specs.Orders.Foot.{Foot, Within, Sub, Indep, Prin
 pub record Env : Type 0 where
   pub foot : Foot
   pub mayStop : Bool
-  pub scope : List Name
+  pub scope : List Word
 
-abbrev pub under : Name → Env → Env
+abbrev pub under : Word → Env → Env
 under l E = record { foot = E .foot; mayStop = E .mayStop; scope = l ∷ E .scope }
 
 -- a member of a group of several may not stop, and may leave only what is inside it
 abbrev pub member : Foot → Env
 member F = record { foot = F; mayStop = false; scope = [] }
 
-abbrev pub In : Name → List Name → Type 0
+abbrev pub In : Word → List Word → Type 0
 In k [] = ⊥
 In k (l ∷ ls) = cond (sameBytes k l) (Unit {0}) (In k ls)
 
@@ -38,10 +38,10 @@ pub record Two (F G H : Foot) : Type 0 where
   pub apart : Indep G H
 
 module _ (P : Prints) where
-  abbrev pub inBody : Name → Env
+  abbrev pub inBody : Word → Env
   inBody p = record { foot = P .body p; mayStop = P .stops p; scope = p ∷ [] }
 
-  pub record Calls (E : Env) (p : Name) : Type 0 where
+  pub record Calls (E : Env) (p : Word) : Type 0 where
     pub foot : Sub (P .body p) (E .foot)
     pub stopping : P .stops p ≡ true → E .mayStop ≡ true
 
@@ -64,7 +64,7 @@ module _ (P : Prints) where
     OkI E (transfer d e) = Sub (P .move d e) (E .foot)
 
     pub OkAlts : Env → Alts → Type 0
-    OkAlts E end = Unit {0}
+    OkAlts E no-alts = Unit {0}
     OkAlts E (alt c a bs) = OkA E a × OkAlts E bs
 
   abbrev pub OkL : Env → Live → Type 0
@@ -139,7 +139,7 @@ module _ (P : Prints) where
   caught E x y A true h f k = h
   caught E x y A false h f k = f k
 
-  labS-ok : (E : Env) (l : Name) (a : Act) → OkA (under l E) a → (x : Sig) → OkS (under l E) x → OkS E (labS l a x)
+  labS-ok : (E : Env) (l : Word) (a : Act) → OkA (under l E) a → (x : Sig) → OkS (under l E) x → OkS E (labS l a x)
   labS-ok E l a h ends k = k
   labS-ok E l a h (goes r) k = (h, k)
   labS-ok E l a h (leaves j) k = caught E ends (leaves j) (In j (E .scope)) (sameBytes j l) tt (λ m. m) k
@@ -167,7 +167,7 @@ module _ (P : Prints) where
 
   choose-ok : (E : Env) (bs : Alts) (v : ℕ) → OkAlts E bs → OkO E (choose bs v)
   unfolding choose
-  choose-ok E end v h = tt
+  choose-ok E no-alts v h = tt
   choose-ok E (alt c a bs) v h = cond-ok E a (choose bs v) (takes c v) (h .0) (choose-ok E bs v (h .1))
 
   pickS-ok : (E : Env) (p : ℕ) (o : Option Act) → OkO E o → OkS E (pickS p o)
@@ -198,16 +198,16 @@ module _ (P : Prints) where
   work-sub E (loopL a r) m h = work-sub E r m (h .1)
   work-sub E (callL p r) m h = Sub·trans (work-sub (inBody p) r m (h .1)) (h .0 .foot)
 
-  module _ (body : Name → Act) where
+  module _ (body : Word → Act) where
     -- the bodies are well formed in their declared footprints
     abbrev pub BodiesOk : Type 0
-    BodiesOk = (p : Name) → OkA (inBody p) (body p)
+    BodiesOk = (p : Word) → OkA (inBody p) (body p)
 
     module _ (bodies : BodiesOk) where
-      pub call-ok : (E : Env) (p : Name) → Calls E p → OkL E (callL p (start (body p)))
+      pub call-ok : (E : Env) (p : Word) → Calls E p → OkL E (callL p (start (body p)))
       call-ok E p c = (c, start-ok (inBody p) (body p) (bodies p))
 
-      callS-ok : (E : Env) (p : Name) → Calls E p → (x : Sig) → OkS (inBody p) x → OkS E (callS body p x)
+      callS-ok : (E : Env) (p : Word) → Calls E p → (x : Sig) → OkS (inBody p) x → OkS E (callS body p x)
       callS-ok E p c ends k = k
       callS-ok E p c (goes r) k = (c, k)
       callS-ok E p c (leaves j) k = caught E ends lost ⊥ (sameBytes j p) tt (λ m. tt) k

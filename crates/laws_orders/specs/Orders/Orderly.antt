@@ -1,28 +1,28 @@
 -- What rows 44, 51, 52 and 53 leave of a description, said of its actions as they run: chains are short, jumps aim inside, members of a group neither
 -- jump out, nor stop, nor race.
 use mathlib.Core.Path.{_≡_}
-use mathlib.Core.Bool.{Bool, true, false}
+use mathlib.Core.Bool.{true, false}
 use mathlib.Core.List.{List, [], _∷_, _++_}
 use Rattle.rules.specs.Text.Scan.{sameBytes}
-use Rattle.rules.specs.Declarations.{Name, Table}
-use Rattle.rules.specs.Steps.Actions.{Act, seq, par, label, ins, Ins, iff, decode, repeat, leave, restart, call, stop, noop, transfer, Alts, end, alt}
+use Rattle.rules.specs.Declarations.{Word, Table}
+use Rattle.rules.specs.Steps.Actions.{Act, seq, par, label, ins, Ins, iff, decode, repeat, leave, restart, call, stop, noop, transfer, Alts, no-alts, alt}
 use Rattle.rules.specs.Steps.Runs.{bodyAct}
 use Rattle.rules.specs.Whole.Sets.{touched, race, mayStop, chainOver}
 use Rattle.rules.specs.Limits.{longestChain}
 
 -- the targets of LEAVE and RESTART that lie outside an action
-unfoldable pub without : Name → List Name → List Name
+unfoldable pub without : Word → List Word → List Word
 without l [] = []
 without l (n ∷ ns) = elim (sameBytes n l) [ true ↦ without l ns | false ↦ n ∷ without l ns ]
 
 unfoldable mutual
-  pub jumpsOut : Act → List Name
+  pub jumpsOut : Act → List Word
   jumpsOut (seq a b) = jumpsOut a ++ jumpsOut b
   jumpsOut (par a b) = jumpsOut a ++ jumpsOut b
   jumpsOut (label l a) = without l (jumpsOut a)
   jumpsOut (ins i) = jumpsI i
 
-  pub jumpsI : Ins → List Name
+  pub jumpsI : Ins → List Word
   jumpsI (iff e a) = jumpsOut a
   jumpsI (decode p e bs) = jumpsAlts bs
   jumpsI (repeat a) = jumpsOut a
@@ -33,8 +33,8 @@ unfoldable mutual
   jumpsI noop = []
   jumpsI (transfer d e) = []
 
-  pub jumpsAlts : Alts → List Name
-  jumpsAlts end = []
+  pub jumpsAlts : Alts → List Word
+  jumpsAlts no-alts = []
   jumpsAlts (alt c a bs) = jumpsOut a ++ jumpsAlts bs
 
 module _ (ds : Table) where
@@ -66,11 +66,11 @@ module _ (ds : Table) where
     AllApartI (transfer d e) = Unit {0}
 
     pub AllApartAlts : Alts → Type 0
-    AllApartAlts end = Unit {0}
+    AllApartAlts no-alts = Unit {0}
     AllApartAlts (alt c a bs) = AllApart a × AllApartAlts bs
 
   -- of every name: the chains of its body, its jumps and its groups
   pub record Orderly : Type 0 where
-    pub chains : (n : Name) → chainOver ds longestChain n ≡ false
-    pub jumps : (n : Name) → without n (jumpsOut (bodyAct ds n)) ≡ []
-    pub groups : (n : Name) → AllApart (bodyAct ds n)
+    pub chains : (n : Word) → chainOver ds longestChain n ≡ false
+    pub jumps : (n : Word) → without n (jumpsOut (bodyAct ds n)) ≡ []
+    pub groups : (n : Word) → AllApart (bodyAct ds n)

@@ -8,7 +8,7 @@ use native.Mathlib.Omega.{arith}
 use lib.Dec.{leb, ltb}
 use lib.ListN.{getElem?}
 use borrow.Author.Tests.{leb-true, leb-false, lt-ltb, le-ltb}
-use Rattle.rules.specs.Declarations.{Name, Names, howMany, fromLeft, BitNames, Target, Declared, Table, numberOf, storageWords, wordsOf, firstWord}
+use Rattle.rules.specs.Declarations.{Word, Names, howMany, fromLeft, BitNames, Target, Declared, Table, numberOf, storageWords, wordsOf, firstWord}
 use Rattle.rules.specs.Declarations.{lowBit, Reach, reachStorage, reachOn, reachUnder, reachOf, reachNumber, reach}
 use Rattle.rules.specs.Steps.Evaluation.{gives, wordOr70, wordOf}
 use Rattle.laws_orders.specs.Orders.Tests.{impossible}
@@ -131,7 +131,7 @@ number-lies ds (some i) r h = by (getElem? ds i) refl h
     by (some d) e z = declared-lies ds i d (d .target) r e refl z
 
 -- A word that an access comes to belongs to the carrier that the name is counted for, also under a mapping.
-pub owned : (ds : Table) (n : Name) (r : Reach) (p v k : ℕ) → reach ds n ≡ some r → wordOf p (r .words) v ≡ gives k → ownerAt ds (r .first + k) ≡ r .owner
+pub owned : (ds : Table) (n : Word) (r : Reach) (p v k : ℕ) → reach ds n ≡ some r → wordOf p (r .words) v ≡ gives k → ownerAt ds (r .first + k) ≡ r .owner
 unfolding reach
 owned ds n r p v k h w =
     let l : Lies ds r = number-lies ds (numberOf ds n) r h in

@@ -5,7 +5,7 @@ use mathlib.Core.Bool.{false}
 use mathlib.Core.List.{List, []}
 use native.Mathlib.Omega.{arith}
 use lib.ListN.{length}
-use Rattle.rules.specs.Declarations.{Name, Table}
+use Rattle.rules.specs.Declarations.{Word, Table}
 use Rattle.rules.specs.Steps.Actions.{ins, Ins}
 use Rattle.rules.specs.Steps.Control.{Live, one, seqL, both, left, right, labL, loopL, callL, start, leftmost}
 use Rattle.rules.specs.Steps.Control.{Sig, ends, goes, leaves, restarts, stops, faults, next}
@@ -57,7 +57,7 @@ module _ (ds : Table) (C : Code) where
   said (faults x p) m n σ e h q = impossible (cc)
 
   module _ (bodies : HoldsBodies C (bodyAct ds)) where
-    pub place-first : (n : Name) → chainOver ds longestChain n ≡ false → Place (C .first n) []
+    pub place-first : (n : Word) → chainOver ds longestChain n ≡ false → Place (C .first n) []
     place-first n h =
         record {
           rest = callL n (start (bodyAct ds n));

@@ -2,7 +2,7 @@
 use Prim.Native.Nat.{ℕ, zero, suc}
 use mathlib.Core.Path.{_≡_, refl, ap}
 use mathlib.Core.List.{List, []}
-use Rattle.rules.specs.Declarations.{Name, Table}
+use Rattle.rules.specs.Declarations.{Word, Table}
 use Rattle.rules.specs.Steps.Evaluation.{Carriers, Outcome, gives, faulty}
 use Rattle.rules.specs.Steps.Control.{Live, callL, start, leftmost}
 use Rattle.rules.specs.Steps.Control.{Sig, ends, goes, leaves, restarts, stops, faults, next}
@@ -72,6 +72,6 @@ module _ (C : Code) where
         by (failed x p u) m ih q = rw q
 
     -- A code that holds the bodies does, from the first instruction of a body and with an empty stack, just what the run of that body does.
-    pub machine-agrees : (n : Name) (b : ℕ) (s : Carriers) → runM ds C b 0 (C .first n) [] s ≡ run ds n b s
+    pub machine-agrees : (n : Word) (b : ℕ) (s : Carriers) → runM ds C b 0 (C .first n) [] s ≡ run ds n b s
     unfolding run begin
     machine-agrees n b s = from-agrees b 0 (callL n (start (bodyAct ds n))) s (C .first n) [] (call-stands C (bodyAct ds) bodies outer exit [] n)

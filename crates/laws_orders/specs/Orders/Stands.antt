@@ -6,8 +6,8 @@ use mathlib.Core.List.{List}
 use mathlib.Core.Option.{Option, none, some}
 use Rattle.rules.specs.Text.Scan.{sameBytes}
 use Rattle.rules.specs.Selectors.{takes}
-use Rattle.rules.specs.Declarations.{Name}
-use Rattle.rules.specs.Steps.Actions.{Act, seq, par, label, ins, Ins, iff, decode, repeat, leave, restart, call, stop, noop, transfer, Alts, end, alt}
+use Rattle.rules.specs.Declarations.{Word}
+use Rattle.rules.specs.Steps.Actions.{Act, seq, par, label, ins, Ins, iff, decode, repeat, leave, restart, call, stop, noop, transfer, Alts, no-alts, alt}
 use Rattle.rules.specs.Steps.Control.{Live, one, seqL, both, left, right, labL, loopL, callL, start, leftmost, workI, work}
 use Rattle.rules.specs.Steps.Control.{Sig, ends, goes, leaves, restarts, stops, faults, seqS, bothL, rightS, labS, loopS, choose, pickS, lost, callS, nextI, next}
 use Rattle.laws_orders.specs.Cited.Flat.{Link, at, exit, Entries, Code, At, pc, halt, broken, go, push, find, picked, workM, nextM}
@@ -86,7 +86,7 @@ module _ (C : Code) where
   jump-says ρ k τ x y u o σ m false f g q = g q
 
   lab-says :
-      (ρ : Labels) (k : Link) (τ : List ℕ) (l : Name) (a : Act) (f : ℕ) (x : Sig) (m : At) → Holds C (bind l f k ρ) f k a
+      (ρ : Labels) (k : Link) (τ : List ℕ) (l : Word) (a : Act) (f : ℕ) (x : Sig) (m : At) → Holds C (bind l f k ρ) f k a
       → Says (bind l f k ρ) k τ x m → Says ρ k τ (labS l a x) m
   unfolding leaveTo restartTo
   lab-says ρ k τ l a f ends m h q = q
@@ -118,7 +118,7 @@ module _ (C : Code) where
       (ρ : Labels) (k : Link) (τ : List ℕ) (p : ℕ) (t : Entries) (bs : Alts) (v : ℕ) → HoldsAlts C ρ t k bs
       → Says ρ k τ (pickS p (choose bs v)) (picked p τ (find t v))
   unfolding choose find
-  find-says ρ k τ p t end v h = rw h refl
+  find-says ρ k τ p t no-alts v h = rw h refl
   find-says ρ k τ p t (alt c a bs) v h =
       rw (h .2) (pick-says ρ k τ p a (h .0) (takes c v) (choose bs v) (find (h .1) v) (h .3) (find-says ρ k τ p (h .1) bs v (h .4)))
 
@@ -154,12 +154,12 @@ module _ (C : Code) where
   jumped none n τ v h = h
   jumped (some k) n τ v h = rw h
 
-  module _ (body : Name → Act) (bodies : HoldsBodies C body) where
-    pub call-stands : (ρ : Labels) (k : Link) (τ : List ℕ) (p : Name) → Stands ρ k τ (callL p (start (body p))) (C .first p) (push k τ)
+  module _ (body : Word → Act) (bodies : HoldsBodies C body) where
+    pub call-stands : (ρ : Labels) (k : Link) (τ : List ℕ) (p : Word) → Stands ρ k τ (callL p (start (body p))) (C .first p) (push k τ)
     call-stands ρ k τ p = start-stands (body p) (ownLabel C p) (C .first p) exit (push k τ) (bodies p)
 
     call-says :
-        (ρ : Labels) (k : Link) (τ : List ℕ) (p : Name) (x : Sig) (m : At)
+        (ρ : Labels) (k : Link) (τ : List ℕ) (p : Word) (x : Sig) (m : At)
         → Says (ownLabel C p) exit (push k τ) x m → Says ρ k τ (callS body p x) m
     unfolding leaveTo restartTo
     call-says ρ k τ p ends m q = q ∙ pushed k τ

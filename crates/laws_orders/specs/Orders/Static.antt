@@ -6,8 +6,8 @@ use mathlib.Core.List.{List, [], _∷_, _++_}
 use mathlib.Core.Logic.{_⊎_, inl, inr}
 use Rattle.rules.specs.Text.Scan.{sameBytes}
 use Rattle.rules.specs.Grammar.Precedence.{Expr}
-use Rattle.rules.specs.Declarations.{Name, Table}
-use Rattle.rules.specs.Steps.Actions.{Act, seq, par, label, ins, Ins, iff, decode, repeat, leave, restart, call, stop, noop, transfer, Alts, end, alt}
+use Rattle.rules.specs.Declarations.{Word, Table}
+use Rattle.rules.specs.Steps.Actions.{Act, seq, par, label, ins, Ins, iff, decode, repeat, leave, restart, call, stop, noop, transfer, Alts, no-alts, alt}
 use Rattle.rules.specs.Steps.Runs.{bodyAct}
 use Rattle.rules.specs.Whole.Sets.{Sets, sets, union, member, race, meet, readsOf, setsOf, setsI, setsAlts, bodySets, touched}
 use Rattle.rules.specs.Limits.{longestChain}
@@ -22,20 +22,20 @@ use Rattle.laws_orders.specs.Orders.Carriers.{footOf, printsOf}
 use Rattle.laws_orders.specs.Orders.Chains.{sets-closed, stops-closed}
 
 -- every one of some names is among the labels
-abbrev AllIn : List Name → List Name → Type 0
+abbrev AllIn : List Word → List Word → Type 0
 AllIn ls [] = Unit {0}
 AllIn ls (k ∷ ks) = In k ls × AllIn ls ks
 
-all-left : (ls xs ys : List Name) → AllIn ls (xs ++ ys) → AllIn ls xs
+all-left : (ls xs ys : List Word) → AllIn ls (xs ++ ys) → AllIn ls xs
 all-left ls [] ys h = tt
 all-left ls (x ∷ xs) ys h = (h .0, all-left ls xs ys (h .1))
 
-all-right : (ls xs ys : List Name) → AllIn ls (xs ++ ys) → AllIn ls ys
+all-right : (ls xs ys : List Word) → AllIn ls (xs ++ ys) → AllIn ls ys
 all-right ls [] ys h = h
 all-right ls (x ∷ xs) ys h = all-right ls xs ys (h .1)
 
 -- inside a label, the jumps to it may be made too
-all-inside : (l : Name) (ls ks : List Name) → AllIn ls (without l ks) → AllIn (l ∷ ls) ks
+all-inside : (l : Word) (ls ks : List Word) → AllIn ls (without l ks) → AllIn (l ∷ ls) ks
 unfolding without
 all-inside l ls [] h = tt
 all-inside l ls (k ∷ ks) h = by (sameBytes k l) (all-inside l ls ks) h
@@ -50,9 +50,9 @@ all-inside l ls (k ∷ ks) h = by (sameBytes k l) (all-inside l ls ks) h
 record Deeds : Type 0 where
   touches : Sets
   stops : Bool
-  jumps : List Name
+  jumps : List Word
 
-abbrev deeds : Sets → Bool → List Name → Deeds
+abbrev deeds : Sets → Bool → List Word → Deeds
 deeds x b js = record { touches = x; stops = b; jumps = js }
 
 infixl 60 _with_
@@ -118,7 +118,7 @@ module _ (ds : Table) where
   fits-member x e n =
       record { within = Sub·refl (footOf ds (x .touches)); stopping = λ p. absurd (false≢true (sym e ∙ p)); jumping = subst (AllIn []) (sym n) tt }
 
-  fits-label : (l : Name) (x : Deeds) (E : Env) → Fits (deeds (x .touches) (x .stops) (without l (x .jumps))) E → Fits x (under l E)
+  fits-label : (l : Word) (x : Deeds) (E : Env) → Fits (deeds (x .touches) (x .stops) (without l (x .jumps))) E → Fits x (under l E)
   fits-label l x E f = record { within = f .within; stopping = f .stopping; jumping = all-inside l (E .scope) (x .jumps) (f .jumping) }
 
   -- a test reads, and does nothing else
@@ -168,7 +168,7 @@ module _ (ds : Table) where
     fitsI-ok (transfer d e) E g f = f .within
 
     fitsAlts-ok : (bs : Alts) (E : Env) → AllApartAlts ds bs → Fits (deedsAlts bs) E → OkAlts (printsOf ds) E bs
-    fitsAlts-ok end E g f = tt
+    fitsAlts-ok no-alts E g f = tt
     fitsAlts-ok (alt c a bs) E g f =
         (fits-ok a E (g .0) (fits-left (deedsOf a) (deedsAlts bs) E f), fitsAlts-ok bs E (g .1) (fits-right (deedsOf a) (deedsAlts bs) E f))
 

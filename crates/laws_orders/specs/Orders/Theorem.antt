@@ -4,15 +4,15 @@ use mathlib.Core.Path.{_≡_, refl}
 use mathlib.Core.Bool.{true}
 use mathlib.Core.List.{[]}
 use native.Mathlib.Omega.{arith}
-use Rattle.rules.specs.Declarations.{Name, Table}
+use Rattle.rules.specs.Declarations.{Word, Table}
 use Rattle.rules.specs.Steps.Evaluation.{Carriers}
 use Rattle.rules.specs.Steps.Control.{Live, callL, start}
 use Rattle.rules.specs.Steps.Runs.{Conf, running, finished, stopped, failed, Steps, bodyAct, begin, Run, run}
 use Rattle.laws_orders.specs.Orders.Foot.{Prints, Sub·refl}
 use Rattle.laws_orders.specs.Orders.Ok.{Env, OkL, BodiesOk, call-ok}
 use Rattle.laws_orders.specs.Orders.Effect.{Frames}
-use Rattle.laws_orders.specs.Orders.Ends.{end-ended}
-use Rattle.rules.specs.Steps.Orders.{Ended, EndsWell, endOf, EveryOrder}
+use Rattle.laws_orders.specs.Orders.Ends.{end-ended, EndsWell}
+use Rattle.rules.specs.Steps.Orders.{Ended, endOf, EveryOrder}
 use Rattle.laws_orders.specs.Orders.Descent.{allowed, every, leftward, fault-stuck}
 use Rattle.laws_orders.specs.Orders.Budget.{Took, took, ends-well}
 
@@ -24,7 +24,7 @@ ended-still ds (suc j) (finished s) d h e = absurd e
 ended-still ds (suc j) (stopped s) d h e = absurd e
 ended-still ds (suc j) (failed m p s) d h e = absurd h
 
-module _ {ds : Table} {P : Prints} (M : Frames ds P) (bodies : BodiesOk P (bodyAct ds)) (n : Name) (b : ℕ) (s : Carriers) where
+module _ {ds : Table} {P : Prints} (M : Frames ds P) (bodies : BodiesOk P (bodyAct ds)) (n : Word) (b : ℕ) (s : Carriers) where
   abbrev first : Live
   first = callL n (start (bodyAct ds n))
 

@@ -12,7 +12,7 @@ use Rattle.cells.specs.Cells.{cell}
 use Rattle.rules.specs.Text.Tokens.{Token}
 use Rattle.rules.specs.Grammar.Trees.{Tokens, Action, Declaration, Description}
 use Rattle.rules.specs.Limits.{deepest}
-use Rattle.rules.specs.Declarations.{Name as Word, Table, declaredOf, declarations, outerName}
+use Rattle.rules.specs.Declarations.{Word, Table, declaredOf, declarations, outerName}
 use Rattle.laws_grammar.specs.Grammar.Heads.{action-head}
 use Rattle.laws_orders.specs.Cited.Flat.{exit, outer, bind}
 use Rattle.laws_code.specs.Cited.Code.{actionSize, firstOf}

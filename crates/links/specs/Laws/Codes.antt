@@ -8,7 +8,7 @@ use mathlib.Core.Option.{Option, none, some}
 use native.Mathlib.Omega.{arith}
 use lib.ListN.{length, getElem?}
 use Rattle.rules.specs.Grammar.Trees.{Tokens, Action, Declaration}
-use Rattle.rules.specs.Declarations.{Name as Word, Declared, Table, declaredOf}
+use Rattle.rules.specs.Declarations.{Word, Declared, Table, declaredOf}
 use Rattle.laws_orders.specs.Orders.Tests.{impossible}
 use Rattle.laws_orders.specs.Cited.Flat.{exit, outer, bind}
 use Rattle.laws_code.specs.Cited.Code.{Numbered, firstOf}

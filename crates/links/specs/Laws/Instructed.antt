@@ -9,7 +9,7 @@ use native.Mathlib.Omega.{arith}
 use lib.ListN.{length, getElem?}
 use Rattle.cells.specs.Cells.{cell}
 use Rattle.rules.specs.Grammar.Trees.{Tokens, Action, Declaration, Description, flatten}
-use Rattle.rules.specs.Declarations.{Name as Word, Declared, Table, declaredOf, declarations, outerName, numberOf, bodyNumber, bodyOf}
+use Rattle.rules.specs.Declarations.{Word, Declared, Table, declaredOf, declarations, outerName, numberOf, bodyNumber, bodyOf}
 use Rattle.rules.specs.Limits.{mostDeclarations, deepest}
 use Rattle.rules.specs.Faults.Bodies.{labels, labelFaults, actionFaults, declaredNames, bodyFaults, faults40}
 use Rattle.laws_grammar.specs.Cited.Nesting.{actionNest}

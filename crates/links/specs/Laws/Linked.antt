@@ -7,7 +7,7 @@ use native.Mathlib.Omega.{arith}
 use lib.ListN.{length}
 use Rattle.rules.specs.Text.Tokens.{Info, tk, Arrow, BEGIN, Becomes, END}
 use Rattle.rules.specs.Grammar.Trees.{Tokens, Operand, operandTokens, Tail, tailTokens, Action, block, labelled, if-then, decode, repeat, leave, restart, activate, stop, no-op, transfer, actionTokens, Members, end, also, next, membersTokens, Alternatives, counted, selected, alternativesTokens, Counted, counted-end, counted-more, countedTokens, Selected, select, otherwise, selectedTokens, SelectedMore, selected-end, selected-more, selectedMoreTokens}
-use Rattle.rules.specs.Declarations.{Name as Word, Table}
+use Rattle.rules.specs.Declarations.{Word, Table}
 use Rattle.laws_grammar.specs.Grammar.Positions.{operand-writes, tail-writes, selector-writes, action-writes}
 use Rattle.laws_orders.specs.Cited.Flat.{Link, at, Labels}
 use Rattle.laws_code.specs.Cited.Code.{size, actionSize, exprSize, selectorSize, behindTest}

@@ -9,7 +9,7 @@ use native.Mathlib.Numerals.{add-one}
 use lib.ListN.{length, drop}
 use Rattle.rules.specs.Text.Tokens.{Token, tk, Semi, BEGIN, END, NEXT, kindNo}
 use Rattle.rules.specs.Grammar.Trees.{Tokens, Action, actionTokens, Members, end, also, next, membersTokens}
-use Rattle.rules.specs.Declarations.{Name as Word, Table}
+use Rattle.rules.specs.Declarations.{Word, Table}
 use Rattle.rules.specs.Whole.Sets.{member}
 use Rattle.laws_grammar.specs.Cited.Heads.{headKind}
 use Rattle.laws_grammar.specs.Cited.Nesting.{actionNest, membersNest}

@@ -8,7 +8,7 @@ use mathlib.Core.Option.{some}
 use native.Mathlib.Omega.{arith}
 use lib.ListN.{getElem?}
 use Rattle.rules.specs.Text.Scan.{sameBytes}
-use Rattle.rules.specs.Declarations.{Name as Word, Declared, Table, numberFrom, numberOf}
+use Rattle.rules.specs.Declarations.{Word, Declared, Table, numberFrom, numberOf}
 use Rattle.rules.specs.Faults.Fault.{when}
 use Rattle.rules.specs.Faults.Declared.{isKnown, twice, large, tooMany, mappings, faults30}
 use Rattle.laws_orders.specs.Orders.Tests.{impossible, or-neither}

@@ -9,7 +9,7 @@ use lib.ListN.{length}
 use Rattle.rules.specs.Text.Tokens.{Name, tk}
 use Rattle.rules.specs.Text.Scan.{plainInfo, scan}
 use Rattle.rules.specs.Grammar.Trees.{Tokens, Action, Description}
-use Rattle.rules.specs.Declarations.{Name as Word, declarations, outerName, bodyOf, totalWords}
+use Rattle.rules.specs.Declarations.{Word, declarations, outerName, bodyOf, totalWords}
 use Rattle.rules.specs.Faults.Fault.{Fault, byPlace, byNumber, least}
 use Rattle.rules.specs.Faults.Declared.{faults30}
 use Rattle.rules.specs.Limits.{mostDeclarations}

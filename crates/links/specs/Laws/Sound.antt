@@ -15,7 +15,7 @@ use Rattle.rules.specs.Text.Scan.{sameBytes}
 use Rattle.rules.specs.Grammar.Trees.{Tokens, Bits, all-bits, bits, bitsTokens, Subscript, no-subscript, subscript, subscriptTokens, Joined, alone, joined, joinedTokens, Operand, operandTokens, Tail, tailTokens, Action, block, labelled, if-then, decode, repeat, leave, restart, activate, stop, no-op, transfer, actionTokens, Members, end, also, next, membersTokens, Alternatives, counted, selected, alternativesTokens, Counted, counted-end, counted-more, countedTokens, Selected, select, otherwise, selectedTokens, SelectedMore, selected-end, selected-more, selectedMoreTokens}
 use Rattle.rules.specs.Grammar.Precedence.{exprOf}
 use Rattle.rules.specs.Selectors.{Case, numbered, listed, otherwise as any-value, selectorItems}
-use Rattle.rules.specs.Declarations.{Name as Word, Declared, Table, numberOf, reach}
+use Rattle.rules.specs.Declarations.{Word, Declared, Table, numberOf, reach}
 use Rattle.rules.specs.Faults.Fault.{Fault, fault, when}
 use Rattle.rules.specs.Faults.Declared.{declaredAt}
 use Rattle.rules.specs.Limits.{mostDeclarations, deepest}

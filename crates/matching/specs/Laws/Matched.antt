@@ -5,7 +5,7 @@ use mathlib.Core.Path.{_≡_, sym, _∙_, ap, subst}
 use mathlib.Core.List.{List, [], map}
 use mathlib.Core.Option.{some}
 use lib.ListN.{length}
-use Rattle.rules.specs.Declarations.{Name, Table}
+use Rattle.rules.specs.Declarations.{Word, Table}
 use Rattle.rules.specs.Steps.Evaluation.{Carriers}
 use Rattle.rules.specs.Stores.{Entry, TraceAnswer}
 use Rattle.traces.specs.Cited.Marking.{at, never}
@@ -25,6 +25,6 @@ module _ {k : List Frame} {es gs : List Event} (t : Tracks k es gs) (l : List En
   same-answer = ap (λ z. answerIn z (length l)) (v .is) ∙ sym (tracks-answer l t (length l))
 
   -- So where that one decides about the list, this one does.
-  pub room-decides : (ds : Table) (n : Name) (b : ℕ) (s : Carriers) → TraceAnswer ds n b s l (answerOf (tellAll es (state (map some l) (at 0) never [])) (length l))
+  pub room-decides : (ds : Table) (n : Word) (b : ℕ) (s : Carriers) → TraceAnswer ds n b s l (answerOf (tellAll es (state (map some l) (at 0) never [])) (length l))
       → TraceAnswer ds n b s l (answerIn (matchingIn l room) (length l))
   room-decides ds n b s d = subst (TraceAnswer ds n b s l) (sym same-answer) d

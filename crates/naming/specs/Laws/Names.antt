@@ -11,8 +11,7 @@ use lib.ListN.{length, drop, getElem?, drop-of-length-le}
 use Rattle.cells.specs.Cells.{cell}
 use Rattle.rules.specs.Text.Tokens.{Token}
 use Rattle.rules.specs.Text.Scan.{sameBytes}
-use Rattle.rules.specs.Grammar.Trees.{Action}
-use Rattle.rules.specs.Declarations.{Name as Word, BitNames, one-unnamed, these, Target, Declared, declaredOf, Table, numberFrom, numberOf, bodyNumber, bodyOf}
+use Rattle.rules.specs.Declarations.{Word, BitNames, one-unnamed, these, Target, Declared, declaredOf, Table, numberFrom, numberOf, bodyNumber, bodyOf}
 use Rattle.rules.specs.Paths.{folded, storageOf, storageAt, ifDeclared, ifStorage}
 use Rattle.table.specs.Holds.{sizeByte, placeCell, foldedAt}
 use Rattle.table.specs.Words.{NameAt, wordAt}

@@ -1,5 +1,5 @@
 -- What stays shown while flags, frames and labels are written.
-use Prim.Native.Nat.{ℕ, min, _+_, _*_, _-_, _<_, _≤_}
+use Prim.Native.Nat.{ℕ, min, _+_, _*_, _<_, _≤_}
 use mathlib.Core.Path.{_≡_, refl, sym, ap, _∙_, subst}
 use mathlib.Core.Bool.{Bool, true, false, cond, not, _||_, _&&_, false≢true, and-false}
 use mathlib.Core.List.{List, [], _∷_, _++_, append-nil}

@@ -13,7 +13,7 @@ use Rattle.rules.specs.Limits.{mostTokens}
 use Rattle.rules.specs.Grammar.Trees.{Tokens, Bits, all-bits, bits, bitsTokens, bitsEndTokens, Operand, operandTokens, Tail, tailTokens, Subscript, no-subscript, subscript, subscriptTokens}
 use Rattle.rules.specs.Grammar.Precedence.{Index, no-index, indexOf, exprOf}
 use Rattle.rules.specs.Values.{Value}
-use Rattle.rules.specs.Declarations.{Name as Word, Names, BitNames, Declared, Table, numberOf, Reach, accessLow, accessBits}
+use Rattle.rules.specs.Declarations.{Word, Names, BitNames, Declared, Table, numberOf, Reach, accessLow, accessBits}
 use Rattle.rules.specs.Steps.Actions.{access}
 use Rattle.rules.specs.Steps.Evaluation.{Outcome, gives, then, Field, wordOf, fieldIn, fieldOf, evaluateIndex, evaluateAccess}
 use Rattle.rules.specs.Faults.Fault.{Fault, when}

@@ -14,7 +14,7 @@ use Rattle.cells.specs.Cells as bytes
 use Rattle.cells.specs.Cells.{leAt}
 use Rattle.table.specs.Holds.{valueCell}
 use Rattle.rules.specs.Grammar.Trees.{Bits}
-use Rattle.rules.specs.Declarations.{Name, Names, fromLeft, BitNames, Target, Declared, Table, numberOf, Reach, reachStorage, reachOf, reachNumber, reach, accessLow, accessBits}
+use Rattle.rules.specs.Declarations.{Word, Names, fromLeft, BitNames, Target, Declared, Table, numberOf, Reach, reachStorage, reachOf, reachNumber, reach, accessLow, accessBits}
 use Rattle.rules.specs.Limits.{largestName, mostBits}
 use Rattle.rules.specs.Steps.Evaluation.{wordOr70, wordOf}
 use Rattle.laws_orders.specs.Orders.Tests.{impossible}
@@ -80,13 +80,13 @@ pub record Named (w : Option Names) : Type 0 where
   pub left : leftName w ≤ largestName
   pub right : rightName w ≤ largestName
 
-module _ {outer : Name} {ds : Table} (h : Declares outer ds) where
+module _ {outer : Word} {ds : Table} (h : Declares outer ds) where
   bitless : (i : ℕ) (d : Declared) (o : Option Target) → d .bits ≡ none → reachOf ds i d o ≡ none
   unfolding reachOf reachStorage
   bitless i d none e = rw e refl
   bitless i d (some t) e = rw e refl
 
-  pub words-named : (n : Name) (r : Reach) → reach ds n ≡ some r → Named (r .words)
+  pub words-named : (n : Word) (r : Reach) → reach ds n ≡ some r → Named (r .words)
   unfolding reach reachNumber
   words-named n r e = number (numberOf ds n) e
     where
@@ -109,7 +109,7 @@ module _ {outer : Name} {ds : Table} (h : Declares outer ds) where
       number none z = impossible (cc)
       number (some i) z = at i (getElem? ds i) refl z
 
-  first-small : (n : Name) (r : Reach) → reach ds n ≡ some r → r .first < 2 ^ 16
+  first-small : (n : Word) (r : Reach) → reach ds n ≡ some r → r .first < 2 ^ 16
   unfolding wordOf wordOr70
   first-small n r e = by (r .words) refl
     where
@@ -119,7 +119,7 @@ module _ {outer : Name} {ds : Table} (h : Declares outer ds) where
           omega (arith, few-words h, reach-inside h n r 0 (s .left) 0 e (ap (λ (w : Option Names). wordOf 0 w (s .left)) q ∙ ap (wordOr70 0) (left-first s)))
 
   -- the cell of a name that reaches r, and bits inside a word
-  pub cell-parts : (n : Name) (r : Reach) (b : Bits) → reach ds n ≡ some r → accessLow r b + accessBits r b ≤ mostBits → Parts (accessCell r b) r b
+  pub cell-parts : (n : Word) (r : Reach) (b : Bits) → reach ds n ≡ some r → accessLow r b + accessBits r b ≤ mostBits → Parts (accessCell r b) r b
   cell-parts n r b e fits =
       let w = words-named n r e in
       parts r b (first-small n r e) (omega arith) (omega arith) (omega (arith, w .left)) (omega (arith, w .right))

@@ -12,7 +12,7 @@ use Rattle.rules.specs.Text.Tokens.{Kind, Name, Const, LPar, RPar, NOT, kindNo,
 use Rattle.rules.specs.Grammar.Trees.{Tokens, bitsTokens, Operand, constant, access, parens, negated, operandTokens, tailTokens, subscriptTokens}
 use Rattle.rules.specs.Grammar.Precedence.{factorOf}
 use Rattle.rules.specs.Values.{Value, value, notNumber, inverse}
-use Rattle.rules.specs.Declarations.{Name as Word, Table}
+use Rattle.rules.specs.Declarations.{Word, Table}
 use Rattle.rules.specs.Steps.Evaluation.{Carriers, Outcome, gives, faulty, then, evaluateFactor}
 use Rattle.laws_grammar.specs.Cited.Nesting.{operandNest}
 use Rattle.laws_accepted.specs.Cited.Lengths.{SizedFactor}

@@ -11,7 +11,7 @@ use Rattle.rules.specs.Text.Tokens.{Info, Op}
 use Rattle.rules.specs.Grammar.Trees.{Operand, Tail}
 use Rattle.rules.specs.Grammar.Precedence.{tightness, Expr, leaf, node, Link, factorOf, linksOf, exprOf}
 use Rattle.rules.specs.Values.{Value, operate}
-use Rattle.rules.specs.Declarations.{Name as Word, Table}
+use Rattle.rules.specs.Declarations.{Word, Table}
 use Rattle.rules.specs.Steps.Evaluation.{Carriers, Outcome, gives, faulty, then, evaluate}
 use Rattle.laws_grammar.specs.Cited.Shunting.{Waiting, looser, settled}
 use Rattle.laws_grammar.specs.Grammar.Shunting.{waiting, valueOf, unwind, chain, chain-is}

@@ -10,7 +10,7 @@ use Rattle.rules.specs.Text.Tokens.{Info, Op}
 use Rattle.rules.specs.Grammar.Trees.{Bits, Subscript}
 use Rattle.rules.specs.Grammar.Precedence.{Expr, node, Factor, cell, indexOf}
 use Rattle.rules.specs.Values.{Value, value, opBits, opNumber, operate, field}
-use Rattle.rules.specs.Declarations.{Name, Table}
+use Rattle.rules.specs.Declarations.{Word, Table}
 use Rattle.rules.specs.Steps.Actions.{Access, access}
 use Rattle.rules.specs.Steps.Evaluation.{Carriers, Outcome, gives, faulty, then, Field, fieldOf, readField, evaluate, evaluateFactor, evaluateIndex, evaluateAccess}
 use Rattle.rules.specs.Faults.Bodies.{judge, judgeFactor, judgeAccess}
@@ -32,7 +32,7 @@ unfolding then
 then-then (gives a) f g = refl
 then-then (faulty m p) f g = refl
 
-module _ {outer : Name} {ds : Table} (h : Declares outer ds) (s : Carriers) where
+module _ {outer : Word} {ds : Table} (h : Declares outer ds) (s : Carriers) where
   pub factor-bits : (f : Factor) (n x : ℕ) → SizedFactor outer ds f → evaluateFactor ds s f ≡ gives (value n x) → InBits n x
   factor-bits f n x q e =
       let w = factor-evaluated h results s f (value n x) q e in

@@ -7,8 +7,8 @@ use mathlib.Core.List.{List, [], _∷_, _++_}
 use mathlib.Core.Option.{Option, none, some}
 use Rattle.rules.specs.Text.Scan.{sameBytes}
 use Rattle.rules.specs.Grammar.Trees.{Action}
-use Rattle.rules.specs.Declarations.{Name, Table, bodyOf}
-use Rattle.rules.specs.Steps.Actions.{Access, Act, seq, par, label, ins, Ins, iff, decode, repeat, leave, restart, call, stop, noop, transfer, Alts, end, alt, transferPlace}
+use Rattle.rules.specs.Declarations.{Word, Table, bodyOf}
+use Rattle.rules.specs.Steps.Actions.{Access, Act, seq, par, label, ins, Ins, iff, decode, repeat, leave, restart, call, stop, noop, transfer, Alts, no-alts, alt, transferPlace}
 use Rattle.rules.specs.Steps.Runs.{bodyAct}
 use Rattle.rules.specs.Whole.Sets.{member, stores}
 use Rattle.rules.specs.Limits.{longestChain}
@@ -18,9 +18,9 @@ use Rattle.rules.specs.Paths.{storageOf, Profile, passes, fails}
 pub record Report : Type 0 where
   pub places : List ℕ
   pub ends : Bool
-  pub leaves : Name → Bool
+  pub leaves : Word → Bool
 
-abbrev pub report : List ℕ → Bool → (Name → Bool) → Report
+abbrev pub report : List ℕ → Bool → (Word → Bool) → Report
 report p e l = record { places = p; ends = e; leaves = l }
 
 -- nothing is reached
@@ -44,24 +44,24 @@ abbrev pub beside : Report → Report → Report
 beside x y = report (x .places ++ y .places) (x .ends && y .ends) (λ k. x .leaves k || y .leaves k)
 
 -- a label, or a body's own name: a LEAVE of it comes to its end
-abbrev pub inside : Name → Report → Report
+abbrev pub inside : Word → Report → Report
 inside l x = report (x .places) (x .ends || x .leaves l) (λ k. not (sameBytes k l) && x .leaves k)
 
 -- REPEAT has no end
 abbrev pub turning : Report → Report
 turning x = report (x .places) false (x .leaves)
 
-module _ (test : Name) where
+module _ (test : Word) where
   -- an activation, by the report of the body
-  abbrev pub activation : Name → Report → Report
+  abbrev pub activation : Word → Report → Report
   activation p x = report (x .places) (not (sameBytes p test) && x .ends) (λ k. false)
 
 abbrev pub written : Table → ℕ → List Access → List ℕ
 written ds output d = cond (member output (stores ds d)) (transferPlace d ∷ []) []
 
-module _ (ds : Table) (test : Name) (output : ℕ) where
+module _ (ds : Table) (test : Word) (output : ℕ) where
   -- with what is known of the bodies
-  module _ (known : Name → Report) where
+  module _ (known : Word → Report) where
     unfoldable mutual
       pub early : Act → Report
       early (seq a b) = inTurn (early a) (early b)
@@ -81,11 +81,11 @@ module _ (ds : Table) (test : Name) (output : ℕ) where
       earlyI (transfer d e) = report (written ds output d) true (λ k. false)
 
       pub earlyAlts : Alts → Report
-      earlyAlts end = nowhere
+      earlyAlts no-alts = nowhere
       earlyAlts (alt c a bs) = either (early a) (earlyAlts bs)
 
   -- of a body, down a chain of at most k bodies
-  unfoldable pub bodyEarly : ℕ → Name → Report
+  unfoldable pub bodyEarly : ℕ → Word → Report
   bodyEarly zero n = nowhere
   bodyEarly (suc k) n = inside n (early (bodyEarly k) (bodyAct ds n))
 
@@ -102,13 +102,13 @@ abbrev pub verdict : List ℕ → Profile
 verdict [] = passes
 verdict (p ∷ ps) = fails 92 (lowest p ps)
 
-abbrev pub onStorage : Table → Name → Option ℕ → Profile
+abbrev pub onStorage : Table → Word → Option ℕ → Profile
 onStorage ds test none = fails 91 0
 onStorage ds test (some o) = verdict (earlyPlaces ds test o)
 
-abbrev pub onBody : Table → Name → Name → Option Action → Profile
+abbrev pub onBody : Table → Word → Word → Option Action → Profile
 onBody ds test output none = fails 90 0
 onBody ds test output (some a) = onStorage ds test (storageOf ds output)
 
-unfoldable pub profile : Table → Name → Name → Profile
+unfoldable pub profile : Table → Word → Word → Profile
 profile ds test output = onBody ds test output (bodyOf ds test)

@@ -5,7 +5,7 @@ use mathlib.Core.List.{List, [], _∷_, _++_}
 use mathlib.Core.Option.{Option, none, some}
 use lib.Dec.{eqb}
 use Rattle.rules.specs.Text.Scan.{sameBytes}
-use Rattle.rules.specs.Declarations.{Name}
+use Rattle.rules.specs.Declarations.{Word}
 
 abbrev pub Flags : Type 0
 Flags = ℕ → Bool
@@ -20,10 +20,10 @@ unmarked = record { flags = λ j. false; places = [] }
 
 -- a label, and the flag at its end
 pub record Slot : Type 0 where
-  pub name : Name
+  pub name : Word
   pub flag : ℕ
 
-abbrev pub slot : Name → ℕ → Slot
+abbrev pub slot : Word → ℕ → Slot
 slot l k = record { name = l; flag = k }
 
 abbrev pub marked : ℕ → Bool → Marks → Marks
@@ -36,7 +36,7 @@ abbrev pub added : List ℕ → Marks → Marks
 added ps w = record { flags = w .flags; places = w .places ++ ps }
 
 -- the innermost label of a name
-abbrev pub flagOf : List Slot → Name → Option ℕ
+abbrev pub flagOf : List Slot → Word → Option ℕ
 flagOf [] l = none
 flagOf (s ∷ ls) l = cond (sameBytes l (s .name)) (some (s .flag)) (flagOf ls l)
 

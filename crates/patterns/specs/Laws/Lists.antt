@@ -7,10 +7,11 @@ use mathlib.Core.List.{List, [], _∷_}
 use native.Mathlib.Omega.{arith}
 use lib.Dec.{leb}
 use lib.ListN.{length}
-use Rattle.rules.specs.Text.Tokens.{Kind, Comma, kindNo, kindAt}
+use Rattle.rules.specs.Text.Tokens.{Kind, Comma, kindNo}
 use Rattle.rules.specs.Grammar.Trees.{Tokens, Literal, Range, single, to}
 use Rattle.rules.specs.Selectors.{Item, itemOf, highest}
 use Rattle.rules.specs.Faults.Bodies.{itemsMeet, meetsAny, someMeet, past}
+use Rattle.laws_grammar.specs.Cited.Kinds.{kindAt}
 use Rattle.laws_grammar.specs.Grammar.Kinds.{kindAt-kindNo}
 use Rattle.table.specs.Holds.{kindByte}
 use Rattle.table.specs.Laws.Positions.{record-within, kind-here}

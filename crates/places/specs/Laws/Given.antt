@@ -5,8 +5,9 @@ use mathlib.Core.Path.{_≡_, refl, sym, ap, _∙_}
 use mathlib.Core.List.{List}
 use native.Mathlib.Omega.{arith}
 use lib.ListN.{length, drop, length-drop}
-use Rattle.rules.specs.Text.Tokens.{kindAt, kindNo, Less, Colon}
+use Rattle.rules.specs.Text.Tokens.{kindNo, Less, Colon}
 use Rattle.rules.specs.Grammar.Trees.{Tokens, bit, upto, all-bits, bits}
+use Rattle.laws_grammar.specs.Cited.Kinds.{kindAt}
 use Rattle.laws_grammar.specs.Grammar.Kinds.{kindAt-kindNo}
 use Rattle.table.specs.Holds.{kindByte, valueCell}
 use Rattle.table.specs.Laws.Positions.{kind-far, value-far}

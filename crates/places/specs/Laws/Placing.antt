@@ -9,12 +9,13 @@ use native.Mathlib.Decide.{decLt}
 use lib.ListN.{length, drop, getElem?}
 use Rattle.cells.specs.Cells.{putCell}
 use Rattle.cells.specs.Laws.{length-put, le-put-same, le-put-below, le-put-above}
-use Rattle.rules.specs.Text.Tokens.{Name, LBra, kindAt, kindNo, Info, Token, tk}
+use Rattle.rules.specs.Text.Tokens.{Name, LBra, kindNo, Info, Token, tk}
 use Rattle.rules.specs.Grammar.Trees.{Tokens, upto, Bits, all-bits, bits, bitsTokens, Subscript, no-subscript, subscript, subscriptTokens, Description, flatten}
 use Rattle.rules.specs.Grammar.Precedence.{indexOf}
-use Rattle.rules.specs.Declarations.{Name as Word, Names as Span-of, Table, numberOf, Target, Declared, Reach, reach, reachNumber}
+use Rattle.rules.specs.Declarations.{Word, Names as Span-of, Table, numberOf, Target, Declared, Reach, reach, reachNumber}
 use Rattle.rules.specs.Limits.{largestName}
 use Rattle.rules.specs.Faults.Bodies.{judgeAccess}
+use Rattle.laws_grammar.specs.Cited.Kinds.{kindAt}
 use Rattle.laws_grammar.specs.Grammar.Kinds.{kindAt-kindNo}
 use Rattle.laws_orders.specs.Orders.Tests.{impossible}
 use Rattle.laws_accepted.specs.Accepted.Named.{found}

@@ -12,7 +12,7 @@ use Rattle.rules.specs.Text.Tokens.{Kind, Name, tk}
 use Rattle.rules.specs.Text.Scan.{sameBytes}
 use Rattle.rules.specs.Limits.{longestText}
 use Rattle.rules.specs.Grammar.Trees.{Tokens}
-use Rattle.rules.specs.Declarations.{Name as Word, Table, numberFrom, numberOf}
+use Rattle.rules.specs.Declarations.{Word, Table, numberFrom, numberOf}
 use Rattle.rules.specs.Faults.Fault.{fault, when}
 use Rattle.rules.specs.Faults.Declared.{isKnown}
 use Rattle.rules.specs.Faults.Bodies.{declaredNames}

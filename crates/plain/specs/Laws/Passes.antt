@@ -11,10 +11,11 @@ use borrow.Author.Tests.{eqb-true}
 use lib.Dec.{eqb}
 use lib.ListN.{length, take, drop, length-drop, length-append}
 use lib.Seq.{slice, slice-empty, slice-cons, take-append-seam, take-add, drop-at, length-take-le}
-use Rattle.rules.specs.Text.Tokens.{Name, Becomes, same, kindAt, Info, tk}
+use Rattle.rules.specs.Text.Tokens.{Name, Becomes, same, Info, tk}
 use Rattle.rules.specs.Text.Scan.{plainInfo}
 use Rattle.rules.specs.Grammar.Trees.{Tokens, actionTokens}
 use Rattle.rules.specs.Faults.Bodies.{labels, labelFaults}
+use Rattle.laws_grammar.specs.Cited.Kinds.{kindAt}
 use Rattle.laws_grammar.specs.Grammar.Kinds.{kindAt-kindNo}
 use Rattle.laws_grammar.specs.Grammar.Positions.{action-writes}
 use Rattle.table.specs.Holds.{kindByte, tokenAt}

@@ -9,7 +9,7 @@ use borrow.Author.Tests.{eq-eqb, ne-eqb}
 use lib.Dec.{eqb}
 use Rattle.cells.specs.Cells.{cell}
 use Rattle.rules.specs.Text.Scan.{sameBytes}
-use Rattle.rules.specs.Declarations.{Name as Word, numberOf}
+use Rattle.rules.specs.Declarations.{Word, numberOf}
 use Rattle.rules.specs.Faults.Whole.{mainName}
 use Rattle.laws_accepted.specs.Accepted.Named.{same-equal, same-itself, found}
 use Rattle.paths.specs.Cited.Early.{earlyPlaces}

@@ -15,7 +15,7 @@ use Rattle.rules.specs.Text.Tokens.{Token}
 use Rattle.rules.specs.Grammar.Trees.{Tokens, Action, block, actionTokens, unnamed, named, bit as one-bit, upto, bitless, main-bits}
 use Rattle.rules.specs.Grammar.Trees.{Declaration, plain, main, words, with-bits, bare-body, carrier, given, body, mapped, declarationsTokens}
 use Rattle.rules.specs.Limits.{deepest, longestChain}
-use Rattle.rules.specs.Declarations.{Name as Word, Table, Declared, declaredOf, numberOf, bodyOf, bodyNumber}
+use Rattle.rules.specs.Declarations.{Word, Table, Declared, declaredOf, numberOf, bodyOf, bodyNumber}
 use Rattle.rules.specs.Steps.Runs.{bodyAct}
 use Rattle.laws_accepted.specs.Accepted.Named.{found}
 use Rattle.laws_grammar.specs.Cited.Nesting.{actionNest}

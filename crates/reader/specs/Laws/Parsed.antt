@@ -10,9 +10,9 @@ use lib.ListN.{length}
 use Rattle.rules.specs.Text.Tokens.{Name, tk}
 use Rattle.rules.specs.Text.Scan.{scan, Scan, End, fine, refuse, plainInfo}
 use Rattle.rules.specs.Grammar.Trees.{Tokens, Description, flatten}
-use Rattle.rules.specs.Grammar.Verdict.{Crowded, Accepted}
+use Rattle.rules.specs.Grammar.Verdict.{Crowded}
 use Rattle.laws_grammar.specs.Cited.Answer.{Answer, accepted, refused20, refused21}
-use Rattle.laws_grammar.specs.Grammar.Answer.{Right}
+use Rattle.laws_grammar.specs.Grammar.Answer.{Right, Accepted}
 use Rattle.rules.specs.Limits.{longestText}
 use Rattle.rules.specs.Answers.{refused, placeOf, Checks, unreadable, no-description, too-deep}
 use Rattle.laws_grammar.specs.Cited.Rows.{recognise}

@@ -13,9 +13,10 @@ use lib.Seq.{getD-set-same}
 use Rattle.cells.specs.Cells.{leAt, putAt, putCell}
 use Rattle.cells.specs.Laws.{length-put, getD-put-below, cells-get}
 use Rattle.laws_grammar.specs.Grammar.Kinds.{kindAt-kindNo}
-use Rattle.rules.specs.Text.Tokens.{Kind, kindNo, kindAt, Name, Const, Masked, Token, tk}
+use Rattle.rules.specs.Text.Tokens.{Kind, kindNo, Name, Const, Masked, Token, tk}
 use Rattle.rules.specs.Text.Scan.{scan, plainInfo}
 use Rattle.rules.specs.Limits.{longestText}
+use Rattle.laws_grammar.specs.Cited.Kinds.{kindAt}
 use Rattle.text.specs.Table.{recordOf, recordCells, valueBy, valueCells, writeCells}
 use Rattle.text.specs.Laws.Writes.{length-written, before-written}
 use Rattle.text.specs.Laws.Callers.{Stands, few-tokens, token-stands, places-rise, values-held}

@@ -8,7 +8,7 @@ use native.Mathlib.Omega.{arith}
 use lib.ListN.{drop}
 use Rattle.cells.specs.Cells.{cell}
 use Rattle.rules.specs.Grammar.Trees.{Action, actionTokens, Declaration, plain, main, words, with-bits, bare-body, carrier, given, body, mapped}
-use Rattle.rules.specs.Declarations.{Name as Word, declaredOf, bodyNumber}
+use Rattle.rules.specs.Declarations.{Word, declaredOf, bodyNumber}
 use Rattle.rules.specs.Steps.Actions.{actOf}
 use Rattle.rules.specs.Steps.Runs.{actOr}
 use Rattle.rules.specs.Whole.Sets.{callsIn, anyName}

@@ -11,7 +11,7 @@ use Rattle.cells.specs.Cells.{cell}
 use Rattle.rules.specs.Text.Tokens.{Name, LBra, Less, Becomes, Token, tk, kindNo}
 use Rattle.rules.specs.Text.Scan.{sameBytes}
 use Rattle.rules.specs.Grammar.Trees.{Tokens, Declaration, plain, main, words, with-bits, bare-body, carrier, given, body, mapped, bitless, main-bits, declarationsTokens}
-use Rattle.rules.specs.Declarations.{Name as Word, Target, BitNames, declaredOf, numberOf, outerName, ownNames}
+use Rattle.rules.specs.Declarations.{Word, Target, BitNames, declaredOf, numberOf, outerName, ownNames}
 use Rattle.rules.specs.Limits.{mostDeclarations}
 use Rattle.rules.specs.Whole.Sets.{owner}
 use Rattle.laws_accepted.specs.Accepted.Declared.{declares as lawful-table}

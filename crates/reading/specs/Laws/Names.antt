@@ -7,7 +7,7 @@ use mathlib.Core.Option.{Option, none, some, Option·none-ne-some, Option·some-
 use native.Mathlib.Omega.{arith}
 use lib.ListN.{length, getElem?}
 use Rattle.rules.specs.Text.Scan.{sameBytes}
-use Rattle.rules.specs.Declarations.{Name as Word, Names, BitNames, Target, Declared, Table, numberFrom, numberOf, reach, reachNumber, reachOf, reachStorage, reachUnder, reachOn}
+use Rattle.rules.specs.Declarations.{Word, Names, BitNames, Target, Declared, Table, numberFrom, numberOf, reach, reachNumber, reachOf, reachStorage, reachUnder, reachOn}
 use Rattle.rules.specs.Whole.Sets.{owner, ownerIn}
 use Rattle.rules.specs.Faults.Declared.{fits, goodTarget, declaredAt}
 use Rattle.laws_accepted.specs.Cited.Declared.{Declares}

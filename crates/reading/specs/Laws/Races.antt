@@ -5,7 +5,7 @@ use mathlib.Core.Bool.{Bool, true, false, _||_, or-comm, or-true}
 use mathlib.Core.List.{List, [], _∷_, _++_}
 use lib.Dec.{eqb}
 use borrow.Author.Tests.{eqb-true, eqb-false, eq-eqb, ne-eqb}
-use Rattle.rules.specs.Declarations.{Name as Word, Table}
+use Rattle.rules.specs.Declarations.{Word, Table}
 use Rattle.rules.specs.Whole.Sets.{Sets, sets, union, member, meet, race}
 use Rattle.rules.specs.Faults.Whole.{racesAny}
 use Rattle.laws_orders.specs.Orders.Tests.{member-append}

@@ -6,8 +6,9 @@ use native.Mathlib.Omega.{arith}
 use native.Mathlib.Numerals.{add-one}
 use lib.ListN.{length, drop, drop-of-length-le}
 use lib.Seq.{drop-cons}
-use Rattle.rules.specs.Text.Tokens.{Name, tk, kindAt, kindNo}
+use Rattle.rules.specs.Text.Tokens.{Name, tk, kindNo}
 use Rattle.rules.specs.Text.Scan.{plainInfo}
+use Rattle.laws_grammar.specs.Cited.Kinds.{kindAt}
 use Rattle.laws_grammar.specs.Grammar.Kinds.{kindAt-kindNo}
 use Rattle.table.specs.Holds.{noKind, kindByte, tokenAt}
 use Rattle.table.specs.Words.{NameAt}

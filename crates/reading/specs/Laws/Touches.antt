@@ -4,11 +4,11 @@ use mathlib.Core.Path.{_≡_, refl, sym, ap, ap₂, _∙_}
 use mathlib.Core.Bool.{Bool, true, false, _||_, or-assoc, or-comm, or-false}
 use mathlib.Core.List.{List, [], _∷_, _++_}
 use mathlib.Core.Option.{Option, none, some}
-use Rattle.rules.specs.Grammar.Trees.{Operand, constant, parens, negated, Tail, no-more, with-op, Subscript, no-subscript, subscript, Joined, alone, joined, access as access-tree, Action, block, labelled, if-then, activate, no-op, decode as decode-tree, repeat as repeat-tree, leave as leave-tree, restart as restart-tree, stop as stop-tree, transfer as transfer-tree, Members, also, next, end as end-tree, Alternatives, counted, selected, Counted, counted-end, counted-more, Selected, select, otherwise, SelectedMore, selected-end, selected-more}
+use Rattle.rules.specs.Grammar.Trees.{Operand, constant, parens, negated, Tail, no-more, with-op, Subscript, no-subscript, subscript, Joined, alone, joined, access as access-tree, Action, block, labelled, if-then, activate, no-op, decode as decode-tree, repeat as repeat-tree, leave as leave-tree, restart as restart-tree, stop as stop-tree, transfer as transfer-tree, Members, also, next, end, Alternatives, counted, selected, Counted, counted-end, counted-more, Selected, select, otherwise, SelectedMore, selected-end, selected-more}
 use Rattle.rules.specs.Grammar.Precedence.{Expr, leaf, node, Factor, number, cell, group, inverse, Index, no-index, index, Link, insert-by, insert, inserts, arrange, factorOf, linksOf, indexOf, exprOf, tightness}
 use native.Mathlib.Decide.{decLt}
-use Rattle.rules.specs.Declarations.{Name as Word, Table}
-use Rattle.rules.specs.Steps.Actions.{Access, access, joinedAccesses, Act, seq, par, label, ins, Ins, iff, decode, repeat, leave, restart, call, stop, noop, transfer, Alts, end, alt, inTurn, whole, actOf, groups, altsOf, countedAlts, selectedAlts, moreAlts}
+use Rattle.rules.specs.Declarations.{Word, Table}
+use Rattle.rules.specs.Steps.Actions.{Access, access, joinedAccesses, Act, seq, par, label, ins, Ins, iff, decode, repeat, leave, restart, call, stop, noop, transfer, Alts, no-alts, alt, inTurn, whole, actOf, groups, altsOf, countedAlts, selectedAlts, moreAlts}
 use Rattle.rules.specs.Whole.Sets.{Sets, sets, union, owner, readsOf, factorReads, indexReads, subscriptReads, stores, setsOf, setsI, setsAlts, member, stopsIn, stopsI, stopsAlts, callsIn, callsI, callsAlts, anyName}
 use Rattle.laws_orders.specs.Orders.Tests.{member-append}
 use Rattle.reading.specs.Events.{Event, reads, writes, activates, halts}
@@ -61,7 +61,7 @@ module _ (p : Event → Bool) where
     anyIns (transfer d e) = anyAccess d || anyExpr e
 
     pub anyAlts : Alts → Bool
-    anyAlts end = false
+    anyAlts no-alts = false
     anyAlts (alt c a bs) = anyAct a || anyAlts bs
 
   -- the tree of an expression has the operands of its chain
@@ -162,7 +162,7 @@ module _ (p : Event → Bool) where
     -- behind the events of the member x stand those of the others
     any-members : (x : Act) (m : Members) (xs es : List Event) → anyEvent p xs ≡ (anyAct x || anyEvent p (membersEvents m es))
         → anyEvent p xs ≡ (anyAct (whole (groups x m)) || anyEvent p es)
-    any-members x (end-tree i) xs es h = h
+    any-members x (end i) xs es h = h
     any-members x (also i b m) xs es h =
         h ∙ ap (λ c. anyAct x || c) (any-members (actOf b) m (actionEvents b (membersEvents m es)) es (any-action b (membersEvents m es)))
         ∙ or-regroup (anyAct x) (anyAct (whole (groups (actOf b) m))) (anyEvent p es) _
@@ -258,7 +258,7 @@ module _ (ds : Table) (f : Word → Sets) (c : ℕ) (side : Sets → List ℕ) (
     side-ins (transfer d e) = moved d e
 
     side-alts : (bs : Alts) → member c (side (setsAlts ds f bs)) ≡ anyAlts p bs
-    side-alts end = nothing
+    side-alts no-alts = nothing
     side-alts (alt q a bs) = either (setsOf ds f a) (setsAlts ds f bs) _ _ (side-act a) (side-alts bs)
 
 module _ (ds : Table) (f : Word → Sets) (c : ℕ) where
@@ -327,7 +327,7 @@ module _ (g : Word → Bool) where
     ins-stops (transfer d e) = still-transfer (stopHit g) (λ w. refl) (λ w. refl) d e
 
     alts-stops : (bs : Alts) → stopsAlts g bs ≡ anyAlts (stopHit g) bs
-    alts-stops end = refl
+    alts-stops no-alts = refl
     alts-stops (alt q a bs) = ap₂ _||_ (act-stops a) (alts-stops bs)
 
 abbrev pub callHit : (Word → Bool) → Event → Bool
@@ -363,5 +363,5 @@ module _ (g : Word → Bool) where
     ins-calls (transfer d e) = still-transfer (callHit g) (λ w. refl) (λ w. refl) d e
 
     alts-calls : (bs : Alts) → anyName g (callsAlts bs) ≡ anyAlts (callHit g) bs
-    alts-calls end = refl
+    alts-calls no-alts = refl
     alts-calls (alt q a bs) = any-names (callsIn a) (callsAlts bs) _ _ (act-calls a) (alts-calls bs)

@@ -10,7 +10,7 @@ use Rattle.rules.specs.Text.Scan.{sameBytes}
 use Rattle.rules.specs.Grammar.Trees.{Action, block, labelled, if-then, decode, repeat, leave, restart, activate, stop, no-op, transfer, Members, end, also, next}
 use Rattle.rules.specs.Grammar.Trees.{Alternatives, counted, selected, Counted, counted-end, counted-more, Selected, select, otherwise, SelectedMore, selected-end, selected-more}
 use Rattle.rules.specs.Grammar.Precedence.{exprOf}
-use Rattle.rules.specs.Declarations.{Name, Declared, Table, numberOf, bodyNumber}
+use Rattle.rules.specs.Declarations.{Word, Declared, Table, numberOf, bodyNumber}
 use Rattle.rules.specs.Steps.Actions.{Act, par, inTurn, whole, actOf, groups, altsOf, countedAlts, selectedAlts, moreAlts}
 use Rattle.rules.specs.Steps.Runs.{actOr}
 use Rattle.rules.specs.Whole.Sets.{callsIn, callsI, callsAlts}
@@ -22,15 +22,15 @@ use Rattle.laws_accepted.specs.Accepted.Faultless.{both-empty, each-empty}
 use Rattle.rules.specs.Reasons.{bodyOfNumber}
 
 module _ (ds : Table) where
-  pub record Known (n : Name) : Type 0 where
+  pub record Known (n : Word) : Type 0 where
     pub number : ℕ
     pub is : numberOf ds n ≡ some number
 
-  abbrev pub AllKnown : List Name → Type 0
+  abbrev pub AllKnown : List Word → Type 0
   AllKnown [] = Unit {0}
   AllKnown (n ∷ ns) = Known n × AllKnown ns
 
-  join : (xs ys : List Name) → AllKnown xs → AllKnown ys → AllKnown (xs ++ ys)
+  join : (xs ys : List Word) → AllKnown xs → AllKnown ys → AllKnown (xs ++ ys)
   join [] ys p q = q
   join (x ∷ xs) ys p q = (p .0, join xs ys (p .1) q)
 
@@ -40,7 +40,7 @@ module _ (ds : Table) where
   in-front x y none p q = join (callsIn x) (callsIn y) p q
   in-front x y (some z) p q = rw append-assoc (join (callsIn x) (callsIn y ++ callsIn z) p q)
 
-  module _ (outer : Name) where
+  module _ (outer : Word) where
     something : (b : Bool) (m k p : ℕ) → when (not b) m p ++ when b k p ≡ [] → ⊥
     something true m k p e = impossible (cc)
     something false m k p e = impossible (cc)
@@ -52,7 +52,7 @@ module _ (ds : Table) where
     mutual
       unfolding actOf groups altsOf countedAlts selectedAlts moreAlts callsIn callsI callsAlts actionFaults membersFaults insideFaults insideCounted insideSelected insideMore
 
-      action-known : (a : Action) (ls : List Name) → actionFaults outer ds ls a ≡ [] → AllKnown (callsIn (actOf a))
+      action-known : (a : Action) (ls : List Word) → actionFaults outer ds ls a ≡ [] → AllKnown (callsIn (actOf a))
       action-known (block b a m) ls e =
           let h = both-empty (actionFaults outer ds ls a) (membersFaults outer ds ls m) e in members-known m ls (actOf a) (action-known a ls (h .0)) (h .1)
       action-known (labelled n b a) ls e = action-known a (n .word ∷ ls) e
@@ -69,7 +69,7 @@ module _ (ds : Table) where
       action-known (no-op i l r) ls e = tt
       action-known (transfer n s b j x o t) ls e = tt
 
-      members-known : (m : Members) (ls : List Name) (x : Act) → AllKnown (callsIn x) → membersFaults outer ds ls m ≡ [] → AllKnown (callsIn (whole (groups x m)))
+      members-known : (m : Members) (ls : List Word) (x : Act) → AllKnown (callsIn x) → membersFaults outer ds ls m ≡ [] → AllKnown (callsIn (whole (groups x m)))
       members-known (end i) ls x p e = p
       members-known (also i a m) ls x p e =
           let h = both-empty (actionFaults outer ds ls a) (membersFaults outer ds ls m) e in
@@ -79,25 +79,25 @@ module _ (ds : Table) where
           let h = both-empty (actionFaults outer ds ls a) (membersFaults outer ds ls m) e in
           join (callsIn x) (callsIn (whole (groups (actOf a) m))) p (members-known m ls (actOf a) (action-known a ls (h .0)) (h .1))
 
-      alternatives-known : (v : Alternatives) (ls : List Name) → insideFaults outer ds ls v ≡ [] → AllKnown (callsAlts (altsOf v))
+      alternatives-known : (v : Alternatives) (ls : List Word) → insideFaults outer ds ls v ≡ [] → AllKnown (callsAlts (altsOf v))
       alternatives-known (counted a c) ls e =
           let h = both-empty (actionFaults outer ds ls a) (insideCounted outer ds ls c) e in
           join (callsIn (actOf a)) (callsAlts (countedAlts 1 c)) (action-known a ls (h .0)) (counted-known c ls 1 (h .1))
       alternatives-known (selected s) ls e = selected-known s ls e
 
-      counted-known : (c : Counted) (ls : List Name) (n : ℕ) → insideCounted outer ds ls c ≡ [] → AllKnown (callsAlts (countedAlts n c))
+      counted-known : (c : Counted) (ls : List Word) (n : ℕ) → insideCounted outer ds ls c ≡ [] → AllKnown (callsAlts (countedAlts n c))
       counted-known (counted-end i) ls n e = tt
       counted-known (counted-more i a c) ls n e =
           let h = both-empty (actionFaults outer ds ls a) (insideCounted outer ds ls c) e in
           join (callsIn (actOf a)) (callsAlts (countedAlts (suc n) c)) (action-known a ls (h .0)) (counted-known c ls (suc n) (h .1))
 
-      selected-known : (s : Selected) (ls : List Name) → insideSelected outer ds ls s ≡ [] → AllKnown (callsAlts (selectedAlts s))
+      selected-known : (s : Selected) (ls : List Word) → insideSelected outer ds ls s ≡ [] → AllKnown (callsAlts (selectedAlts s))
       selected-known (select s b a m) ls e =
           let h = both-empty (actionFaults outer ds ls a) (insideMore outer ds ls m) e in
           join (callsIn (actOf a)) (callsAlts (moreAlts m)) (action-known a ls (h .0)) (more-known m ls (h .1))
       selected-known (otherwise i b a f) ls e = join (callsIn (actOf a)) [] (action-known a ls e) tt
 
-      more-known : (m : SelectedMore) (ls : List Name) → insideMore outer ds ls m ≡ [] → AllKnown (callsAlts (moreAlts m))
+      more-known : (m : SelectedMore) (ls : List Word) → insideMore outer ds ls m ≡ [] → AllKnown (callsAlts (moreAlts m))
       more-known (selected-end i) ls e = tt
       more-known (selected-more i s) ls e = selected-known s ls e
 

@@ -15,7 +15,7 @@ use Rattle.rules.specs.Grammar.Precedence.{Expr, leaf, node, Factor, number, ce
 use Rattle.rules.specs.Text.Scan.{sameBytes}
 use Rattle.rules.specs.Values.{opBits}
 use Rattle.rules.specs.Selectors.{Item, between, selectorItems}
-use Rattle.rules.specs.Declarations.{Name, Names, BitNames, Declared, Table, numberOf, namesOf, wordsOf, reach}
+use Rattle.rules.specs.Declarations.{Word, Names, BitNames, Declared, Table, numberOf, namesOf, wordsOf, reach}
 use Rattle.rules.specs.Faults.Fault.{Fault, fault, when}
 use Rattle.rules.specs.Faults.Declared.{isKnown, twice, largeBits, largeWords, large, tooMany, inside, badMapping, mappings, faults30, declaredAt}
 use Rattle.rules.specs.Faults.Bodies.{Judged, judgedAs, isSound, over, subscripted, undeclared, bitsJudged, accessJudged, judgeName, judgeAccess, judge, judgeFactor, judgeIndex, faultsIn, judgeDestination, judgeJoined}
@@ -60,7 +60,7 @@ pub under : (fs : List Fault) (f : Fault) → Under fs → Among f fs → f .num
 under fs f h x = under-by fs f (h .each) x
 
 -- the 30s
-twice-under : (known : List Name) (ds : Table) → Under (twice known ds)
+twice-under : (known : List Word) (ds : Table) → Under (twice known ds)
 unfolding twice
 twice-under known [] = none-of
 twice-under known (d ∷ ds) = both (tested (isKnown (d .name .word) known) 30 (d .name .place) (omega arith)) (twice-under (d .name .word ∷ known) ds)
@@ -76,12 +76,12 @@ many-under n w [] = none-of
 many-under n w (d ∷ ds) =
     both (tested (ltb mostDeclarations (n + 1) || ltb mostWords (w + wordsOf d)) 32 (d .name .place) (omega arith)) (many-under (n + 1) (w + wordsOf d) ds)
 
-mappings-under : (outer : Name) (every ds : Table) → Under (mappings outer every ds)
+mappings-under : (outer : Word) (every ds : Table) → Under (mappings outer every ds)
 unfolding mappings
 mappings-under outer every [] = none-of
 mappings-under outer every (d ∷ ds) = both (tested (badMapping outer every d (d .target)) 33 (d .name .place) (omega arith)) (mappings-under outer every ds)
 
-pub under-30 : (outer : Name) (ds : Table) → Under (faults30 outer ds)
+pub under-30 : (outer : Word) (ds : Table) → Under (faults30 outer ds)
 unfolding faults30
 under-30 outer ds = both (twice-under (outer ∷ []) ds) (both (large-under ds) (both (many-under 0 0 ds) (mappings-under outer ds ds)))
 
@@ -97,11 +97,11 @@ access-under : (p : ℕ) (w : Option Names) (c : Option BitNames) (x : Index) (b
 access-under p w none x b = one-of (omega arith)
 access-under p w (some c) x b = both (tested (not (subscripted w x)) 41 p (omega arith)) (bits-under p c b)
 
-undeclared-under : (outer : Name) (i : Info) → Under (undeclared outer i)
+undeclared-under : (outer : Word) (i : Info) → Under (undeclared outer i)
 undeclared-under outer i =
     both (tested (not (sameBytes outer (i .word))) 40 (i .place) (omega arith)) (tested (sameBytes outer (i .word)) 41 (i .place) (omega arith))
 
-module _ (outer : Name) (ds : Table) where
+module _ (outer : Word) (ds : Table) where
   name-under : (i : Info) (x : Index) (b : Bits) (o : Option Declared) → Under (judgeName outer ds i x b o .faults)
   unfolding judgeName
   name-under i x b none = undeclared-under outer i
@@ -180,16 +180,16 @@ unfolding alternativesFaults
 alternatives-under n (counted a c) = both (alternative-under n 0 (firstPlace a) [] (between 0 0 ∷ [])) (counted-under n 1 c)
 alternatives-under n (selected s) = selected-under n 0 [] s
 
-labels-under : (known : List Name) (ls : List Info) → Under (labelFaults known ls)
+labels-under : (known : List Word) (ls : List Info) → Under (labelFaults known ls)
 unfolding labelFaults
 labels-under known [] = none-of
 labels-under known (l ∷ ls) = both (tested (isKnown (l .word) known) 44 (l .place) (omega arith)) (labels-under (l .word ∷ known) ls)
 
-module _ (outer : Name) (ds : Table) where
+module _ (outer : Word) (ds : Table) where
   mutual
     unfolding actionFaults membersFaults insideFaults insideCounted insideSelected insideMore
 
-    action-under : (ls : List Name) (a : Action) → Under (actionFaults outer ds ls a)
+    action-under : (ls : List Word) (a : Action) → Under (actionFaults outer ds ls a)
     action-under ls (block b a m) = both (action-under ls a) (members-under ls m)
     action-under ls (labelled n b a) = action-under (n .word ∷ ls) a
     action-under ls (if-then i o t w a) = both (in-under outer ds o t) (action-under ls a)
@@ -204,28 +204,28 @@ module _ (outer : Name) (ds : Table) where
         both (joined-under outer ds (judgeDestination outer ds n s b) j (factor-under outer ds (cell n (indexOf s) b)))
         (both (stored-under outer ds (ownerIn (reach ds (n .word))) j) (in-under outer ds o t))
 
-    members-under : (ls : List Name) (m : Members) → Under (membersFaults outer ds ls m)
+    members-under : (ls : List Word) (m : Members) → Under (membersFaults outer ds ls m)
     members-under ls (end e) = none-of
     members-under ls (also i a m) = both (action-under ls a) (members-under ls m)
     members-under ls (next i a m) = both (action-under ls a) (members-under ls m)
 
-    inside-under : (ls : List Name) (v : Alternatives) → Under (insideFaults outer ds ls v)
+    inside-under : (ls : List Word) (v : Alternatives) → Under (insideFaults outer ds ls v)
     inside-under ls (counted a c) = both (action-under ls a) (inside-counted-under ls c)
     inside-under ls (selected s) = inside-selected-under ls s
 
-    inside-counted-under : (ls : List Name) (c : Counted) → Under (insideCounted outer ds ls c)
+    inside-counted-under : (ls : List Word) (c : Counted) → Under (insideCounted outer ds ls c)
     inside-counted-under ls (counted-end e) = none-of
     inside-counted-under ls (counted-more c a more) = both (action-under ls a) (inside-counted-under ls more)
 
-    inside-selected-under : (ls : List Name) (s : Selected) → Under (insideSelected outer ds ls s)
+    inside-selected-under : (ls : List Word) (s : Selected) → Under (insideSelected outer ds ls s)
     inside-selected-under ls (select s b a m) = both (action-under ls a) (inside-more-under ls m)
     inside-selected-under ls (otherwise i b a e) = action-under ls a
 
-    inside-more-under : (ls : List Name) (m : SelectedMore) → Under (insideMore outer ds ls m)
+    inside-more-under : (ls : List Word) (m : SelectedMore) → Under (insideMore outer ds ls m)
     inside-more-under ls (selected-end e) = none-of
     inside-more-under ls (selected-more c s) = inside-selected-under ls s
 
-  body-under : (n : Name) (o : Option Action) → Under (bodyFaults outer ds n o)
+  body-under : (n : Word) (o : Option Action) → Under (bodyFaults outer ds n o)
   body-under n none = none-of
   body-under n (some a) = both (action-under (n ∷ []) a) (labels-under (declaredNames outer ds ds) (labels a []))
 

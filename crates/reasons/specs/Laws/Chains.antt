@@ -12,13 +12,13 @@ use lib.Dec.{eqb}
 use lib.ListN.{length, getElem?}
 use Rattle.rules.specs.Limits.{longestChain}
 use Rattle.rules.specs.Grammar.Trees.{Action}
-use Rattle.rules.specs.Declarations.{Name, Declared, Table, numberOf, bodyNumber, bodyOf}
+use Rattle.rules.specs.Declarations.{Word, Declared, Table, numberOf, bodyNumber, bodyOf}
 use Rattle.rules.specs.Steps.Runs.{actOr, bodyAct}
 use Rattle.rules.specs.Whole.Sets.{member, callsIn, callsI, anyName, chainOver}
 use Rattle.rules.specs.Faults.Fault.{Fault, fault, when}
 use Rattle.rules.specs.Faults.Bodies.{faults40}
 use Rattle.rules.specs.Faults.Whole.{mains, beginsChain, chains, groupsFaults, faults50}
-use Rattle.rules.specs.Truth.{Activates, Activating, Closing, RefusedBody, ChainTrue}
+use Rattle.rules.specs.Truth.{Activates, Activating, Closing, ChainTrue}
 use Rattle.laws_accepted.specs.Accepted.Named.{and-both}
 use Rattle.rules.specs.Reasons.{chained, firstOver, bodyOfNumber, chainBehind, refusedBody, placesIn, chainOf, chainFrom, reason51}
 use Rattle.reasons.specs.Laws.Refused.{Among, among-either, among-when}
@@ -27,14 +27,14 @@ use Rattle.reasons.specs.Laws.Activations.{Known, AllKnown, body-known}
 
 module _ (ds : Table) where
   -- the first activation that begins a chain over k
-  record Over (k : ℕ) (ns : List Name) (c : ℕ) : Type 0 where
+  record Over (k : ℕ) (ns : List Word) (c : ℕ) : Type 0 where
     number : ℕ
-    name : Name
+    name : Word
     there : getElem? ns number ≡ some name
     is : numberOf ds name ≡ some c
     over : chainOver ds k name ≡ true
 
-  first-over : (k : ℕ) (ns : List Name) (c : ℕ) → firstOver ds k ns ≡ some c → Over k ns c
+  first-over : (k : ℕ) (ns : List Word) (c : ℕ) → firstOver ds k ns ≡ some c → Over k ns c
   unfolding firstOver
   first-over k [] c e = absurd (Option·none-ne-some c e)
   first-over k (n ∷ ns) c e = by (chainOver ds k n) refl e (λ h. first-over k ns c h)
@@ -87,7 +87,7 @@ module _ (ds : Table) where
   record Leads (k b : ℕ) : Type 0 where
     over : anyName (chainOver ds k) (callsIn (bodyOfNumber ds b)) ≡ true
 
-  leads : (k : ℕ) (n : Name) (b : ℕ) → numberOf ds n ≡ some b → chainOver ds (suc k) n ≡ true → Leads k b
+  leads : (k : ℕ) (n : Word) (b : ℕ) → numberOf ds n ≡ some b → chainOver ds (suc k) n ≡ true → Leads k b
   unfolding chainOver bodyAct bodyOf
   leads k n b e h = record { over = ap (λ (o : Option ℕ). anyName (chainOver ds k) (callsIn (actOr (bodyNumber ds o)))) (sym e) ∙ h }
 
@@ -95,11 +95,11 @@ module _ (ds : Table) where
   NotNone none = ⊥
   NotNone (some c) = Unit {0}
 
-  record Next (k : ℕ) (ns : List Name) : Type 0 where
+  record Next (k : ℕ) (ns : List Word) : Type 0 where
     number : ℕ
     is : firstOver ds k ns ≡ some number
 
-  next-over : (k : ℕ) (ns : List Name) → AllKnown ds ns → anyName (chainOver ds k) ns ≡ true → Next k ns
+  next-over : (k : ℕ) (ns : List Word) → AllKnown ds ns → anyName (chainOver ds k) ns ≡ true → Next k ns
   unfolding firstOver anyName
   next-over k [] x h = absurd (false≢true h)
   next-over k (n ∷ ns) x h = chosen (by (chainOver ds k n) h (λ q. next-over k ns (x .1) q))
@@ -150,11 +150,11 @@ module _ (ds : Table) where
         by false q rest =
             subst (λ (o : Option ℕ). Ends listed k (b ∷ elim o [ none ↦ [] | some c ↦ chainBehind ds k (b ∷ listed) c ])) (sym (next .is)) (added (rest (next .number) further))
 
-begins-over : (ds : Table) (n : Name) (o : Option Action) → beginsChain ds n o ≡ true → chainOver ds longestChain n ≡ true
+begins-over : (ds : Table) (n : Word) (o : Option Action) → beginsChain ds n o ≡ true → chainOver ds longestChain n ≡ true
 begins-over ds n none e = absurd (false≢true e)
 begins-over ds n (some a) e = e
 
-refused-body : (all : Table) (p : ℕ) (ds : Table) (n : Name) → refusedBody all p ds ≡ some n
+refused-body : (all : Table) (p : ℕ) (ds : Table) (n : Word) → refusedBody all p ds ≡ some n
     → (i : ℕ) × (d : Declared) × (getElem? ds i ≡ some d) × (d .name .place ≡ p) × (d .name .word ≡ n) × (chainOver all longestChain n ≡ true)
 unfolding refusedBody
 refused-body all p [] n e = absurd (Option·none-ne-some n e)
@@ -167,11 +167,11 @@ refused-body all p (d ∷ ds) n e = by (eqb (d .name .place) p && beginsChain al
     by true q h rest =
         let w = Option·some-injective (d .name .word) n h in
         let x = and-both (eqb (d .name .place) p) (beginsChain all (d .name .word) (d .body)) q in
-        (0, d, refl, eqb-true (d .name .place) p (x .0), w, subst (λ (y : Name). chainOver all longestChain y ≡ true) w (begins-over all (d .name .word) (d .body) (x .1)))
+        (0, d, refl, eqb-true (d .name .place) p (x .0), w, subst (λ (y : Word). chainOver all longestChain y ≡ true) w (begins-over all (d .name .word) (d .body) (x .1)))
     by false q h rest = let r = rest h in (suc (r .0), r .1, r .2, r .3, r .4, r .5)
 
-record Picked (o : Option Name) : Type 0 where
-  name : Name
+record Picked (o : Option Word) : Type 0 where
+  name : Word
   is : o ≡ some name
 
 picked : (all : Table) (p : ℕ) (ds : Table) → Among (fault 51 p) (chains all ds) → Picked (refusedBody all p ds)
@@ -195,7 +195,7 @@ picked all p (d ∷ ds) x = by (among-either (fault 51 p) (when (beginsChain all
     by (inr y) rest = behind (eqb (d .name .place) p && beginsChain all (d .name .word) (d .body)) (rest y)
 
 -- a name that begins a chain is declared
-declared-over : (ds : Table) (k : ℕ) (n : Name) → chainOver ds (suc k) n ≡ true → Known ds n
+declared-over : (ds : Table) (k : ℕ) (n : Word) → chainOver ds (suc k) n ≡ true → Known ds n
 unfolding chainOver bodyAct bodyOf bodyNumber callsIn callsI anyName
 declared-over ds k n h = by (numberOf ds n) refl h
   where
@@ -222,7 +222,7 @@ of-chains ds p x = by (among-either (fault 51 p) (mains false ds) (chains ds ds 
     by (inl y) = absurd (omega (arith, mains-50 false ds (fault 51 p) y))
     by (inr y) = last (among-either (fault 51 p) (chains ds ds) (groupsFaults ds ds) y)
 
-pub chain-named : (outer : Name) (ds : Table) (p : ℕ) → faults40 outer ds ds ≡ [] → Among (fault 51 p) (faults50 ds) → ChainNamed ds p
+pub chain-named : (outer : Word) (ds : Table) (p : ℕ) → faults40 outer ds ds ≡ [] → Among (fault 51 p) (faults50 ds) → ChainNamed ds p
 unfolding reason51
 chain-named outer ds p of40 x =
     let w = picked ds p ds (of-chains ds p x) in

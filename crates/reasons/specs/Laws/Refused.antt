@@ -14,9 +14,9 @@ use Rattle.rules.specs.Text.Tokens.{Info}
 use Rattle.rules.specs.Limits.{longestChain}
 use Rattle.rules.specs.Grammar.Trees.{Action, block, labelled, if-then, decode, repeat, leave, restart, activate, stop, no-op, transfer, Members, end, also, next}
 use Rattle.rules.specs.Grammar.Trees.{Alternatives, counted, selected, Counted, counted-end, counted-more, Selected, select, otherwise, SelectedMore, selected-end, selected-more}
-use Rattle.rules.specs.Declarations.{Name, Names, BitNames, Target, Declared, Table, numberOf, reach, reachNumber, reachOf, reachStorage, reachUnder, reachOn}
+use Rattle.rules.specs.Declarations.{Word, Names, BitNames, Target, Declared, Table, numberOf, reach, reachNumber, reachOf, reachStorage, reachUnder, reachOn}
 use Rattle.rules.specs.Steps.Actions.{Access, Act, seq, par, label, ins, Ins, iff, call, noop, Alts, alt, actOf}
-use Rattle.rules.specs.Steps.Actions.{decode as decodes, repeat as repeats, leave as leaves, restart as restarts, stop as stops, transfer as transfers, end as alts-end}
+use Rattle.rules.specs.Steps.Actions.{decode as decodes, repeat as repeats, leave as leaves, restart as restarts, stop as stops, transfer as transfers, no-alts}
 use Rattle.rules.specs.Steps.Runs.{bodyAct}
 use Rattle.rules.specs.Whole.Sets.{Sets, touched, race, member, meet, mayStop, owner, ownerIn, stores, setsOf, setsI, setsAlts, bodySets}
 use Rattle.rules.specs.Faults.Fault.{Fault, fault, when, leastFrom, least}
@@ -363,7 +363,7 @@ module _ (ds : Table) (c : ℕ) where
       by none = few-none
       by (some b) = under-few b (t .bits) (numberOf ds (t .name .word))
 
-  owner-few : (n : Name) → Few (owner ds n)
+  owner-few : (n : Word) → Few (owner ds n)
   unfolding owner reach reachNumber
   owner-few n = numbered (numberOf ds n)
     where
@@ -380,7 +380,7 @@ module _ (ds : Table) (c : ℕ) where
   stores-few [] = few-none
   stores-few (a ∷ more) = few-both (owner ds (a .name .word)) (stores ds more) (owner-few (a .name .word)) (stores-few more)
 
-  module _ (body : Name → Sets) (known : (n : Name) → Few (body n .writes)) where
+  module _ (body : Word → Sets) (known : (n : Word) → Few (body n .writes)) where
     mutual
       unfolding setsOf
 
@@ -402,10 +402,10 @@ module _ (ds : Table) (c : ℕ) where
       ins-few (transfers d e) = stores-few d
 
       alts-few : (bs : Alts) → Few (setsAlts ds body bs .writes)
-      alts-few alts-end = few-none
+      alts-few no-alts = few-none
       alts-few (alt x a bs) = few-both (setsOf ds body a .writes) (setsAlts ds body bs .writes) (act-few a) (alts-few bs)
 
-  bodies-few : (k : ℕ) (n : Name) → Few (bodySets ds k n .writes)
+  bodies-few : (k : ℕ) (n : Word) → Few (bodySets ds k n .writes)
   unfolding bodySets
   bodies-few zero n = few-none
   bodies-few (suc k) n = act-few (bodySets ds k) (bodies-few k) (bodyAct ds n)

@@ -12,7 +12,7 @@ use Rattle.rules.specs.Calls.Check.{CheckCall, verdictNumber}
 use Rattle.rules.specs.Calls.Check as check
 use Rattle.rules.specs.Reasons.{Reason, no-reason, Explains, plain, by-race, by-chain}
 use Rattle.rules.specs.Calls.Why.{WhyMemory, WhyCall, short-memory, long-text, answer, reasonSize, reasoned}
-use Rattle.reasons.specs.Told.{RaceTold, ChainTold}
+use Rattle.rules.specs.Truth.{RaceTold, ChainTold}
 use Rattle.reasons.specs.Laws.Unique.{race-only, chain-only}
 use Rattle.reasons.specs.Laws.Whole.{whole-refused}
 use Rattle.reasons.specs.Laws.Races.{race-true}

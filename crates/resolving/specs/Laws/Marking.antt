@@ -11,11 +11,12 @@ use native.Mathlib.Decide.{decLt, ℕ-discrete}
 use borrow.Author.Tests.{eqb-true, eqb-false}
 use lib.ListN.{length, drop, drop-of-length-le}
 use Rattle.cells.specs.Cells.{cell}
-use Rattle.rules.specs.Text.Tokens.{Name as Name-kind, kindNo, kindAt}
+use Rattle.rules.specs.Text.Tokens.{Name, kindNo}
 use Rattle.rules.specs.Text.Scan.{sameBytes}
 use Rattle.rules.specs.Grammar.Trees.{Tokens, Declaration}
-use Rattle.rules.specs.Declarations.{Name, declaredOf, numberFrom, numberOf}
+use Rattle.rules.specs.Declarations.{Word, declaredOf, numberFrom, numberOf}
 use Rattle.rules.specs.Limits.{mostTokens}
+use Rattle.laws_grammar.specs.Cited.Kinds.{kindAt}
 use Rattle.laws_grammar.specs.Grammar.Kinds.{kindAt-kindNo}
 use Rattle.table.specs.Holds.{kindByte, insideCell, linkCell, tokenAt}
 use Rattle.table.specs.Kept.{InsidePut}
@@ -81,7 +82,7 @@ module _ {old decls : List ℕ} {ts : Tokens} {list : List Declaration} (l : Lis
     link-named : NameAt ts q
     link-named = rw link (l .table .spelled .name p declared-at)
 
-    one-marked : {now : List ℕ} → InsidePut old now q k → (outer : Name) → MarkedFrom old ts outer list (k + 1) → MarkedFrom now ts outer list k
+    one-marked : {now : List ℕ} → InsidePut old now q k → (outer : Word) → MarkedFrom old ts outer list (k + 1) → MarkedFrom now ts outer list k
     unfolding numberFrom
     one-marked {now} put outer r = record { marked = λ j n. rw (inside-written put (few-names (l .table) link-named) .link j) (by j n (sameBytes (wordAt ts p) (wordAt ts j)) refl) }
       where
@@ -103,7 +104,7 @@ module _ {old decls : List ℕ} {ts : Tokens} {list : List Declaration} (l : Lis
   unfolding numberFrom
   outer-marked {now} put forgotten = record { marked = λ j n. rw (inside-written put (few-names (l .table) outer-named) .link j) (by j n (sameBytes (wordAt ts 0) (wordAt ts j)) refl) }
     where
-      none-left : (w : Name) → numberFrom (length list) w (map declaredOf (drop (length list) list)) ≡ none
+      none-left : (w : Word) → numberFrom (length list) w (map declaredOf (drop (length list) list)) ≡ none
       none-left w = let past : length list ≤ length list = omega arith in rw (drop-of-length-le list past, numberFrom)
 
       by : (j : ℕ) → NameAt ts j → (b : Bool) → sameBytes (wordAt ts 0) (wordAt ts j) ≡ b
@@ -120,11 +121,11 @@ module _ {old : List ℕ} {ts : Tokens} (t : SpelledIn old ts) {i x : ℕ} (with
   kind-is : x ≡ kindNo (tokenAt ts i .kind)
   kind-is = kind ∙ t .holds .entry i within .kind
 
-  pub name-there : x ≡ kindNo Name-kind → NameAt ts i
+  pub name-there : x ≡ kindNo Name → NameAt ts i
   name-there e = record { within = within; kind = sym (kindAt-kindNo (tokenAt ts i .kind)) ∙ ap kindAt (sym kind-is ∙ e) }
 
-  module _ (outer : Name) (list : List Declaration) (marks : MarkedFrom old ts outer list 0) (means : MeantTo old ts outer list i) where
-    no-name : (x ≡ kindNo Name-kind → ⊥) → MeantTo old ts outer list (i + 1)
+  module _ (outer : Word) (list : List Declaration) (marks : MarkedFrom old ts outer list 0) (means : MeantTo old ts outer list i) where
+    no-name : (x ≡ kindNo Name → ⊥) → MeantTo old ts outer list (i + 1)
     no-name f = record { means = λ j h n. by j h n (decLt j i) }
       where
         by : (j : ℕ) → j < i + 1 → NameAt ts j → Dec (j < i) → insideCell old j ≡ meaningOf outer (map declaredOf list) (wordAt ts j)
@@ -191,7 +192,7 @@ module _ {old decls : List ℕ} {k p : ℕ} (e : p ≡ cell 2 decls k) where
     )
 
     pub marked-one : {now : List ℕ} → InsidePut old now q k → ((ts : Tokens) × (list : List Declaration) × Lists old decls ts list × (k < length list))
-        → InsideOnly old now × ((ts : Tokens) (outer : Name) (list : List Declaration) → Lists old decls ts list → k < length list
+        → InsideOnly old now × ((ts : Tokens) (outer : Word) (list : List Declaration) → Lists old decls ts list → k < length list
         → MarkedFrom old ts outer list (k + 1) → MarkedFrom now ts outer list k)
     marked-one put (ts, list, l, h) = (
       inside-written put (few-names (l .table) (link-named l h e link)),
@@ -205,7 +206,7 @@ cell-room (ts, list, l, h) = omega (arith, h, l .hold .room)
 pub record MarkedTo (old now decls : List ℕ) (m k : ℕ) : Type 0 where
   pub within : k ≤ m
   pub only : InsideOnly old now
-  pub marks : (ts : Tokens) (outer : Name) (list : List Declaration) → Lists old decls ts list → m ≡ length list
+  pub marks : (ts : Tokens) (outer : Word) (list : List Declaration) → Lists old decls ts list → m ≡ length list
       → MarkedFrom old ts outer list m → MarkedFrom now ts outer list k
 
 pub none-marked : (records decls : List ℕ) (m : ℕ) → MarkedTo records records decls m m
@@ -237,7 +238,7 @@ pub outer-inside : {entry decls : List ℕ} {m : ℕ} → ((ts : Tokens) × (lis
 outer-inside (ts, list, l, e) = name-inside (l .table) (l .outer)
 
 pub one-less : {old now after decls : List ℕ} {m k h : ℕ} → MarkedTo old now decls m k → h + 1 ≡ k
-    → InsideOnly now after × ((ts : Tokens) (outer : Name) (list : List Declaration) → Lists now decls ts list → h < length list
+    → InsideOnly now after × ((ts : Tokens) (outer : Word) (list : List Declaration) → Lists now decls ts list → h < length list
     → MarkedFrom now ts outer list (h + 1) → MarkedFrom after ts outer list h) → MarkedTo old after decls m h
 one-less r c p = record {
   within = omega (arith, r .within);
@@ -247,7 +248,7 @@ one-less r c p = record {
 
 -- what `resolve_one` promises
 abbrev pub Takes : List ℕ → List ℕ → ℕ → Type 0
-Takes old now i = (ts : Tokens) (outer : Name) (list : List Declaration) → SpelledIn old ts → i < length ts → MarkedFrom old ts outer list 0
+Takes old now i = (ts : Tokens) (outer : Word) (list : List Declaration) → SpelledIn old ts → i < length ts → MarkedFrom old ts outer list 0
     → MeantTo old ts outer list i → MarkedFrom now ts outer list 0 × MeantTo now ts outer list (i + 1)
 
 module _ {old : List ℕ} {i : ℕ} where
@@ -255,10 +256,10 @@ module _ {old : List ℕ} {i : ℕ} where
   token-inside (ts, t, l) = omega (arith, t .holds .record-room)
 
   module _ {x : ℕ} (kind : x ≡ kindByte old i) where
-    pub passed-over : (x ≡ kindNo Name-kind → ⊥) → InsideOnly old old × Takes old old i
+    pub passed-over : (x ≡ kindNo Name → ⊥) → InsideOnly old old × Takes old old i
     passed-over f = (inside-none old, λ ts outer list t l marks means. (marks, no-name t l kind outer list marks means f))
 
-    module _ (is : x ≡ kindNo Name-kind) {q : ℕ} (link : q ≡ linkCell old i) where
+    module _ (is : x ≡ kindNo Name) {q : ℕ} (link : q ≡ linkCell old i) where
       pub spelling-inside : ((ts : Tokens) × SpelledIn old ts × (i < length ts)) → 8 * q + 8 ≤ length old
       spelling-inside (ts, t, l) = name-inside t (rw link (t .spelled .name i (name-there t l kind is)))
 
@@ -276,7 +277,7 @@ module _ {old : List ℕ} {i : ℕ} where
 pub record Resolving (old now : List ℕ) (n i : ℕ) : Type 0 where
   pub within : i ≤ n
   pub only : InsideOnly old now
-  pub means : (ts : Tokens) (outer : Name) (list : List Declaration) → SpelledIn old ts → n ≡ length ts → MarkedFrom old ts outer list 0
+  pub means : (ts : Tokens) (outer : Word) (list : List Declaration) → SpelledIn old ts → n ≡ length ts → MarkedFrom old ts outer list 0
       → MarkedFrom now ts outer list 0 × MeantTo now ts outer list i
 
 pub none-resolved : (records : List ℕ) (n : ℕ) → Resolving records records n 0
@@ -298,7 +299,7 @@ module _ {old now : List ℕ} {n i : ℕ} (r : Resolving old now n i) where
         let before = r .means ts outer list t e m in p .1 ts outer list (table-still (r .only) t) (omega arith) (before .0) (before .1);
   }
 
-  pub all-resolved : n ≤ i → InsideOnly old now × ((ts : Tokens) (outer : Name) (list : List Declaration) → SpelledIn old ts → n ≡ length ts
+  pub all-resolved : n ≤ i → InsideOnly old now × ((ts : Tokens) (outer : Word) (list : List Declaration) → SpelledIn old ts → n ≡ length ts
       → MarkedFrom old ts outer list 0 → MeantTo now ts outer list n)
   all-resolved l = let x : i ≡ n = omega (arith, r .within) in (r .only, λ ts outer list t e m. rw x at (r .means ts outer list t e m .1))
 
@@ -317,7 +318,7 @@ module _ {entry decls : List ℕ} {m n : ℕ} (s : (ts : Tokens) × (list : List
 pub all-given : {entry old now after decls : List ℕ} {m n : ℕ} → InsideOnly entry old × Forgotten old n
     → InsideOnly old now × ((ts : Tokens) (list : List Declaration) → Lists old decls ts list → m ≡ length list → Forgotten old (length ts)
     → MarkedFrom now ts (wordAt ts 0) list 0)
-    → InsideOnly now after × ((ts : Tokens) (outer : Name) (list : List Declaration) → SpelledIn now ts → n ≡ length ts → MarkedFrom now ts outer list 0
+    → InsideOnly now after × ((ts : Tokens) (outer : Word) (list : List Declaration) → SpelledIn now ts → n ≡ length ts → MarkedFrom now ts outer list 0
     → MeantTo after ts outer list n)
     → InsideOnly entry after × ((ts : Tokens) (list : List Declaration) → Lists entry decls ts list → m ≡ length list → n ≡ length ts
     → MeantTo after ts (wordAt ts 0) list n)

@@ -12,8 +12,7 @@ use lib.ListN.{length, drop, getElem?, drop-of-length-le}
 use Rattle.cells.specs.Cells.{cell}
 use Rattle.rules.specs.Text.Tokens.{Info, Token, Name, kindNo}
 use Rattle.rules.specs.Text.Scan.{sameBytes}
-use Rattle.rules.specs.Declarations.{Name as Word, Declared, declaredOf, Table, numberFrom, numberOf}
-use Rattle.rules.specs.Faults.Fault.{Fault, when}
+use Rattle.rules.specs.Declarations.{Declared, declaredOf, Table, numberFrom, numberOf}
 use Rattle.rules.specs.Faults.Whole.{mains, mainName, chains, groupsFaults, faults50}
 use Rattle.laws_orders.specs.Orders.Tests.{impossible}
 use Rattle.laws_accepted.specs.Accepted.Faultless.{both-empty}

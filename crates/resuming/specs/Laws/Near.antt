@@ -10,7 +10,7 @@ use lib.ListN.{length, getElem?}
 use Rattle.rules.specs.Text.Tokens.{tk}
 use Rattle.rules.specs.Limits.{longestChain}
 use Rattle.rules.specs.Grammar.Trees.{Tokens, bit, upto, OwnBits, unnamed, named, ownBitsTokens, MainBits, bitless, main-bits, mainBitsTokens, Declaration, plain, main, words, with-bits, bare-body, carrier, given, body, mapped, declarationTokens, Heading, no-heading, heading, headingTokens, Declarations, declared-all, declared-also, declarationsTokens, Description, description, flatten, Action, block, labelled, if-then, decode, repeat, leave, restart, activate, stop, no-op, transfer, actionTokens, Members, end, also, next, membersTokens, Alternatives, counted, selected, alternativesTokens, Counted, counted-end, counted-more, countedTokens, Selected, select, otherwise, selectedTokens, SelectedMore, selected-end, selected-more, selectedMoreTokens}
-use Rattle.rules.specs.Declarations.{Name as Word, Declared, Table, declaredOf, restOf, declarations, bodyOf}
+use Rattle.rules.specs.Declarations.{Word, Declared, Table, declaredOf, restOf, declarations, bodyOf}
 use Rattle.rules.specs.Steps.Actions.{access, joinedAccesses, Act, inTurn, actOf, groups, altsOf, countedAlts, selectedAlts, moreAlts}
 use Rattle.rules.specs.Steps.Runs.{bodyAct}
 use Rattle.rules.specs.Whole.Sets.{member, stores}

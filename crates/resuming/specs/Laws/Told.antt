@@ -2,7 +2,7 @@
 -- Assumes nothing.
 use Prim.Native.Nat.{ℕ, _<_, _≤_}
 use mathlib.Core.Path.{_≡_, refl, sym, ap, _∙_}
-use mathlib.Core.Bool.{true, false, cond}
+use mathlib.Core.Bool.{cond}
 use mathlib.Core.List.{List, [], _∷_}
 use mathlib.Core.Option.{Option, none, some}
 use native.Mathlib.Omega.{arith}
@@ -11,14 +11,13 @@ use lib.Dec.{ltb}
 use lib.ListN.{length}
 use Rattle.rules.specs.Limits.{longestText}
 use Rattle.rules.specs.Grammar.Trees.{Action}
-use Rattle.rules.specs.Declarations.{Name, Table, bodyOf}
+use Rattle.rules.specs.Declarations.{Word, Table, bodyOf}
 use Rattle.rules.specs.Answers.{refusedNumbers}
 use Rattle.rules.specs.Paths.{Profile, passes, fails, folded, storageOf, not-accepted, profiled}
 use Rattle.rules.specs.Calls.Memory.{Memory, Enough, settled}
 use Rattle.rules.specs.Calls.Profile.{ProfileCall, answer, profileNumber, profileNumbers}
 use Rattle.rules.specs.Calls.Profile as call
 use Rattle.paths.specs.Cited.Early.{earlyPlaces, verdict, onStorage, onBody, profile}
-use Rattle.paths.specs.Cited.Least.{least}
 use Rattle.paths.specs.Least.{verdict-is}
 use Rattle.paths.specs.Profile.{profile-right, accepted-is-orderly}
 use Rattle.lent.specs.Numbers.{numbersOf}
@@ -40,7 +39,7 @@ use Rattle.resuming.specs.Laws.Outputs.{written-by, spelt-by}
 use Rattle.resuming.specs.Laws.Near.{places-under, written-near}
 
 -- the profile, by what the names mean
-module _ (ds : Table) (test output : Name) where
+module _ (ds : Table) (test output : Word) where
   without-test : bodyOf ds test ≡ none → profile ds test output ≡ fails 90 0
   unfolding profile
   without-test e = ap (onBody ds test output) e

@@ -1,5 +1,5 @@
 -- The faults of the 40s: of the bodies. An expression is judged with its length; "operands sound" means that no fault of the 40s lies in them.
-use Prim.Native.Nat.{ℕ, zero, suc, _+_, _-_, _*_, _/_, _%_, _^_, min, max}
+use Prim.Native.Nat.{ℕ, zero, suc, _+_, _-_, _/_, _%_, _^_, min, max}
 use mathlib.Core.Bool.{Bool, true, false, not, _&&_, _||_}
 use mathlib.Core.List.{List, [], _∷_, _++_}
 use mathlib.Core.Option.{Option, none, some}
@@ -7,12 +7,12 @@ use lib.Dec.{leb, ltb, eqb}
 use Rattle.rules.specs.Limits.{mostAlternatives, mostBits}
 use Rattle.rules.specs.Text.Tokens.{Info}
 use Rattle.rules.specs.Text.Scan.{sameBytes}
-use Rattle.rules.specs.Grammar.Trees.{Bits, all-bits, bits, Subscript, Joined, alone, joined, Literal, Selector, one-of, any-of, Action, block, labelled, if-then, decode, repeat, leave, restart, activate, stop, no-op, transfer, Members, end, also, next}
+use Rattle.rules.specs.Grammar.Trees.{Bits, all-bits, bits, Subscript, Joined, alone, joined, Selector, one-of, any-of, Action, block, labelled, if-then, decode, repeat, leave, restart, activate, stop, no-op, transfer, Members, end, also, next}
 use Rattle.rules.specs.Grammar.Trees.{Alternatives, counted, selected, Counted, counted-end, counted-more, Selected, select, otherwise, SelectedMore, selected-end, selected-more, Operand, Tail}
 use Rattle.rules.specs.Grammar.Precedence.{Expr, leaf, node, Factor, number, cell, group, inverse, Index, no-index, index, exprOf, indexOf}
 use Rattle.rules.specs.Values.{opBits}
 use Rattle.rules.specs.Selectors.{Item, pattern, between, highest, selectorItems, literalInfo}
-use Rattle.rules.specs.Declarations.{Name, Names, howMany, BitNames, bitCount, Declared, Table, numberOf, namesOf, reach}
+use Rattle.rules.specs.Declarations.{Word, Names, howMany, BitNames, bitCount, Declared, Table, numberOf, namesOf, reach}
 use Rattle.rules.specs.Whole.Sets.{ownerIn, member}
 use Rattle.rules.specs.Faults.Fault.{Fault, fault, when}
 use Rattle.rules.specs.Faults.Declared.{isKnown, inside, declaredAt}
@@ -54,10 +54,10 @@ accessJudged p w none x b = judgedAs (fault 41 p ∷ []) 0
 accessJudged p w (some c) x b = let j = bitsJudged p c b in judgedAs (when (not (subscripted w x)) 41 p ++ j .faults) (j .bits)
 
 -- 40: "unknown name"; the outer name is known, and has neither bits nor body
-abbrev pub undeclared : Name → Info → List Fault
+abbrev pub undeclared : Word → Info → List Fault
 undeclared outer i = when (not (sameBytes outer (i .word))) 40 (i .place) ++ when (sameBytes outer (i .word)) 41 (i .place)
 
-module _ (outer : Name) (ds : Table) where
+module _ (outer : Word) (ds : Table) where
   unfoldable pub judgeName : Info → Index → Bits → Option Declared → Judged
   judgeName i x b none = judgedAs (undeclared outer i) 0
   judgeName i x b (some d) = accessJudged (i .place) (d .words) (d .bits) x b
@@ -112,7 +112,7 @@ module _ (outer : Name) (ds : Table) where
   activated n none = undeclared outer n
   activated n (some d) = elim (d .body) [ none ↦ fault 41 (n .place) ∷ [] | some a ↦ [] ]
 
--- 45: whether some value lies in both of two items; that it is so is the law `meet-share` with `share-meet` (crates/selectors, Laws/Exact.antt).
+-- 45: whether some value lies in both of two items; that it is so is the law `meet-share` with `share-meet` (crates/summaries, Laws/Exact.antt).
 -- Two patterns: they agree in each bit that is free in neither.
 unfoldable pub patternsMeet : ℕ → ℕ → ℕ → ℕ → ℕ → Bool
 patternsMeet zero v f w g = true
@@ -227,14 +227,14 @@ unfoldable mutual
   moreLabels (selected-end e) ls = ls
   moreLabels (selected-more c s) ls = selectedLabels s ls
 
-unfoldable pub labelFaults : List Name → List Info → List Fault
+unfoldable pub labelFaults : List Word → List Info → List Fault
 labelFaults known [] = []
 labelFaults known (l ∷ ls) = when (isKnown (l .word) known) 44 (l .place) ++ labelFaults (l .word ∷ known) ls
 
 -- The faults of an action, under the labels around it and the body's own name.
-module _ (outer : Name) (ds : Table) where
+module _ (outer : Word) (ds : Table) where
   unfoldable mutual
-    pub actionFaults : List Name → Action → List Fault
+    pub actionFaults : List Word → Action → List Fault
     actionFaults ls (block b a m) = actionFaults ls a ++ membersFaults ls m
     actionFaults ls (labelled n b a) = actionFaults (n .word ∷ ls) a
     actionFaults ls (if-then i o t w a) = faultsIn outer ds o t ++ actionFaults ls a
@@ -250,32 +250,32 @@ module _ (outer : Name) (ds : Table) where
         judgeJoined outer ds (judgeDestination outer ds n s b) j
         ++ (storedTwice outer ds (ownerIn (reach ds (n .word))) j ++ faultsIn outer ds o t)
 
-    pub membersFaults : List Name → Members → List Fault
+    pub membersFaults : List Word → Members → List Fault
     membersFaults ls (end e) = []
     membersFaults ls (also i a m) = actionFaults ls a ++ membersFaults ls m
     membersFaults ls (next i a m) = actionFaults ls a ++ membersFaults ls m
 
-    pub insideFaults : List Name → Alternatives → List Fault
+    pub insideFaults : List Word → Alternatives → List Fault
     insideFaults ls (counted a c) = actionFaults ls a ++ insideCounted ls c
     insideFaults ls (selected s) = insideSelected ls s
 
-    pub insideCounted : List Name → Counted → List Fault
+    pub insideCounted : List Word → Counted → List Fault
     insideCounted ls (counted-end e) = []
     insideCounted ls (counted-more c a more) = actionFaults ls a ++ insideCounted ls more
 
-    pub insideSelected : List Name → Selected → List Fault
+    pub insideSelected : List Word → Selected → List Fault
     insideSelected ls (select s b a m) = actionFaults ls a ++ insideMore ls m
     insideSelected ls (otherwise i b a e) = actionFaults ls a
 
-    pub insideMore : List Name → SelectedMore → List Fault
+    pub insideMore : List Word → SelectedMore → List Fault
     insideMore ls (selected-end e) = []
     insideMore ls (selected-more c s) = insideSelected ls s
 
-  unfoldable pub declaredNames : Table → List Name
+  unfoldable pub declaredNames : Table → List Word
   declaredNames [] = outer ∷ []
   declaredNames (d ∷ more) = d .name .word ∷ declaredNames more
 
-  abbrev pub bodyFaults : Name → Option Action → List Fault
+  abbrev pub bodyFaults : Word → Option Action → List Fault
   bodyFaults n none = []
   bodyFaults n (some a) = actionFaults (n ∷ []) a ++ labelFaults (declaredNames ds) (labels a [])
 

@@ -1,5 +1,5 @@
 -- The faults of the 30s: of the declarations.
-use Prim.Native.Nat.{ℕ, zero, suc, _+_, min, max}
+use Prim.Native.Nat.{ℕ, _+_, min, max}
 use mathlib.Core.Bool.{Bool, true, false, not, _&&_, _||_}
 use mathlib.Core.List.{List, [], _∷_, _++_}
 use mathlib.Core.Option.{Option, none, some}
@@ -7,15 +7,15 @@ use lib.Dec.{leb, ltb, eqb}
 use lib.ListN.{getElem?}
 use Rattle.rules.specs.Limits.{largestName, mostDeclarations, mostWords, mostBits}
 use Rattle.rules.specs.Text.Scan.{sameBytes}
-use Rattle.rules.specs.Declarations.{Name, Names, howMany, BitNames, one-unnamed, these, bitCount, Target, Declared, Table, numberOf, wordsOf}
+use Rattle.rules.specs.Declarations.{Word, Names, howMany, BitNames, one-unnamed, these, bitCount, Target, Declared, Table, numberOf, wordsOf}
 use Rattle.rules.specs.Faults.Fault.{Fault, when}
 
 -- 30: "name declared twice, outer name included"; the names before it are known
-unfoldable pub isKnown : Name → List Name → Bool
+unfoldable pub isKnown : Word → List Word → Bool
 isKnown n [] = false
 isKnown n (m ∷ ms) = sameBytes m n || isKnown n ms
 
-unfoldable pub twice : List Name → Table → List Fault
+unfoldable pub twice : List Word → Table → List Fault
 twice known [] = []
 twice known (d ∷ ds) = when (isKnown (d .name .word) known) 30 (d .name .place) ++ twice (d .name .word ∷ known) ds
 
@@ -69,13 +69,13 @@ abbrev pub declaredAt : Table → Option ℕ → Option Declared
 declaredAt ds none = none
 declaredAt ds (some i) = getElem? ds i
 
-unfoldable pub badMapping : Name → Table → Declared → Option Target → Bool
+unfoldable pub badMapping : Word → Table → Declared → Option Target → Bool
 badMapping outer ds d none = false
 badMapping outer ds d (some t) = sameBytes outer (t .name .word) || not (goodTarget (d .bits) (t .bits) (declaredAt ds (numberOf ds (t .name .word))))
 
-unfoldable pub mappings : Name → Table → Table → List Fault
+unfoldable pub mappings : Word → Table → Table → List Fault
 mappings outer all [] = []
 mappings outer all (d ∷ ds) = when (badMapping outer all d (d .target)) 33 (d .name .place) ++ mappings outer all ds
 
-unfoldable pub faults30 : Name → Table → List Fault
+unfoldable pub faults30 : Word → Table → List Fault
 faults30 outer ds = twice (outer ∷ []) ds ++ (large ds ++ (tooMany 0 0 ds ++ mappings outer ds ds))

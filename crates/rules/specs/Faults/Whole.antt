@@ -1,16 +1,14 @@
 -- The faults of the 50s: of the whole.
-use Prim.Native.Nat.{ℕ, zero, suc}
 use mathlib.Core.Bool.{Bool, true, false, not, _||_}
 use mathlib.Core.List.{List, [], _∷_, _++_}
 use mathlib.Core.Option.{Option, none, some}
-use Rattle.rules.specs.Text.Tokens.{Info}
 use Rattle.rules.specs.Grammar.Trees.{Action, block, labelled, if-then, decode, repeat, leave, restart, activate, stop, no-op, transfer, Members, end, also, next}
 use Rattle.rules.specs.Grammar.Trees.{Alternatives, counted, selected, Counted, counted-end, counted-more, Selected, select, otherwise, SelectedMore, selected-end, selected-more}
-use Rattle.rules.specs.Declarations.{Name, Declared, Table}
-use Rattle.rules.specs.Steps.Actions.{Act, actOf}
+use Rattle.rules.specs.Declarations.{Word, Table}
+use Rattle.rules.specs.Steps.Actions.{actOf}
 use Rattle.rules.specs.Whole.Sets.{Sets, touched, race, mayStop, chainOver}
 use Rattle.rules.specs.Limits.{longestChain}
-use Rattle.rules.specs.Faults.Fault.{Fault, fault, when}
+use Rattle.rules.specs.Faults.Fault.{Fault, when}
 use Rattle.rules.specs.Faults.Declared.{isKnown}
 use Rattle.rules.specs.Faults.Bodies.{firstPlace}
 
@@ -20,12 +18,12 @@ mains seen [] = when (not seen) 50 0
 mains seen (d ∷ ds) = elim (d .mainly) [ none ↦ mains seen ds | some i ↦ when seen 50 (i .place) ++ mains true ds ]
 
 -- the name of MAIN's body
-unfoldable pub mainName : Table → Name
+unfoldable pub mainName : Table → Word
 mainName [] = []
 mainName (d ∷ ds) = elim (d .mainly) [ none ↦ mainName ds | some i ↦ d .name .word ]
 
 -- 51: "a chain of activations over 16 bodies long", at each body that begins one
-abbrev pub beginsChain : Table → Name → Option Action → Bool
+abbrev pub beginsChain : Table → Word → Option Action → Bool
 beginsChain all n none = false
 beginsChain all n (some a) = chainOver all longestChain n
 
@@ -35,13 +33,13 @@ chains all (d ∷ ds) = when (beginsChain all (d .name .word) (d .body)) 51 (d .
 
 -- The labels inside the innermost member of a group of two or more; none outside any such group.
 abbrev pub Scope : Type 0
-Scope = Option (List Name)
+Scope = Option (List Word)
 
-abbrev pub labelled-in : Name → Scope → Scope
+abbrev pub labelled-in : Word → Scope → Scope
 labelled-in l none = none
 labelled-in l (some ls) = some (l ∷ ls)
 
-abbrev pub aimsOut : Scope → Name → Bool
+abbrev pub aimsOut : Scope → Word → Bool
 aimsOut none n = false
 aimsOut (some ls) n = not (isKnown n ls)
 

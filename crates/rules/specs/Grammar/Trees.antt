@@ -1,7 +1,7 @@
 -- The syntax trees of document 01, with a token's info at each leaf, and the tokens that each stands for.
 -- A tree's tokens are written in front of the tokens that follow it: `actionTokens a ts` is the tokens of a, then ts.
 use mathlib.Core.List.{List, [], _∷_}
-use Rattle.rules.specs.Text.Tokens.{Kind, Info, Token, tk, Op, opKind}
+use Rattle.rules.specs.Text.Tokens.{Info, Token, tk, Op, opKind}
 use Rattle.rules.specs.Text.Tokens.{Name, Const, Masked, LPar, RPar, LBra, RBra, Less, Greater, Comma, Semi, Colon, Becomes, Equals, Arrow, At, Stars}
 use Rattle.rules.specs.Text.Tokens.{BEGIN, END, NEXT, IF, DECODE, OTHERWISE, REPEAT, LEAVE, RESTART, MAIN, STOP, NO-OP, NOT}
 
@@ -26,7 +26,7 @@ abbrev pub bitsTokens : Bits → Tokens → Tokens
 bitsTokens all-bits ts = ts
 bitsTokens (bits l n e) ts = tk Less l ∷ tk Const n ∷ bitsEndTokens e ts
 
--- An expression is an operand and a tail: a chain `operand op operand op ..`. Its precedence is worked out in Chains.
+-- An expression is an operand and a tail: a chain `operand op operand op ..`. How its operators bind is in Precedence.antt.
 mutual
   pub data Operand : Type 0 where
     constant : Info → Operand

@@ -1,12 +1,12 @@
 -- What document 01 asks of the answer to the tokens (rows 20 and 21), said of tokens and trees alone.
 use mathlib.Core.Path.{_≡_}
 use mathlib.Core.Bool.{Bool, true, false, _||_}
-use mathlib.Core.List.{List, [], _∷_, _++_}
+use mathlib.Core.List.{[], _∷_, _++_}
 use Prim.Native.Nat.{ℕ, zero, suc, _≤_, _<_}
 use lib.Dec.{T}
 use lib.ListN.{length, take, getD}
 use Rattle.rules.specs.Limits.{deepest}
-use Rattle.rules.specs.Text.Tokens.{Kind, Info, Token, tk, Name, same, BEGIN, END, LPar, RPar, LBra, RBra}
+use Rattle.rules.specs.Text.Tokens.{Kind, Info, tk, Name, same, BEGIN, END, LPar, RPar, LBra, RBra}
 use Rattle.rules.specs.Grammar.Trees.{Tokens, Description, flatten}
 
 abbrev pub anyInfo : Info
@@ -49,10 +49,6 @@ pub record Crowded (ts : Tokens) (k : ℕ) : Type 0 where
   pub there : k < length ts
   pub opener : T (opens ((getD ts k (tk Name anyInfo)) .kind))
   pub full : deepest ≤ opened 0 (take k ts)
-
-pub record Accepted (ts : Tokens) : Type 0 where
-  pub whole : IsDescription ts
-  pub shallow : (j : ℕ) → ¬ Crowded ts j
 
 -- 20 at token k, or at the end of the text: the tokens before it begin a description, and with it they do not; at the end, they are none
 pub record Refused20 (ts : Tokens) (k : ℕ) : Type 0 where

@@ -5,11 +5,11 @@ use mathlib.Core.List.{List, [], _∷_}
 use mathlib.Core.Option.{Option, none, some}
 use Rattle.rules.specs.Text.Tokens.{Info}
 use Rattle.rules.specs.Grammar.Trees.{Bits, Subscript, Joined, alone, joined, Action, block, labelled, if-then, activate, no-op, Members, also, next}
-use Rattle.rules.specs.Grammar.Trees.{decode as decode-tree, repeat as repeat-tree, leave as leave-tree, restart as restart-tree, stop as stop-tree, transfer as transfer-tree, end as end-tree}
+use Rattle.rules.specs.Grammar.Trees.{decode as decode-tree, repeat as repeat-tree, leave as leave-tree, restart as restart-tree, stop as stop-tree, transfer as transfer-tree, end}
 use Rattle.rules.specs.Grammar.Trees.{Alternatives, counted, selected, Counted, counted-end, counted-more, Selected, select, otherwise as otherwise-tree, SelectedMore, selected-end, selected-more}
 use Rattle.rules.specs.Grammar.Precedence.{Expr, Index, exprOf, indexOf}
 use Rattle.rules.specs.Selectors.{Case, numbered, listed, otherwise, selectorItems}
-use Rattle.rules.specs.Declarations.{Name}
+use Rattle.rules.specs.Declarations.{Word}
 
 -- an access of a destination
 pub record Access : Type 0 where
@@ -26,7 +26,7 @@ mutual
   pub data Act : Type 0 where
     seq : Act → Act → Act
     par : Act → Act → Act
-    label : Name → Act → Act
+    label : Word → Act → Act
     ins : Ins → Act
 
   -- what takes a step of its own; DECODE keeps its place
@@ -34,15 +34,15 @@ mutual
     iff : Expr → Act → Ins
     decode : ℕ → Expr → Alts → Ins
     repeat : Act → Ins
-    leave : Name → Ins
-    restart : Name → Ins
-    call : Name → Ins
+    leave : Word → Ins
+    restart : Word → Ins
+    call : Word → Ins
     stop : Ins
     noop : Ins
     transfer : List Access → Expr → Ins
 
   pub data Alts : Type 0 where
-    end : Alts
+    no-alts : Alts
     alt : Case → Act → Alts → Alts
 
 unfoldable pub access : Info → Subscript → Bits → Access
@@ -80,7 +80,7 @@ unfoldable mutual
 
   -- the member x, and what follows it
   pub groups : Act → Members → Groups
-  groups x (end-tree e) = record { group = x; behind = none }
+  groups x (end e) = record { group = x; behind = none }
   groups x (also i b m) = let g = groups (actOf b) m in record { group = par x (g .group); behind = g .behind }
   groups x (next i b m) = record { group = x; behind = some (whole (groups (actOf b) m)) }
 
@@ -90,13 +90,13 @@ unfoldable mutual
 
   -- "without, they are 0, 1, 2 and so on"
   pub countedAlts : ℕ → Counted → Alts
-  countedAlts n (counted-end i) = end
+  countedAlts n (counted-end i) = no-alts
   countedAlts n (counted-more i a c) = alt (numbered n) (actOf a) (countedAlts (suc n) c)
 
   pub selectedAlts : Selected → Alts
   selectedAlts (select s b a m) = alt (listed (selectorItems s)) (actOf a) (moreAlts m)
-  selectedAlts (otherwise-tree i b a e) = alt otherwise (actOf a) end
+  selectedAlts (otherwise-tree i b a e) = alt otherwise (actOf a) no-alts
 
   pub moreAlts : SelectedMore → Alts
-  moreAlts (selected-end i) = end
+  moreAlts (selected-end i) = no-alts
   moreAlts (selected-more i s) = selectedAlts s

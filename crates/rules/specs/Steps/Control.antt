@@ -1,15 +1,15 @@
 -- The control of a step: which moves there are, the work of each, and what a move leaves. No carriers here. "Any member that has not ended may take the
 -- next step; NEXT waits for all. LEAVE ends its target; RESTART begins it again."
 use Prim.Native.Nat.{ℕ, zero, suc}
-use mathlib.Core.Bool.{true, false, cond}
+use mathlib.Core.Bool.{cond}
 use mathlib.Core.List.{List}
 use mathlib.Core.Logic.{_⊎_, inl, inr}
 use mathlib.Core.Option.{Option, none, some}
 use Rattle.rules.specs.Text.Scan.{sameBytes}
 use Rattle.rules.specs.Grammar.Precedence.{Expr}
 use Rattle.rules.specs.Selectors.{takes}
-use Rattle.rules.specs.Declarations.{Name}
-use Rattle.rules.specs.Steps.Actions.{Access, Act, seq, par, label, ins, Ins, iff, decode, repeat, leave, restart, call, stop, noop, transfer, Alts, end, alt}
+use Rattle.rules.specs.Declarations.{Word}
+use Rattle.rules.specs.Steps.Actions.{Access, Act, seq, par, label, ins, Ins, iff, decode, repeat, leave, restart, call, stop, noop, transfer, Alts, no-alts, alt}
 
 -- What is left of an action that has begun and has not ended: an instruction; a group with what comes behind it; two members, or the one of two that has
 -- not ended; inside a label, a turn of a REPEAT, an activation.
@@ -19,9 +19,9 @@ pub data Live : Type 0 where
   both : Live → Live → Live
   left : Live → Live
   right : Live → Live
-  labL : Name → Act → Live → Live
+  labL : Word → Act → Live → Live
   loopL : Act → Live → Live
-  callL : Name → Live → Live
+  callL : Word → Live → Live
 
 -- "Blocks and labels take none."
 unfoldable pub start : Act → Live
@@ -40,8 +40,8 @@ pub data Work : Type 0 where
 pub data Sig : Type 0 where
   ends : Sig
   goes : Live → Sig
-  leaves : Name → Sig
-  restarts : Name → Sig
+  leaves : Word → Sig
+  restarts : Word → Sig
   stops : Sig
   faults : ℕ → ℕ → Sig
 
@@ -130,7 +130,7 @@ rightS (restarts k) = restarts k
 rightS stops = stops
 rightS (faults m p) = faults m p
 
-abbrev pub labS : Name → Act → Sig → Sig
+abbrev pub labS : Word → Act → Sig → Sig
 labS l a ends = ends
 labS l a (goes r) = goes (labL l a r)
 labS l a (leaves k) = cond (sameBytes k l) ends (leaves k)
@@ -148,7 +148,7 @@ loopS a (faults m p) = faults m p
 
 -- the first alternative that takes the value; "71 (no alternative matches, place of DECODE)"
 unfoldable pub choose : Alts → ℕ → Option Act
-choose end v = none
+choose no-alts v = none
 choose (alt c a bs) v = cond (takes c v) (some a) (choose bs v)
 
 abbrev pub pickS : ℕ → Option Act → Sig
@@ -159,9 +159,9 @@ pickS p (some a) = goes (start a)
 abbrev pub lost : Sig
 lost = faults 0 0
 
-module _ (body : Name → Act) where
+module _ (body : Word → Act) where
   -- a body's own name is its outermost label; no other label reaches through an activation
-  abbrev pub callS : Name → Sig → Sig
+  abbrev pub callS : Word → Sig → Sig
   callS p ends = ends
   callS p (goes r) = goes (callL p r)
   callS p (leaves k) = cond (sameBytes k p) ends lost

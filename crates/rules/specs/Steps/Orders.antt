@@ -25,9 +25,6 @@ Well halted = Unit {0}
 Well paused = ⊥
 Well (faulted m p) = ⊥
 
-abbrev pub EndsWell : Run → Type 0
-EndsWell r = Well (r .ending)
-
 -- The configuration in which a run has ended well. Of any other run nothing is said by it: a fault stands there.
 abbrev pub endAs : Ending → Carriers → Conf
 endAs done s = finished s

@@ -4,7 +4,7 @@ use mathlib.Core.Path.{_≡_}
 use mathlib.Core.Option.{Option, none, some}
 use Rattle.rules.specs.Grammar.Trees.{Action}
 use Rattle.rules.specs.Values.{Value}
-use Rattle.rules.specs.Declarations.{Name, Table, bodyOf}
+use Rattle.rules.specs.Declarations.{Word, Table, bodyOf}
 use Rattle.rules.specs.Steps.Actions.{Act, ins, noop, actOf}
 use Rattle.rules.specs.Steps.Evaluation.{Carriers, Outcome, gives, faulty, evaluate, transferred}
 use Rattle.rules.specs.Steps.Control.{Live, callL, start, Work, moves, tests, nothing, Sig, ends, goes, leaves, restarts, stops, faults, Mv, leftmost, work, next}
@@ -56,7 +56,7 @@ actOr none = ins noop
 actOr (some a) = actOf a
 
 module _ (ds : Table) where
-  unfoldable pub bodyAct : Name → Act
+  unfoldable pub bodyAct : Word → Act
   bodyAct n = actOr (bodyOf ds n)
 
   -- one step: the work of the move on the carriers, and the control's step by the number that it gives
@@ -72,7 +72,7 @@ module _ (ds : Table) where
   Steps (suc n) (failed m p s) d = ⊥
 
   -- MAIN begins as an activation whose step is not counted
-  unfoldable pub begin : Name → Carriers → Conf
+  unfoldable pub begin : Word → Carriers → Conf
   begin n s = running (callL n (start (bodyAct n))) s
 
 -- how a run ends, after how many steps, and with which carriers
@@ -103,5 +103,5 @@ module _ (ds : Table) where
         | failed m p u ↦ runWith (faulted m p) n u
       ]
 
-  unfoldable pub run : Name → ℕ → Carriers → Run
+  unfoldable pub run : Word → ℕ → Carriers → Run
   run n b s = runFrom b 0 (begin ds n s)

@@ -1,5 +1,5 @@
 -- Bytes and their classes. "A fixed table gives each of the 256 byte values its class. Allowed: 9, 10, 13 and 32 to 126."
-use Prim.Native.Nat.{ℕ, _+_, _-_}
+use Prim.Native.Nat.{ℕ, _-_}
 use Prim.Native.Char.{code}
 use Prim.Native.String.{String, [] as no-character, _∷_ as _then_}
 use mathlib.Core.Bool.{Bool, true, false, _&&_, _||_, not}

@@ -3,7 +3,6 @@ use mathlib.Core.Bool.{Bool}
 use mathlib.Core.List.{List, [], _∷_}
 use Prim.Native.Nat.{ℕ}
 use lib.Dec.{eqb}
-use lib.ListN.{getD}
 use Rattle.rules.specs.Text.Bytes.{bytes}
 
 -- name, constant, constant with `?`; the 16 marks; the 23 keywords
@@ -54,13 +53,7 @@ marks =
     ∷ spelling (bytes ":") Colon ∷ spelling (bytes "=") Equals ∷ spelling (bytes "@") At ∷ spelling (bytes "+") Plus
     ∷ spelling (bytes "-") Minus ∷ []
 
--- the kinds in their order, and the number of each
-abbrev pub kinds : List Kind
-kinds =
-    Name ∷ Const ∷ Masked ∷ LPar ∷ RPar ∷ LBra ∷ RBra ∷ Less ∷ Greater ∷ Comma ∷ Semi ∷ Colon ∷ Becomes ∷ Equals ∷ Arrow ∷ At ∷ Plus ∷ Minus ∷ Stars
-    ∷ BEGIN ∷ END ∷ NEXT ∷ IF ∷ DECODE ∷ OTHERWISE ∷ REPEAT ∷ LEAVE ∷ RESTART ∷ MAIN ∷ STOP ∷ NO-OP
-    ∷ NOT ∷ AND ∷ EQV ∷ OR ∷ XOR ∷ EQL ∷ NEQ ∷ LSS ∷ LEQ ∷ GTR ∷ GEQ ∷ []
-
+-- the number of each kind
 abbrev pub kindNo : Kind → ℕ
 kindNo Name = 0
 kindNo Const = 1
@@ -104,9 +97,6 @@ kindNo LSS = 38
 kindNo LEQ = 39
 kindNo GTR = 40
 kindNo GEQ = 41
-
-abbrev pub kindAt : ℕ → Kind
-kindAt n = getD kinds n Name
 
 -- whether two kinds are one, by their numbers
 abbrev pub same : Kind → Kind → Bool

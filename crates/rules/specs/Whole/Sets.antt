@@ -8,8 +8,8 @@ use mathlib.Core.Option.{Option, none, some}
 use lib.Dec.{eqb}
 use Rattle.rules.specs.Limits.{longestChain}
 use Rattle.rules.specs.Grammar.Precedence.{Expr, leaf, node, Factor, number, cell, group, inverse, Index, no-index, index}
-use Rattle.rules.specs.Declarations.{Name, Table, Reach, reach}
-use Rattle.rules.specs.Steps.Actions.{Access, Act, seq, par, label, ins, Ins, iff, decode, repeat, leave, restart, call, stop, noop, transfer, Alts, end, alt}
+use Rattle.rules.specs.Declarations.{Word, Table, Reach, reach}
+use Rattle.rules.specs.Steps.Actions.{Access, Act, seq, par, label, ins, Ins, iff, decode, repeat, leave, restart, call, stop, noop, transfer, Alts, no-alts, alt}
 use Rattle.rules.specs.Steps.Runs.{bodyAct}
 
 pub record Sets : Type 0 where
@@ -28,7 +28,7 @@ ownerIn (some r) = r .owner ∷ []
 
 module _ (ds : Table) where
   -- the storage carrier under a name
-  unfoldable pub owner : Name → List ℕ
+  unfoldable pub owner : Word → List ℕ
   owner n = ownerIn (reach ds n)
 
   unfoldable mutual
@@ -55,7 +55,7 @@ module _ (ds : Table) where
   stores (a ∷ more) = owner (a .name .word) ++ stores more
 
   -- with what is known of the bodies
-  module _ (body : Name → Sets) where
+  module _ (body : Word → Sets) where
     unfoldable mutual
       pub setsOf : Act → Sets
       setsOf (seq a b) = union (setsOf a) (setsOf b)
@@ -75,11 +75,11 @@ module _ (ds : Table) where
       setsI (transfer d e) = sets (readsOf e ++ subscriptReads d) (stores d)
 
       pub setsAlts : Alts → Sets
-      setsAlts end = sets [] []
+      setsAlts no-alts = sets [] []
       setsAlts (alt c a bs) = union (setsOf a) (setsAlts bs)
 
   -- of a body, down a chain of at most n bodies
-  unfoldable pub bodySets : ℕ → Name → Sets
+  unfoldable pub bodySets : ℕ → Word → Sets
   bodySets zero n = sets [] []
   bodySets (suc k) n = setsOf (bodySets k) (bodyAct ds n)
 
@@ -99,7 +99,7 @@ unfoldable pub race : Sets → Sets → Bool
 race s t = meet (s .writes) (t .reads ++ t .writes) || meet (t .writes) (s .reads ++ s .writes)
 
 -- whether STOP stands in an action, or in a body below it
-module _ (body : Name → Bool) where
+module _ (body : Word → Bool) where
   unfoldable mutual
     pub stopsIn : Act → Bool
     stopsIn (seq a b) = stopsIn a || stopsIn b
@@ -119,11 +119,11 @@ module _ (body : Name → Bool) where
     stopsI (transfer d e) = false
 
     pub stopsAlts : Alts → Bool
-    stopsAlts end = false
+    stopsAlts no-alts = false
     stopsAlts (alt c a bs) = stopsIn a || stopsAlts bs
 
 module _ (ds : Table) where
-  unfoldable pub bodyStops : ℕ → Name → Bool
+  unfoldable pub bodyStops : ℕ → Word → Bool
   bodyStops zero n = false
   bodyStops (suc k) n = stopsIn (bodyStops k) (bodyAct ds n)
 
@@ -132,13 +132,13 @@ module _ (ds : Table) where
 
 -- the names of the bodies that an action activates
 unfoldable mutual
-  pub callsIn : Act → List Name
+  pub callsIn : Act → List Word
   callsIn (seq a b) = callsIn a ++ callsIn b
   callsIn (par a b) = callsIn a ++ callsIn b
   callsIn (label l a) = callsIn a
   callsIn (ins i) = callsI i
 
-  pub callsI : Ins → List Name
+  pub callsI : Ins → List Word
   callsI (iff e a) = callsIn a
   callsI (decode p e bs) = callsAlts bs
   callsI (repeat a) = callsIn a
@@ -149,15 +149,15 @@ unfoldable mutual
   callsI noop = []
   callsI (transfer d e) = []
 
-  pub callsAlts : Alts → List Name
-  callsAlts end = []
+  pub callsAlts : Alts → List Word
+  callsAlts no-alts = []
   callsAlts (alt c a bs) = callsIn a ++ callsAlts bs
 
-unfoldable pub anyName : (Name → Bool) → List Name → Bool
+unfoldable pub anyName : (Word → Bool) → List Word → Bool
 anyName p [] = false
 anyName p (n ∷ ns) = p n || anyName p ns
 
 -- whether a chain of activations that begins with a body is over k bodies long
-unfoldable pub chainOver : Table → ℕ → Name → Bool
+unfoldable pub chainOver : Table → ℕ → Word → Bool
 chainOver ds zero n = true
 chainOver ds (suc k) n = anyName (chainOver ds k) (callsIn (bodyAct ds n))

@@ -1,25 +1,24 @@
 -- Laws of what a run comes to, by who refuses or how it ended, up to the whole call.
 -- Assumes nothing.
-use Prim.Native.Nat.{ℕ, _*_, _<_, _≤_}
+use Prim.Native.Nat.{ℕ, _<_, _≤_}
 use mathlib.Core.Path.{_≡_, refl, sym, ap, _∙_, subst}
-use mathlib.Core.List.{List, []}
-use native.Mathlib.Omega.{arith}
+use mathlib.Core.List.{List}
 use lib.ListN.{length, getD}
 use Rattle.rules.specs.Limits.{longestText}
 use Rattle.rules.specs.Declarations.{totalWords}
 use Rattle.rules.specs.Steps.Evaluation.{Carriers}
 use Rattle.rules.specs.Steps.Runs.{Ending, done, halted, paused, faulted, Run, run}
 use Rattle.rules.specs.Faults.Whole.{mainName}
-use Rattle.rules.specs.Answers.{Result, refusal, ended, resultOf, Runs, not-accepted, ran, runOn, wordsFrom, bufferOf, refusedNumbers, ranNumbers, resultNumbers}
+use Rattle.rules.specs.Answers.{Result, refusal, ended, resultOf, Runs, not-accepted, ran, runOn, bufferOf, refusedNumbers, ranNumbers, resultNumbers}
 use Rattle.rules.specs.Calls.Memory.{Memory, Enough, settled}
-use Rattle.rules.specs.Calls.Run.{RunCall, answer, endingNumber, resultNumber, carriersLeft}
+use Rattle.rules.specs.Calls.Run.{RunCall, answer, endingNumber, resultNumber}
 use Rattle.rules.specs.Calls.Run as call
 use Rattle.lent.specs.Numbers.{numbersOf}
 use Rattle.lent.specs.Measured.{Unread, short-memory, long-text, none}
 use Rattle.lent.specs.Settled.{Settled}
 use Rattle.lent.specs.Laws.Settled.{settled-same}
 use Rattle.lent.specs.declared.answers.Answer.{Answer}
-use Rattle.runner.specs.Runs.{RunAt, RunAnswer, endingOf, stepsOf}
+use Rattle.runner.specs.Runs.{RunAnswer, endingOf, stepsOf}
 use Rattle.runner.specs.declared.runs.Ended.{Ended}
 use Rattle.starts.specs.Starts.{Begins, Declines}
 use Rattle.buffers.specs.Laws.Buffers.{words-cells, buffer-back}

@@ -11,7 +11,7 @@ use Rattle.cells.specs.Cells.{cell, putCell}
 use Rattle.cells.specs.Laws.{length-put}
 use Rattle.rules.specs.Text.Scan.{sameBytes}
 use Rattle.rules.specs.Grammar.Trees.{Tokens}
-use Rattle.rules.specs.Declarations.{Name as Word}
+use Rattle.rules.specs.Declarations.{Word}
 use Rattle.rules.specs.Faults.Declared.{isKnown}
 use Rattle.table.specs.Holds.{kindByte}
 use Rattle.table.specs.Words.{wordAt, TwoNames, sameWords}

@@ -8,7 +8,7 @@ use native.Mathlib.Nat.{min-comm}
 use native.Mathlib.Omega.{arith}
 use borrow.Author.Tests.{ne-eqb}
 use lib.Dec.{eqb}
-use Rattle.rules.specs.Text.Tokens.{Kind, kindAt, Info, Token, tk, Name, RPar, Comma, Semi, Becomes, Arrow, BEGIN, END, NEXT}
+use Rattle.rules.specs.Text.Tokens.{Kind, Info, Token, tk, Name, RPar, Comma, Semi, Becomes, Arrow, BEGIN, END, NEXT}
 use Rattle.rules.specs.Text.Scan.{plainInfo}
 use Rattle.rules.specs.Grammar.Trees.{Tokens, Operand, operandTokens, Tail, tailTokens, Selector, selectorTokens, Action, block, labelled, if-then, decode, repeat, leave, restart, activate, stop, no-op, transfer, actionTokens, Members, end, also, next, membersTokens, Alternatives, counted, selected, alternativesTokens, Counted, counted-end, counted-more, countedTokens, Selected, select, otherwise, selectedTokens, SelectedMore, selected-end, selected-more, selectedMoreTokens}
 use Rattle.rules.specs.Declarations.{Table}
@@ -16,6 +16,7 @@ use Rattle.rules.specs.Steps.Actions.{actOf}
 use Rattle.rules.specs.Whole.Sets.{Sets, touched, member}
 use Rattle.rules.specs.Faults.Fault.{Fault, when}
 use Rattle.rules.specs.Faults.Whole.{Scope, labelled-in, aimsOut, hasMore, memberFaults, memberScope, groupFaults, membersOf, alternativesGroups, countedGroups, selectedGroups, moreGroups}
+use Rattle.laws_grammar.specs.Cited.Kinds.{kindAt}
 use Rattle.laws_grammar.specs.Grammar.Kinds.{kindAt-kindNo}
 use Rattle.table.specs.Keys.{leastNumberKey, noKey, numberKey}
 use Rattle.table.specs.Laws.Keys.{least-append, least-bounded, least-none}

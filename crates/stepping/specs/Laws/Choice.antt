@@ -10,9 +10,10 @@ use native.Mathlib.Decide.{decLt}
 use native.Mathlib.Numerals.{add-one}
 use lib.Dec.{eqb}
 use lib.ListN.{length, drop}
-use Rattle.rules.specs.Text.Tokens.{END, kindNo, kindAt}
+use Rattle.rules.specs.Text.Tokens.{END, kindNo}
 use Rattle.rules.specs.Grammar.Trees.{Tokens, exact, masked, Selector, one-of, any-of, selectorTokens}
 use Rattle.rules.specs.Selectors.{Item, matches, anyMatches, Case, numbered, listed, otherwise, takes}
+use Rattle.laws_grammar.specs.Cited.Kinds.{kindAt}
 use Rattle.laws_grammar.specs.Grammar.Kinds.{kindAt-kindNo}
 use Rattle.laws_orders.specs.Cited.Flat.{Entries, no-entry, entry, find}
 use Rattle.table.specs.Holds.{kindByte, tokenAt, insideCell, linkCell}

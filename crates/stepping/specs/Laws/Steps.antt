@@ -9,7 +9,7 @@ use mathlib.Core.Option.{Option, none, some}
 use native.Mathlib.Omega.{arith}
 use lib.ListN.{length, drop}
 use Rattle.cells.specs.Cells.{cell}
-use Rattle.rules.specs.Text.Tokens.{Kind, Name, LPar, Equals, kindNo, kindAt, Info, tk}
+use Rattle.rules.specs.Text.Tokens.{Kind, Name, LPar, Equals, kindNo, Info, tk}
 use Rattle.rules.specs.Grammar.Trees.{Tokens, Bits, all-bits, bits, bitsTokens, Subscript, no-subscript, subscript, subscriptTokens, Joined, alone, joined, joinedTokens}
 use Rattle.rules.specs.Grammar.Precedence.{Expr}
 use Rattle.rules.specs.Selectors.{takes}
@@ -21,6 +21,7 @@ use Rattle.rules.specs.Steps.Actions.{Access}
 use Rattle.rules.specs.Steps.Control.{moves}
 use Rattle.rules.specs.Steps.Evaluation.{Carriers}
 use Rattle.rules.specs.Steps.Runs.{moved, tested, perform}
+use Rattle.laws_grammar.specs.Cited.Kinds.{kindAt}
 use Rattle.laws_grammar.specs.Grammar.Kinds.{kindAt-kindNo}
 use Rattle.laws_orders.specs.Cited.Flat.{Link, at, exit, Entries, no-entry, entry, Instr, ifI, decodeI, goI, callI, stopI, moveI, pc, broken, go, push, find, picked, workM, nextM, Machine, put, putAfter}
 use Rattle.table.specs.Holds.{kindByte, placeCell, tokenAt, insideCell, linkCell}

@@ -5,9 +5,10 @@ use mathlib.Core.Path.{_≡_, refl, sym, ap, _∙_}
 use mathlib.Core.List.{List, _∷_}
 use native.Mathlib.Omega.{arith}
 use lib.ListN.{length, drop, length-drop}
-use Rattle.rules.specs.Text.Tokens.{Less, kindAt, Info, Greater, Const, Colon, kindNo}
+use Rattle.rules.specs.Text.Tokens.{Less, Info, Greater, Const, Colon, kindNo}
 use Rattle.rules.specs.Grammar.Trees.{Tokens, bit, upto, Bits, all-bits, bits, bitsTokens, unnamed, named, MainBits, bitless, main-bits, mainBitsTokens}
 use Rattle.rules.specs.Declarations.{mainNames}
+use Rattle.laws_grammar.specs.Cited.Kinds.{kindAt}
 use Rattle.laws_grammar.specs.Grammar.Kinds.{kindAt-kindNo}
 use Rattle.table.specs.Holds.{kindByte, valueCell, Holds}
 use Rattle.table.specs.Laws.Positions.{kind-far, value-far}

@@ -1,6 +1,6 @@
 -- What a table shows of a declaration by the kinds of tokens at fixed distances from its name.
 -- Assumes nothing.
-use Rattle.rules.specs.Text.Tokens.{Info, Name, Const, Less, Comma, Becomes, END, MAIN, Kind, kindNo, kindAt, Token, tk, LBra, BEGIN}
+use Rattle.rules.specs.Text.Tokens.{Info, Name, Const, Less, Comma, Becomes, END, MAIN, Kind, kindNo, Token, tk, LBra, BEGIN}
 use Rattle.rules.specs.Grammar.Trees.{words, with-bits, bare-body, MainBits, bitless, main-bits, Declaration, plain, main, Tokens, bit, upto, Action, block, actionTokens, Members, BitsEnd, bitsEndTokens, unnamed, named, body, mapped, meaningTokens, Given, carrier, given, givenTokens, mainBitsTokens, Declarations, declared-all, declared-also, declarationsTokens, headingTokens, declarationTokens}
 use Prim.Native.Nat.{ℕ, _+_, _-_, _<_}
 use mathlib.Core.Path.{_≡_, refl, sym, ap, _∙_}
@@ -9,6 +9,7 @@ use mathlib.Core.Option.{Option, none, some}
 use native.Mathlib.Omega.{arith}
 use lib.ListN.{length, drop}
 use Rattle.rules.specs.Declarations.{Target, namesOf, declaredOf, mainNames}
+use Rattle.laws_grammar.specs.Cited.Kinds.{kindAt}
 use Rattle.laws_grammar.specs.Grammar.Kinds.{kindAt-kindNo}
 use Rattle.laws_grammar.specs.Grammar.Positions.{action-writes}
 use Rattle.table.specs.Holds.{kindByte, valueCell, tokenAt, Holds}

@@ -2,7 +2,7 @@
 use Prim.Native.Nat.{ℕ, zero, suc}
 use mathlib.Core.List.{List, [], _∷_, _++_, map}
 use mathlib.Core.Option.{Option, none, some}
-use Rattle.rules.specs.Declarations.{Name, Table}
+use Rattle.rules.specs.Declarations.{Word, Table}
 use Rattle.rules.specs.Stores.{Entry, made}
 use Rattle.rules.specs.Steps.Evaluation.{Carriers, Outcome, gives, faulty}
 use Rattle.rules.specs.Steps.Runs.{Worked, perform, Run, runWith, done, halted, paused, faulted}
@@ -137,5 +137,5 @@ module _ (ds : Table) (C : Code) (M : Grouping) where
       ])
 
   -- the run of the body of a name, with the groups that open where it begins
-  unfoldable pub traceRun : Name → ℕ → Carriers → Traced
+  unfoldable pub traceRun : Word → ℕ → Carriers → Traced
   traceRun n b s = reported (map passes (passage M [] (M .around (C .first n)))) (runT b 0 (C .first n) [] s)

@@ -7,8 +7,8 @@ use lib.ListN.{length, drop}
 use Rattle.rules.specs.Faults.Whole.{mainName}
 use Rattle.rules.specs.Stores.{TraceAnswer}
 use Rattle.rules.specs.Entries.{entriesIn}
-use Rattle.rules.specs.Steps.Orders.{EndsWell}
 use Rattle.rules.specs.Steps.Runs.{runWith, run}
+use Rattle.laws_orders.specs.Orders.Ends.{EndsWell}
 use Rattle.runner.specs.declared.runs.Ended.{Ended}
 use Rattle.runner.specs.Runs.{endingOf, stepsOf}
 use Rattle.telling.specs.Cited.Cells.{Cells}

@@ -9,7 +9,7 @@ use native.Mathlib.Numerals.{add-one}
 use lib.ListN.{length, take, drop, length-drop}
 use lib.Seq.{length-take-le, take-all}
 use Rattle.rules.specs.Text.Scan.{scan}
-use Rattle.rules.specs.Declarations.{Name, Table, totalWords}
+use Rattle.rules.specs.Declarations.{Word, Table, totalWords}
 use Rattle.rules.specs.Faults.Whole.{mainName}
 use Rattle.rules.specs.Stores.{Entry, made}
 use Rattle.rules.specs.Entries.{entriesIn}
@@ -200,7 +200,7 @@ module _ {records values decls memory room entries : List ℕ} {start n size : �
       }
 
   -- the link behind an activation that goes on
-  link-stands : (m : ℕ) → Reached (tableOf v) (codeOf v) m → ((p : Name) × (k : Link) × (codeOf v .instr m ≡ callI p k)) → Linked records (codeOf v) m
+  link-stands : (m : ℕ) → Reached (tableOf v) (codeOf v) m → ((p : Word) × (k : Link) × (codeOf v .instr m ≡ callI p k)) → Linked records (codeOf v) m
   link-stands m r (p, k, e) =
       let i = v .promise .instructions m r in
       let h : InstructionHolds records decls (scan (v .text) .tokens) (v .outer) (tableOf v) (codeOf v) m (callI p k)

@@ -7,8 +7,9 @@ use mathlib.Core.List.{List, _∷_}
 use native.Mathlib.Omega.{arith}
 use borrow.Author.Tests.{ne-eqb}
 use lib.ListN.{length, drop}
-use Rattle.rules.specs.Text.Tokens.{Kind, kindNo, kindAt, same, Token, tk, Name, LPar, Becomes, BEGIN, IF, DECODE, REPEAT, LEAVE, RESTART, STOP, NO-OP}
+use Rattle.rules.specs.Text.Tokens.{Kind, kindNo, same, Token, tk, Name, LPar, Becomes, BEGIN, IF, DECODE, REPEAT, LEAVE, RESTART, STOP, NO-OP}
 use Rattle.rules.specs.Grammar.Trees.{Tokens, all-bits, bits, no-subscript, subscript, alone, joined, Action, block, labelled, if-then, decode, repeat, leave, restart, activate, stop, no-op, transfer, actionTokens}
+use Rattle.laws_grammar.specs.Cited.Kinds.{kindAt}
 use Rattle.laws_grammar.specs.Grammar.Kinds.{kindAt-kindNo}
 use Rattle.laws_grammar.specs.Cited.Heads.{headKind}
 use Rattle.laws_grammar.specs.Grammar.Heads.{behindHead, action-head, secondKind, a-block, a-label, a-test, a-choice, a-loop, a-leave, a-restart, an-activation, a-stop, a-no-op, a-transfer, namedForm, formOf, Is, view}

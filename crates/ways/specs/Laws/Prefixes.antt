@@ -9,8 +9,9 @@ use native.Mathlib.Numerals.{add-one}
 use borrow.Author.Tests.{eqb-true, eq-eqb}
 use lib.Dec.{eqb}
 use lib.ListN.{length, drop}
-use Rattle.rules.specs.Text.Tokens.{Kind, kindNo, kindAt, Token, tk, Name, Becomes, Arrow, IF, REPEAT}
+use Rattle.rules.specs.Text.Tokens.{Kind, kindNo, Token, tk, Name, Becomes, Arrow, IF, REPEAT}
 use Rattle.rules.specs.Grammar.Trees.{Operand, operandTokens, Tail, tailTokens, Action, block, labelled, if-then, decode, repeat, leave, restart, activate, stop, no-op, transfer, actionTokens}
+use Rattle.laws_grammar.specs.Cited.Kinds.{kindAt}
 use Rattle.laws_grammar.specs.Grammar.Positions.{operand-writes, tail-writes, Writes}
 use Rattle.laws_grammar.specs.Cited.Heads.{headKind}
 use Rattle.laws_grammar.specs.Grammar.Heads.{secondKind}

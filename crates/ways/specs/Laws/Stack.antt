@@ -11,7 +11,7 @@ use lib.ListN.{length}
 use Rattle.cells.specs.Cells.{cell, putCell}
 use Rattle.cells.specs.Laws.{length-put, le-put-same, le-put-below, le-put-above}
 use Rattle.rules.specs.Text.Scan.{sameBytes}
-use Rattle.rules.specs.Declarations.{Name as Word}
+use Rattle.rules.specs.Declarations.{Word}
 use Rattle.laws_orders.specs.Cited.Flat.{Link, at, Labels, outer, bind, leaveTo, restartTo}
 use Rattle.laws_code.specs.Cited.Code.{target}
 use Rattle.table.specs.Holds.{linkCell}

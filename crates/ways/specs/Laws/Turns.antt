@@ -10,7 +10,7 @@ use Rattle.rules.specs.Text.Tokens.{kindNo, Info, Token, tk, Const, Masked, LBr
 use Rattle.rules.specs.Text.Scan.{plainInfo}
 use Rattle.rules.specs.Grammar.Trees.{Tokens, exact, masked, one-of, any-of, selectorTokens, Action, block, labelled, if-then, decode, repeat, leave, restart, activate, stop, no-op, transfer, actionTokens, Alternatives, counted, selected, alternativesTokens, counted-end, counted-more, Selected, select, otherwise, selectedTokens, selected-end, selected-more}
 use Rattle.rules.specs.Whole.Sets.{member}
-use Rattle.rules.specs.Declarations.{Name as Word, Table}
+use Rattle.rules.specs.Declarations.{Word, Table}
 use Rattle.laws_grammar.specs.Grammar.Positions.{selector-writes}
 use Rattle.laws_grammar.specs.Cited.Heads.{headKind}
 use Rattle.laws_grammar.specs.Grammar.Heads.{headInfo, behindHead, action-head}

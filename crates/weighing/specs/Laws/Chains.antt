@@ -11,7 +11,7 @@ use lib.ListN.{length, getD, set}
 use lib.Seq.{getD-set-same, getD-set-other}
 use Rattle.rules.specs.Grammar.Trees.{Tokens, Operand, Tail}
 use Rattle.rules.specs.Grammar.Precedence.{tightness, Expr, leaf, node, Factor, factorOf, linksOf, exprOf}
-use Rattle.rules.specs.Declarations.{Name as Word, Table}
+use Rattle.rules.specs.Declarations.{Word, Table}
 use Rattle.rules.specs.Faults.Bodies.{Judged, judge, judgeFactor}
 use Rattle.laws_grammar.specs.Cited.Shunting.{Waiting, combine, looser, settled}
 use Rattle.laws_grammar.specs.Grammar.Shunting.{valueOf, unwind, chain, chain-is}

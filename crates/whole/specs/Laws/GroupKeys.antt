@@ -9,7 +9,7 @@ use borrow.Author.Tests.{eq-eqb, ne-eqb}
 use lib.Dec.{eqb}
 use lib.ListN.{drop}
 use Rattle.rules.specs.Text.Tokens.{Token, Semi, kindNo}
-use Rattle.rules.specs.Declarations.{Name as Word, Table}
+use Rattle.rules.specs.Declarations.{Word, Table}
 use Rattle.rules.specs.Grammar.Trees.{Tokens}
 use Rattle.rules.specs.Whole.Sets.{Sets, sets, union, bodySets, member, meet, race}
 use Rattle.rules.specs.Limits.{longestChain}

@@ -10,7 +10,7 @@ use lib.ListN.{length, take, drop}
 use lib.Seq.{take-at, length-take-le, length-front}
 use Rattle.table.specs.Room.{labelsFrom}
 use Rattle.rules.specs.Grammar.Trees.{Action}
-use Rattle.rules.specs.Declarations.{Name, Table, bodyOf}
+use Rattle.rules.specs.Declarations.{Word, Table, bodyOf}
 use Rattle.rules.specs.Steps.Runs.{bodyAct}
 use Rattle.rules.specs.Whole.Sets.{anyName, callsIn, chainOver}
 use Rattle.rules.specs.Limits.{longestChain}
@@ -28,7 +28,7 @@ use Rattle.whole.specs.WalkKeys.{Roomy}
 use Rattle.whole.specs.Laws.Between.{smalls, above, below, mains-are, chains-are, groups-are}
 
 -- no body begins a chain, so no name does
-no-chains : (ds : Table) → chains ds ds ≡ [] → (n : Name) → chainOver ds longestChain n ≡ false
+no-chains : (ds : Table) → chains ds ds ≡ [] → (n : Word) → chainOver ds longestChain n ≡ false
 unfolding chains bodyAct chainOver anyName callsIn
 no-chains ds e n = by (bodyOf ds n) refl
   where
@@ -43,7 +43,7 @@ no-chains ds e n = by (bodyOf ds n) refl
 -- the keys of 50 and of 51, and the lesser of them
 module _ {records decls : List ℕ} {m n a b first : ℕ} (of50 : (v : Reading records decls m n) → a ≡ leastNumberKey (mains false (tableOf v)))
     (of51 : (v : Reading records decls m n) → b ≡ leastNumberKey (chains (tableOf v) (tableOf v))) (least : first ≡ min a b) where
-  pub short-chains : first ≡ noKey → (v : Reading records decls m n) (w : Name) → chainOver (tableOf v) longestChain w ≡ false
+  pub short-chains : first ≡ noKey → (v : Reading records decls m n) (w : Word) → chainOver (tableOf v) longestChain w ≡ false
   short-chains e v w =
       let ds = tableOf v in
       let z : leastNumberKey (chains ds ds) ≡ noKey = omega (arith, of50 v, of51 v, least-bounded numberKey (mains false ds), least-bounded numberKey (chains ds ds)) in

@@ -2,7 +2,6 @@
 -- Assumes nothing.
 use borrow.Author.Needs.{needs}
 use borrow.Author.Tests.{lt-ltb, le-ltb}
-use mathlib.Core.Path.{_∙_}
 use Rattle.reader.specs.Parsed.{placeBy}
 use Rattle.reader.proofs.parsing.place_of.Statement.{statement}
 use Rattle.reader.proofs.parsing.place_of.Tie as tie

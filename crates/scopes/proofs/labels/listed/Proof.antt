@@ -1,6 +1,5 @@
 -- `scopes::labels::listed` meets its contract.
 use borrow.Author.Needs.{needs}
-use Prim.Native.Nat.{_-_}
 use Rattle.scopes.specs.Laws.Labels.{Seeking, seek, both-words, found-there, seek-on, nowhere-found}
 use Rattle.scopes.proofs.labels.listed.Statement.{statement}
 use Rattle.scopes.proofs.labels.listed.Tie as tie
