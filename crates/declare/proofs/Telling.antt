@@ -80,8 +80,9 @@ module _ {text old values : List ℕ} {n : ℕ} where
             key-is : k ≡ leastKey (faults30 (outerName (v .description) .word) (declarations (v .description)))
             key-is = rw (all-declared (v .description)) (judged (listed v))
 
-          pub refused : (k ≡ noKey → ⊥) → (v : Described text old values n) → nest (v .description) ≤ deepest → Least (v .description) (k % 128) (k / 128)
-          refused f v _ = record { is = place-first _ k (small v) (key-is v) f; near = place-near _ k (small v) (key-is v) f }
+          pub refused : {number place : ℕ} → (k ≡ noKey → ⊥) → (number ≡ k % 128) × (place ≡ k / 128) → (v : Described text old values n) → nest (v .description) ≤ deepest
+              → Least (v .description) number place
+          refused f e v _ = rw (e .0, e .1) record { is = place-first _ k (small v) (key-is v) f; near = place-near _ k (small v) (key-is v) f }
 
           pub ready : k ≡ noKey → (v : Described text old values n) → nest (v .description) ≤ deepest
               → ReadySpelled text now values decls (v .tokens) (v .description) m

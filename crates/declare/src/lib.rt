@@ -8,6 +8,7 @@ use crate::finding::find;
 use resolving::give_meanings;
 use spelling::spell;
 use table::keys::NO_KEY;
+use table::keys::fault_of;
 ghost use Prim.Native.Nat.{_≤_};
 ghost use lib.ListN.{length};
 ghost use Rattle.rules.specs.Limits.{deepest};
@@ -40,7 +41,8 @@ pub fn declare(
     give_meanings(records, decls, m, n);
     let key = fault30(text, records, values, decls, m);
     if key != NO_KEY {
-        return Declared::Refused(key % 128, (key / 128) as usize);
+        let fault = fault_of(key);
+        return Declared::Refused(fault.number, fault.place);
     }
     Declared::Fine(m)
 }

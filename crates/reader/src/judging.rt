@@ -5,6 +5,8 @@ use cells::put16;
 use declare::counting::words;
 use rules::limits::MOST_DECLARATIONS;
 use table::keys::NO_KEY;
+use table::keys::fault_of;
+use table::keys::number_fault_of;
 use whole::fault50;
 ghost use Prim.Native.Nat.{_≤_};
 ghost use lib.ListN.{length};
@@ -47,7 +49,8 @@ fn judge_whole(
 {
     let key = fault50(text, records, decls, room, m, n);
     if key != NO_KEY {
-        return Verdict::Refused(key / 65536, (key % 65536) as usize);
+        let refusal = number_fault_of(key);
+        return Verdict::Refused(refusal.number, refusal.place);
     }
     let count = words(records, values, decls, m);
     Verdict::Accepted(m, count, n)
@@ -69,7 +72,8 @@ fn judge_bodies(
 {
     let key = fault40(records, values, decls, room, m);
     if key != NO_KEY {
-        return Verdict::Refused(key % 128, (key / 128) as usize);
+        let fault = fault_of(key);
+        return Verdict::Refused(fault.number, fault.place);
     }
     judge_whole(text, records, values, room, decls, m, n)
 }

@@ -20,14 +20,15 @@ declare-spec =
     let t = c .before .before .before .before .before .before .before .before .before .before .before .before .before .before .before .before in
     let g = c .before .before .before .before .give-meanings .ensures in
     listed (t .spell .ensures .0) (t .spell .ensures .1) (c .before .before .before .before .before .before .before .before .before .find .ensures) (g .0) (g .1) (t .before .before .before .before .before .before .before .pre .0))
-    (λ c. search needs)
+    (λ c κs. search needs)
     (λ c. search needs)
     (λ c. search needs)
     (λ c.
-    let t = c .before .before .before .before .before .before .before .before .before .before .before in
+    let k = c .before in
+    let t = k .before .before .before .before .before .before .before .before .before .before .before in
     let s = t .before .before .before .before .before .before .before .spell .ensures in
-    let g = c .before .before .before .before .before .before .give-meanings .ensures in
-    refused (s .0) (s .1) (t .find .ensures) (g .0) (g .1) (c .before .fault30 .ensures) (c .if1 .taken))
+    let g = k .before .before .before .before .before .before .give-meanings .ensures in
+    refused (s .0) (s .1) (t .find .ensures) (g .0) (g .1) (k .before .fault30 .ensures) (k .if1 .taken) (c .fault-of .ensures))
     (λ c. search needs)
     (λ c. search needs)
     (λ c.

@@ -105,12 +105,13 @@ module _ {text records values decls room : List ℕ} {m n key : ℕ} (v : Declar
   small-40 : Smalls (faults40 (outerName (v .description) .word) (declarations (v .description)) (declarations (v .description)))
   small-40 = faults-small (v .ready)
 
-  pub refused-40 : (key ≡ noKey → ⊥) → Judges text records values decls (Refused (key % 128) (key / 128))
-  refused-40 h =
-      refuses record {
+  pub refused-40 : {number place : ℕ} → (key ≡ noKey → ⊥) → (number ≡ key % 128) × (place ≡ key / 128) → Judges text records values decls (Refused number place)
+  refused-40 h e =
+      rw (e .0, e .1)
+      (refuses record {
         checks = subst (Checks text) (first-40 (v .description) (v .ready .lawful) (place-first _ key small-40 is-40 h)) (v .verdict);
         near = place-near _ key small-40 is-40 h;
-      }
+      })
 
   pub lawful-40 : key ≡ noKey → Lawful text records values decls m n
   lawful-40 e = record { declares = v; sound = no-fault by-place _ small-40 (sym is-40 ∙ e) }
@@ -136,12 +137,13 @@ module _ {text records values decls : List ℕ} {m n : ℕ} (v : Lawful text rec
     small-50 : Smalls (faults50 (declarations d))
     small-50 = small-faults-50 (reading to-judge-whole)
 
-    pub refused-50 : (key ≡ noKey → ⊥) → Judges text records values decls (Refused (key / 65536) (key % 65536))
-    refused-50 h =
-        refuses record {
+    pub refused-50 : {number place : ℕ} → (key ≡ noKey → ⊥) → (number ≡ key / 65536) × (place ≡ key % 65536) → Judges text records values decls (Refused number place)
+    refused-50 h e =
+        rw (e .0, e .1)
+        (refuses record {
           checks = subst (Checks text) (first-50 d (v .declares .ready .lawful) (v .sound) (number-first _ key small-50 is-50 h)) (v .declares .verdict);
           near = number-near _ key small-50 is-50 h;
-        }
+        })
 
     pub accepted-50 : {words : ℕ} → key ≡ noKey
         → ((text : List ℕ) (ts : Tokens) (d : Description) → Ready text records values decls ts d m → words ≡ totalWords (declarations d)) × (words ≤ mostWords)

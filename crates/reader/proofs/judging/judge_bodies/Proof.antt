@@ -10,12 +10,12 @@ judge-bodies-spec =
     tie.close
     (tie.spec
     (λ c κs. let p = c .before .before .before .before .before .before .pre in (_, to-judge-bodies (p .0) (search needs)))
-    (λ c. search needs)
+    (λ c κs. search needs)
     (λ c. search needs)
     (λ c.
-    let f = c .before .before .before in
+    let f = c .before .before .before .before in
     let p = f .before .before .before .before .before .before .before .pre in
-    refused-40 (p .0) (p .1) (f .fault40 .ensures .0 _) (c .if1 .taken))
+    refused-40 (p .0) (p .1) (f .fault40 .ensures .0 _) (c .before .if1 .taken) (c .fault-of .ensures))
     (λ c κs.
     let f = c .before .before .before .before in
     let p = f .before .before .before .before .before .before .before .pre in

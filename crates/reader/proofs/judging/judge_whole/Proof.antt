@@ -10,9 +10,12 @@ judge-whole-spec =
     tie.close
     (tie.spec
     (λ c κs. let p = c .before .before .before .before .before .before .pre in (to-judge-whole (p .0), search needs))
+    (λ c κs. search needs)
     (λ c. search needs)
-    (λ c. search needs)
-    (λ c. search (needs, refused-50))
+    (λ c.
+    let f = c .before .before .before .before in
+    let p = f .before .before .before .before .before .before .before .pre in
+    refused-50 (p .0) (f .fault50 .ensures) (c .before .if1 .taken) (c .number-fault-of .ensures))
     (λ c κs. search needs)
     (λ c. search needs)
     (λ c. search (needs, accepted-50)))
