@@ -10,7 +10,7 @@ use Rattle.bounding.proofs.filling.+descend+fill.Lts-descend as descend
 use Rattle.bounding.proofs.filling.fill.Reads as fill
 use Rattle.bounding.proofs.filling.fill.Kinds as fill-kinds
 use Rattle.bounding.proofs.filling.+descend+fill.Lts-fill as fill-lts
-use Rattle.walking.proofs.names.index_of.Reads as index-of-reads
+use Rattle.reading.proofs.names.index_of.Reads as index-of-reads
 use Rattle.walking.proofs.walks.walk.Reads as walk-reads
 use Rattle.cells.proofs.get64.Reads as get64-reads
 use Rattle.cells.proofs.put64.Reads as put64-reads
