@@ -1,8 +1,6 @@
 -- Constants of 1 to 64 bits: in tokens, and so in the expressions that they stand for.
-use Prim.Native.Nat.{ℕ, zero, suc}
 use mathlib.Core.Path.{_≡_, refl, subst}
 use mathlib.Core.List.{List, [], _∷_, _++_}
-use lib.ListN.{drop}
 use Rattle.rules.specs.Text.Tokens.{Info, tk, Const, RPar, RBra}
 use Rattle.rules.specs.Grammar.Trees.{Tokens, bitsTokens, Operand, constant, access, parens, negated, operandTokens, Tail, no-more, with-op, tailTokens, Subscript, no-subscript, subscript, subscriptTokens}
 use Rattle.rules.specs.Grammar.Precedence.{Expr, leaf, node, Factor, number, cell, group, inverse, Index, no-index, index, Link, insert-by, insert, inserts, arrange, tightness, factorOf, linksOf, indexOf, exprOf}
@@ -97,8 +95,3 @@ expression-ok o t ts h =
 
 pub behind-expression : (o : Operand) (t : Tail) (ts : Tokens) → ConstantsOk (operandTokens o (tailTokens t ts)) → ConstantsOk ts
 behind-expression o t ts h = rest-ok (tail-writes t) ts (rest-ok (operand-writes o) (tailTokens t ts) h)
-
-drop-ok : (i : ℕ) (ts : Tokens) → ConstantsOk ts → ConstantsOk (drop i ts)
-drop-ok zero ts h = h
-drop-ok (suc i) [] h = h
-drop-ok (suc i) (t ∷ ts) h = drop-ok i ts (h .1)

@@ -1,6 +1,6 @@
 -- A kind is known by its number.
 use mathlib.Core.Path.{_≡_, refl, sym, ap, _∙_}
-use lib.Dec.{T, eqb→eq, eqb-refl}
+use lib.Dec.{T, eqb→eq}
 use Rattle.rules.specs.Text.Tokens.{Kind, kindNo, same}
 use Rattle.rules.specs.Text.Tokens.{Name, Const, Masked, LPar, RPar, LBra, RBra, Less, Greater, Comma, Semi, Colon, Becomes, Equals, Arrow, At, Plus, Minus, Stars}
 use Rattle.rules.specs.Text.Tokens.{BEGIN, END, NEXT, IF, DECODE, OTHERWISE, REPEAT, LEAVE, RESTART, MAIN, STOP, NO-OP, NOT, AND, EQV, OR, XOR, EQL, NEQ, LSS, LEQ, GTR, GEQ}
@@ -52,6 +52,3 @@ kindAt-kindNo GEQ = refl
 
 pub same-eq : (a b : Kind) → T (same a b) → a ≡ b
 same-eq a b t = sym (kindAt-kindNo a) ∙ ap kindAt (eqb→eq (kindNo a) (kindNo b) t) ∙ kindAt-kindNo b
-
-pub same-refl : (a : Kind) → T (same a a)
-same-refl a = eqb-refl (kindNo a)

@@ -1,18 +1,15 @@
 -- Trees write their tokens and nothing else, so they stand at positions of a token list.
-use mathlib.Core.Path.{_≡_, refl, sym, ap, _∙_}
+use mathlib.Core.Path.{_≡_, refl, ap, _∙_}
 use mathlib.Core.List.{_∷_, _++_}
 use Prim.Native.Nat.{ℕ, suc, _+_, _<_}
 use native.Mathlib.Omega.{arith}
 use lib.ListN.{length, drop, getD}
-use lib.Seq.{drop-cons, drop-length}
+use lib.Seq.{drop-cons}
 use Rattle.rules.specs.Text.Tokens.{Kind, Info, Token, tk, Name, Const, LPar, RPar, LBra, RBra, Less, Comma, Semi, Colon, Becomes, Equals, Arrow, Stars, BEGIN, END, NEXT, IF, DECODE, OTHERWISE, REPEAT, LEAVE, RESTART, MAIN, STOP, NO-OP}
 use Rattle.rules.specs.Grammar.Trees.{Tokens, Bits, bitsTokens, Operand, operandTokens, Tail, tailTokens, Subscript, subscriptTokens, Joined, joinedTokens, Selector, selectorTokens, Action, block, labelled, if-then, decode, repeat, leave, restart, activate, stop, no-op, transfer, actionTokens, Members, end, also, next, membersTokens, Alternatives, counted, selected, alternativesTokens, Counted, counted-end, counted-more, countedTokens, Selected, select, otherwise, selectedTokens, SelectedMore, selected-end, selected-more, selectedMoreTokens, OwnBits, ownBitsTokens, Meaning, body, mapped, meaningTokens, Given, carrier, given, givenTokens, Form, words, with-bits, bare-body, formTokens, MainBits, mainBitsTokens, Declaration, plain, main, declarationTokens, Heading, no-heading, heading, headingTokens, Declarations, declared-all, declared-also, declarationsTokens, Description, descriptionTokens}
 use Rattle.trees.specs.Written.{level, nothing as empty, token as step}
 use Rattle.trees.specs.Expressions.{Expressed, bits-end-written, bits-written, operand-written, tail-written, subscript-written, joined-written, own-bits-written, main-bits-written}
 use Rattle.trees.specs.Selectors.{Chosen, selector-written}
-use Rattle.laws_grammar.specs.Cited.Rows.{recognise}
-use Rattle.laws_grammar.specs.Cited.Answer.{accepted}
-use Rattle.laws_grammar.specs.Grammar.Exact.{description-of-accepted}
 use Rattle.laws_grammar.specs.Cited.Positions.{Stands}
 
 -- what follows stands untouched behind what f writes
@@ -138,10 +135,3 @@ ExpressionAt T i o t j = Stands (λ ts. operandTokens o (tailTokens t ts)) T i j
 
 abbrev pub DescriptionAt : Tokens → ℕ → Description → ℕ → Type 0
 DescriptionAt T i d j = Stands (descriptionTokens d) T i j
-
--- an accepted text stands as a description, from its first token to its end
-pub accepted-at : (T : Tokens) → recognise T ≡ accepted → (d : Description) × DescriptionAt T 0 d (length T)
-accepted-at T h =
-    let q = description-of-accepted T h in
-    let z = drop-length T in
-    (q .0, record { size = sym (ap length (q .1)) ∙ omega arith; ends = omega arith; reads = sym (q .1) ∙ ap (descriptionTokens (q .0)) (sym z) })

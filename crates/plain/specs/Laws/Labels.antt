@@ -73,19 +73,6 @@ selected-starts (select (one-of l r) b a m) ts = literal-starts l (rangeTokens r
 selected-starts (select (any-of x l r is) b a m) ts = refl
 selected-starts (otherwise i b a e) ts = refl
 
-pub action-starts : (a : Action) (ts : Tokens) → startsBecomes (actionTokens a ts) ≡ false
-action-starts (block b a m) ts = refl
-action-starts (labelled n b a) ts = refl
-action-starts (if-then i o t w a) ts = refl
-action-starts (decode i o t w b v) ts = refl
-action-starts (repeat i a) ts = refl
-action-starts (leave i n) ts = refl
-action-starts (restart i n) ts = refl
-action-starts (activate n l r) ts = refl
-action-starts (stop i l r) ts = refl
-action-starts (no-op i l r) ts = refl
-action-starts (transfer n s b j e o t) ts = refl
-
 members-starts : (m : Members) (ts : Tokens) → startsBecomes (membersTokens m ts) ≡ false
 members-starts (end i) ts = refl
 members-starts (also i a m) ts = refl

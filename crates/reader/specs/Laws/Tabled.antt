@@ -1,5 +1,5 @@
 -- The buffers that a scan has written hold its tokens, as the reader sees the table.
-use Prim.Native.Nat.{ℕ, zero, suc, _+_, _*_, _/_, _%_, _^_, _<_, _≤_}
+use Prim.Native.Nat.{ℕ, zero, suc, _+_, _*_, _/_, _%_, _<_, _≤_}
 use mathlib.Core.Path.{_≡_, refl, sym, ap, _∙_}
 use mathlib.Core.Bool.{Bool, true, false, _||_}
 use mathlib.Core.List.{List, [], _∷_, map}
@@ -176,7 +176,3 @@ module _ (text a b : List ℕ) (short : length text ≤ longestText) (room-a : 6
         entry = entry;
         increasing = λ i j l h. places-rise text (tk Name (plainInfo 0)) i j l h;
       }
-
-  -- and a constant's value fits its length
-  pub constants-fit : (i : ℕ) → i < length ts → tokenAt ts i .kind ≡ Const → tokenAt ts i .info .value < 2 ^ (tokenAt ts i .info .bits)
-  constants-fit i h e = token-meant text (tk Name (plainInfo 0)) i h .constant (ap kindNo e) .fits

@@ -1,21 +1,17 @@
 -- The selectors of a tree in the table: its items stand where the tokens of the tree do.
 -- Assumes nothing.
-use Prim.Native.Nat.{ℕ, _+_, _^_, _<_}
+use Prim.Native.Nat.{ℕ, _+_}
 use mathlib.Core.Path.{_≡_, refl, ap}
-use mathlib.Core.Bool.{Bool, true, false}
 use mathlib.Core.List.{[], _∷_}
 use native.Mathlib.Omega.{arith}
-use borrow.Author.Tests.{ltb-true, ltb-false}
-use lib.Dec.{ltb}
 use lib.ListN.{drop}
 use Rattle.rules.specs.Text.Tokens.{RBra, Comma, Becomes, OTHERWISE, Info, Token, tk, kindNo}
 use Rattle.rules.specs.Grammar.Trees.{Tokens, Literal, literalTokens, Range, single, to, rangeTokens, Items, close, item, itemsTokens, Selector, one-of, any-of, selectorTokens}
-use Rattle.rules.specs.Selectors.{between, literalInfo, lowest, highestDigits, itemOf, itemsOf, selectorItems}
+use Rattle.rules.specs.Selectors.{literalInfo, itemOf, itemsOf, selectorItems}
 use Rattle.table.specs.Laws.Positions.{here}
 use Rattle.patterns.specs.Stands.{by-comma, by-close, by-becomes, itemSize, ItemAt, ItemsFrom, last-item, more-items, ItemsAt, no-items, in-brackets, one-item}
 use Rattle.patterns.specs.Laws.Tokens.{item-behind}
-use Rattle.summaries.specs.Fits.{PatternFits, ItemFits}
-use Rattle.summaries.specs.Laws.Values.{sum-fits}
+use Rattle.summaries.specs.Fits.{PatternFits}
 
 list-from : (ts : Tokens) (q : ℕ) (l : Literal) (r : Range) (is : Items) (rest : Tokens) → drop q ts ≡ literalTokens l (rangeTokens r (itemsTokens is rest))
     → ItemsFrom ts q (itemOf l r ∷ itemsOf is)
@@ -46,19 +42,3 @@ LiteralFits l = PatternFits 64 (literalInfo l .value) (literalInfo l .free)
 abbrev pub RangeFits : Range → Type 0
 RangeFits single = Unit {0}
 RangeFits (to c l) = LiteralFits l
-
-pub item-of-fits : (l : Literal) (r : Range) → LiteralFits l → RangeFits r → ItemFits (itemOf l r)
-unfolding itemOf
-item-of-fits l single p q = p
-item-of-fits l (to c m) p q = by (ltb (lowest m) (lowest l)) refl
-  where
-    first : highestDigits l < 2 ^ 64
-    first = sum-fits 64 (literalInfo l .value) (literalInfo l .free) p
-
-    second : highestDigits m < 2 ^ 64
-    second = sum-fits 64 (literalInfo m .value) (literalInfo m .free) q
-
-    by : (x : Bool) → ltb (lowest m) (lowest l) ≡ x
-        → ItemFits (elim x [ true ↦ between (lowest m) (highestDigits l) | false ↦ between (lowest l) (highestDigits m) ])
-    by true e = (omega (arith, ltb-true (lowest m) (lowest l) e), first)
-    by false e = (omega (arith, ltb-false (lowest m) (lowest l) e), second)

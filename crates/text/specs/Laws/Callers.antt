@@ -13,7 +13,7 @@ use Rattle.rules.specs.Text.Scan.{Scan, End, fine, refuse, scanEnd, followed, s
 use Rattle.rules.specs.Limits.{mostTokens}
 use Rattle.lexemes.specs.Lexemes.{sizeOf}
 use Rattle.text.specs.Laws.Sound.{Sound, Placed, lexeme-sound}
-use Rattle.text.specs.Table.{recordCells, valueBy, valueCells, writeCells}
+use Rattle.text.specs.Table.{valueBy, valueCells, writeCells}
 use Rattle.text.specs.Laws.Writes.{Fitting, written}
 
 -- a token that stands from `low` on, before `high`
@@ -101,11 +101,6 @@ value-fits k v m hv hm = go (eqb k 1 || eqb k 2)
     go : (r : Bool) → elim r [ true ↦ v | false ↦ m ] < 2 ^ 64
     go true = hv
     go false = hm
-
-records-fit : (low high : ℕ) (ts : List Token) → Rising low high ts → high ≤ 32768 → Fitting 8 (recordCells ts)
-records-fit low high [] r h = tt
-records-fit low high (t ∷ ts) r h =
-    (omega (arith, r .0 .kind, r .0 .size, r .0 .before), records-fit (t .info .place + 1) high ts (r .1) h)
 
 values-fit : (low high before : ℕ) (ts : List Token) → Rising low high ts → before < 2 ^ 64 → Fitting 8 (valueCells before ts)
 unfolding valueCells

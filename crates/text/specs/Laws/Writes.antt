@@ -7,7 +7,7 @@ use native.Mathlib.Numerals.{add-one}
 use native.Mathlib.Omega.{arith}
 use lib.ListN.{length, getD}
 use Rattle.cells.specs.Cells.{leAt, putCell, cellsFrom, cells}
-use Rattle.cells.specs.Laws.{length-put, getD-put-below, getD-put-above, le-put-same, le-put-below}
+use Rattle.cells.specs.Laws.{length-put, getD-put-below, le-put-same, le-put-below}
 use Rattle.text.specs.Table.{writeCells}
 
 -- numbers that fit cells of w bytes
@@ -29,15 +29,6 @@ module _ (w : ℕ) where
   before-written b i [] k h = refl
   before-written b i (v ∷ vs) k h =
       before-written (putCell w b i v) (i + 1) vs k (omega (arith, next i)) ∙ getD-put-below w b (w * i) v k h
-
-  pub past-written : (b : List ℕ) (i : ℕ) (vs : List ℕ) (k : ℕ) → w * (i + length vs) ≤ k → getD (writeCells w b i vs) k 0 ≡ getD b k 0
-  unfolding writeCells
-  past-written b i [] k h = refl
-  past-written b i (v ∷ vs) k h =
-      let size : i + length (v ∷ vs) ≡ i + 1 + length vs = omega arith in
-      let last : w * (i + 1 + length vs) ≤ k = rw size at h in
-      let first : w * (i + 1) ≤ w * (i + 1 + length vs) = mul-le-mul-left w (omega arith) in
-      past-written (putCell w b i v) (i + 1) vs k last ∙ getD-put-above w b (w * i) v k (omega (arith, next i))
 
   -- a number whose n bytes lie before the cells
   le-before : (n : ℕ) (b : List ℕ) (i : ℕ) (vs : List ℕ) (o : ℕ) → o + n ≤ w * i → leAt n (writeCells w b i vs) o ≡ leAt n b o
