@@ -6,7 +6,8 @@ use mathlib.Core.Path.{_≡_}
 use mathlib.Core.List.{List}
 use mathlib.Core.Logic.{_↔_}
 use lib.ListN.{length}
-use Rattle.rules.specs.Limits.{longestText}
+use native.Mathlib.Omega.{arith}
+use Rattle.rules.specs.Limits.{longestText, mostSteps}
 use Rattle.rules.specs.Text.Scan.{scan}
 use Rattle.rules.specs.Grammar.Trees.{Description, flatten}
 use Rattle.rules.specs.Declarations.{Table, declarations, totalWords}
@@ -47,12 +48,15 @@ ran-description = orders.ran-description
 
 -- `Steps ds k start c`: some k allowed steps of single members come from the start to c.
 module _ {text carriers left : List ℕ} {budget n : ℕ} {before after : Memory} (call : RunCall text carriers budget before after left n)
-    (enough : Enough before) (short : length text ≤ longestText) (small : budget < 4294967296) (d : Description) (stands : flatten d ≡ scan text .tokens) where
+    (enough : Enough before) (short : length text ≤ longestText) (within : budget ≤ mostSteps) (d : Description) (stands : flatten d ≡ scan text .tokens) where
   abbrev ds : Table
   ds = declarations d
 
   abbrev start : Conf
   start = begin ds (mainName ds) (wordsFrom (totalWords ds) carriers)
+
+  small : budget < 4294967296
+  small = omega (arith, within)
 
   -- (a) If the call answers Done or Stopped, an order of single steps that can go no further has its ending, its count and its carriers.
   pub same-end : endingIn (after .answer) < 2 → (k : ℕ) (c : Conf) → Steps ds k start c → NoStep ds c → SameEnd (after .answer) left k c
