@@ -8,6 +8,7 @@ use lines::answers::REFUSED;
 use lines::bytes::put_byte;
 use lines::endings::put_ending;
 use rules::limits::LONGEST_TEXT;
+use showing::page;
 use showing::put_words;
 ghost use Prim.Native.Nat.{_≤_};
 ghost use lib.ListN.{length};
@@ -74,7 +75,7 @@ fn answer(
 fn main() {
     let mut text = [0u8; 32769];
     let mut carriers = [0u8; 32768];
-    let mut out = [0u8; 524544];
+    let mut out = page();
     let mut a = io::large_buffer();
     let mut b = io::large_buffer();
     let mut c = io::large_buffer();

@@ -18,6 +18,7 @@ use lines::answers::REFUSED;
 use lines::bytes::put_byte;
 use lines::said::put_said;
 use rules::limits::LONGEST_TEXT;
+use showing::page;
 use showing::put_words;
 ghost use Prim.Native.Nat.{_≤_};
 ghost use lib.ListN.{length};
@@ -50,7 +51,7 @@ fn say_words(text: &[u8], carriers: &[u8], a: &mut [u8], b: &mut [u8], c: &mut [
     requires { ⌜ (length (now text) ≤ longestText) × ((65536 ≤ length (now a)) × ((65536 ≤ length (now b)) × (65536 ≤ length (now c)))) ⌝ }
     requires { ⌜ 32768 ≤ length (now carriers) ⌝ }
 {
-    let mut out = [0u8; 524544];
+    let mut out = page();
     let end = put_words(&mut out, 0, text, carriers, a, b, c);
     io::write_all(STDOUT_FILENO, &out[..end]);
 }

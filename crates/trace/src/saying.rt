@@ -18,6 +18,7 @@ use reports::put_short;
 use reports::put_unended;
 use reports::put_unreadable;
 use reports::put_yes;
+use showing::page;
 ghost use Prim.Native.Nat.{_+_, _*_, _≤_};
 ghost use lib.ListN.{length};
 ghost use Rattle.rules.specs.Limits.{longestText};
@@ -85,7 +86,7 @@ fn say_word(
     requires { ⌜ (length (now text) ≤ longestText) × ((65536 ≤ length (now a)) × ((65536 ≤ length (now b)) × (65536 ≤ length (now c)))) ⌝ }
     requires { ⌜ (32768 ≤ length (now carriers)) × (8 * word + 8 ≤ length (now carriers)) ⌝ }
 {
-    let mut out = [0u8; 524544];
+    let mut out = page();
     let end = put_named(&mut out, text, carriers, word, value, a, b, c);
     say_line(&out[..end], word);
 }

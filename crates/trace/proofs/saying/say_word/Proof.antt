@@ -10,8 +10,9 @@ pub say-word-spec : {M : Type 1} → statement M
 say-word-spec =
     tie.close
     (tie.spec
+    (λ c κs. search needs)
     (λ c. search needs)
-    (λ c κs. ((omega arith, (omega arith, (omega arith, omega arith))), (omega arith, (omega arith, omega arith))))
+    (λ c κs. search needs)
     (λ c. search needs)
     (λ c. simp length-take (omega arith))
     (λ c κs. search needs)
