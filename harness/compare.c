@@ -97,8 +97,10 @@ static void make_carriers(unsigned words)
             start[8 * (size_t)i + (size_t)byte] = (uint8_t)(value >> 8 * byte);
     }
     if (words > 0 && chance(5))
-        for (unsigned bits = 1 + below(3); bits > 0; bits--)
-            start[below(8 * words)] |= (uint8_t)(1u << below(8));
+        for (unsigned bits = 1 + below(3); bits > 0; bits--) {
+            unsigned at = below(8 * words);
+            start[at] |= (uint8_t)(1u << below(8));
+        }
     if (chance(3))
         carriers_len += 1 + below(8);
     else if (carriers_len > 0 && chance(3))
@@ -185,10 +187,11 @@ static void change_case(Asked *asked)
 /* No longer the name that it was, or hardly ever: one byte more, less or other, or nothing but bytes by chance. */
 static void spoil(Asked *asked)
 {
-    switch (below(4)) {
+    unsigned pick = below(4), at = below((unsigned)asked->len + 1);
+    switch (pick) {
     case 0: asked->bytes[asked->len++] = (uint8_t)(chance(50) ? '0' : below(256)); break;
     case 1: asked->len -= asked->len > 0; break;
-    case 2: asked->bytes[below((unsigned)asked->len + 1)] ^= (uint8_t)(1u << below(8)); break;
+    case 2: asked->bytes[at] ^= (uint8_t)(1u << below(8)); break;
     default:
         asked->len = below(LONGEST_ASKED + 1);
         for (size_t i = 0; i < asked->len; i++)

@@ -248,7 +248,8 @@ static Context with_reads(const Context *context, Mischief kind)
 
 static unsigned emit_decimal(void)
 {
-    uint64_t power = (uint64_t)1 << (chance(30) ? 63 : below(64)), value = chance(80) ? below(12) : chance(50) ? power - below(2) : random_bits() >> below(64);
+    uint64_t power = (uint64_t)1 << (chance(30) ? 63 : below(64)), bits = random_bits();
+    uint64_t value = chance(80) ? below(12) : chance(50) ? power - below(2) : bits >> below(64);
     unsigned length = 1;
     while (length < 64 && value >> length != 0)
         length++;
@@ -866,8 +867,10 @@ static void make_things(void)
 
 static void make_few_things(void)
 {
-    make_storage(2 + below(4), below(3));
-    make_bodies(1 + below(3), 8 + below(40), false);
+    /* each drawn in a statement of its own: the order of arguments is the compiler's */
+    unsigned carriers = 2 + below(4), mappings = below(3), count = 1 + below(3), size = 8 + below(40);
+    make_storage(carriers, mappings);
+    make_bodies(count, size, false);
 }
 
 /* ---- Damage and writing out ---- */

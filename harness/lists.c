@@ -62,9 +62,10 @@ static void change_entry(List *list, unsigned number)
     uint8_t *bytes = entry_of(list, number) + at;
     if (chance(40))
         memmove(bytes, entry_of(list, below(count_of(list))) + at, size);
-    else if (chance(80))
-        bytes[chance(80) ? 0 : below(size)] ^= (uint8_t)(1u << (chance(60) ? below(3) : below(8)));
-    else {
+    else if (chance(80)) {
+        unsigned byte = chance(80) ? 0 : below(size);
+        bytes[byte] ^= (uint8_t)(1u << (chance(60) ? below(3) : below(8)));
+    } else {
         uint64_t bits = random_bits();
         memcpy(bytes, &bits, size);
     }
@@ -85,7 +86,8 @@ void damage_list(List *list)
         return;
     }
     if (count_of(list) == 0) {
-        append_entry(list, below(300), below(4), below(4));
+        unsigned place = below(300), word = below(4), value = below(4);
+        append_entry(list, place, word, value);
         return;
     }
     unsigned number = below(count_of(list)), other = number_near(list, number);

@@ -26,8 +26,10 @@ static void add_access(void)
 {
     if (chance(20))
         add("K[C%u]", below(carriers));
-    else
-        add(chance(20) ? "M%u" : "C%u", below(carriers));
+    else {
+        const char *format = chance(20) ? "M%u" : "C%u";
+        add(format, below(carriers));
+    }
 }
 
 static void add_action(unsigned body, unsigned depth);

@@ -425,50 +425,38 @@ static void long_labels(void)
     finish();
 }
 
-static void leaves_below_labels(void)
+/* Labels up to half of all tokens behind what comes before them, and LEAVEs of the first below them. */
+static void leaves_below(const char *before, unsigned before_count, unsigned first, const char *leave, unsigned leave_count, const char *after, unsigned after_count)
 {
     start();
-    unsigned labels = 0;
-    for (; tokens < MOST_TOKENS / 2; labels++)
-        add_with("L%x:=", labels, 2);
-    add("BEGIN ", 1);
-    add_until_full("LEAVE L0 NEXT ", 3);
-    add("NO.OP() END END END", 6);
-}
-
-/* The same in a member of a group. */
-static void leaves_in_a_member(void)
-{
-    start();
-    add("NO.OP();", 4);
-    for (unsigned i = 0; tokens < MOST_TOKENS / 2; i++)
+    add(before, before_count);
+    for (unsigned i = first; tokens < MOST_TOKENS / 2; i++)
         add_with("L%x:=", i, 2);
     add("BEGIN ", 1);
-    add_until_full("LEAVE L0 NEXT ", 3);
-    add("NO.OP() END END END", 6);
+    add_until_full(leave, leave_count);
+    add(after, after_count);
+}
+
+static void leaves_below_labels(void)
+{
+    leaves_below("", 0, 0, "LEAVE L0 NEXT ", 3, "NO.OP() END END END", 6);
+}
+
+static void leaves_in_a_member(void)
+{
+    leaves_below("NO.OP();", 4, 0, "LEAVE L0 NEXT ", 3, "NO.OP() END END END", 6);
 }
 
 /* Each of them is reached. */
 static void leaves_behind_tests(void)
 {
-    start();
-    for (unsigned i = 0; tokens < MOST_TOKENS / 2; i++)
-        add_with("L%x:=", i, 2);
-    add("BEGIN ", 1);
-    add_until_full("IF A=>LEAVE L0 NEXT ", 6);
-    add("NO.OP() END END END", 6);
+    leaves_below("", 0, 0, "IF A=>LEAVE L0 NEXT ", 6, "NO.OP() END END END", 6);
 }
 
 /* The label that they leave is around the member: each is a fault, and the first counts. */
 static void leaves_out_of_a_member(void)
 {
-    start();
-    add("L0:=BEGIN NO.OP();", 7);
-    for (unsigned i = 1; tokens < MOST_TOKENS / 2; i++)
-        add_with("L%x:=", i, 2);
-    add("BEGIN ", 1);
-    add_until_full("LEAVE L0 NEXT ", 3);
-    add("NO.OP() END END END END", 7);
+    leaves_below("L0:=BEGIN NO.OP();", 7, 1, "LEAVE L0 NEXT ", 3, "NO.OP() END END END END", 7);
 }
 
 /* ---- Selectors ---- */
