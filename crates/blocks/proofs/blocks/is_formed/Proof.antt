@@ -17,7 +17,7 @@ returns-3 : tie.Need-returns-3
 returns-3 c = other-count (c .before .before .before .before .before .before .before .args .block .now) (c .before .before .before .before .before .before .before .args .number) (c .before .before .before .before .before .before .before .args .used) (omega arith) (omega arith) (λ e. c .if3 .taken (c .before .get16 .ensures ∙ e))
 
 returns-4 : tie.Need-returns-4
-returns-4 c = c .is-zero .ensures ∙ by-padding _ _ _ (omega arith) (omega arith) (omega arith)
+returns-4 c = c .is-zero .ensures ∙ by-padding (c .before .before .before .before .before .before .before .before .before .args .block .now) (c .before .before .before .before .before .before .before .before .before .args .number) (c .before .before .before .before .before .before .before .before .before .args .used) (omega arith) (omega arith) (omega arith)
 
 pub is-formed-spec : {M : Type 1} → statement M
 is-formed-spec =
