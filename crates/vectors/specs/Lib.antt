@@ -1,3 +1,0 @@
-pub mod Hash
-pub mod Lines
-pub mod Turns
