@@ -1,12 +1,12 @@
 // Which tokens count.
-use table::kinds::DECODE;
-use table::kinds::EQUALS;
-use table::kinds::IF;
-use table::kinds::LEAVE;
-use table::kinds::NO_OP;
-use table::kinds::REPEAT;
-use table::kinds::RESTART;
-use table::kinds::STOP;
+use rules::kinds::DECODE;
+use rules::kinds::EQUALS;
+use rules::kinds::IF;
+use rules::kinds::LEAVE;
+use rules::kinds::NO_OP;
+use rules::kinds::REPEAT;
+use rules::kinds::RESTART;
+use rules::kinds::STOP;
 ghost use mathlib.Core.Path.{_≡_};
 ghost use Rattle.counting.specs.Machine.{takesStep, turns};
 

@@ -1,14 +1,14 @@
 // Where the declarations stand: one walk over the tokens, which passes over bodies by counting brackets.
 use cells::put16;
-use table::kinds::BEGIN;
-use table::kinds::COMMA;
-use table::kinds::END;
-use table::kinds::LBRA;
-use table::kinds::LPAR;
-use table::kinds::MAIN;
-use table::kinds::RBRA;
-use table::kinds::RPAR;
-use table::kinds::STARS;
+use rules::kinds::BEGIN;
+use rules::kinds::COMMA;
+use rules::kinds::END;
+use rules::kinds::LBRA;
+use rules::kinds::LPAR;
+use rules::kinds::MAIN;
+use rules::kinds::RBRA;
+use rules::kinds::RPAR;
+use rules::kinds::STARS;
 use table::records::kind_at;
 ghost use mathlib.Core.Path.{_≡_};
 ghost use mathlib.Core.List.{List};

@@ -2,12 +2,12 @@
 // with each; NOTs and operators in a row are loops.
 use accesses::Judged;
 use accesses::names::named;
+use rules::kinds::CONST;
+use rules::kinds::LBRA;
+use rules::kinds::LPAR;
+use rules::kinds::NOT;
 use table::keys::NO_KEY;
 use table::keys::earlier;
-use table::kinds::CONST;
-use table::kinds::LBRA;
-use table::kinds::LPAR;
-use table::kinds::NOT;
 use table::operators::tightness_of;
 use table::records::kind_at;
 use table::records::size_at;

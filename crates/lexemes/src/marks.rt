@@ -1,5 +1,21 @@
 // Marks, the longest first.
 use crate::lexemes::Lexeme;
+use rules::kinds::ARROW;
+use rules::kinds::AT;
+use rules::kinds::BECOMES;
+use rules::kinds::COLON;
+use rules::kinds::COMMA;
+use rules::kinds::EQUALS;
+use rules::kinds::GREATER;
+use rules::kinds::LBRA;
+use rules::kinds::LESS;
+use rules::kinds::LPAR;
+use rules::kinds::MINUS;
+use rules::kinds::PLUS;
+use rules::kinds::RBRA;
+use rules::kinds::RPAR;
+use rules::kinds::SEMI;
+use rules::kinds::STARS;
 ghost use mathlib.Core.Path.{_≡_};
 ghost use Prim.Native.Nat.{_+_, _<_, _≤_};
 ghost use lib.ListN.{length, getD, take, drop};
@@ -33,9 +49,9 @@ fn pair_kind(code: u32) -> u8
     ensures { λ r. ⌜ r ≡ kindBy markCode code pairs ⌝ }
 {
     match code {
-        15993 => 12, // :=
-        16253 => 14, // =>
-        11094 => 18, // **
+        15993 => BECOMES, // :=
+        16253 => ARROW, // =>
+        11094 => STARS, // **
         _ => 0,
     }
 }
@@ -45,19 +61,19 @@ fn single_kind(code: u32) -> u8
     ensures { λ r. ⌜ r ≡ kindBy markCode code singles ⌝ }
 {
     match code {
-        41 => 3, // (
-        42 => 4, // )
-        92 => 5, // [
-        94 => 6, // ]
-        61 => 7, // <
-        63 => 8, // >
-        45 => 9, // ,
-        60 => 10, // ;
-        59 => 11, // :
-        62 => 13, // =
-        65 => 15, // @
-        44 => 16, // +
-        46 => 17, // -
+        41 => LPAR, // (
+        42 => RPAR, // )
+        92 => LBRA, // [
+        94 => RBRA, // ]
+        61 => LESS, // <
+        63 => GREATER, // >
+        45 => COMMA, // ,
+        60 => SEMI, // ;
+        59 => COLON, // :
+        62 => EQUALS, // =
+        65 => AT, // @
+        44 => PLUS, // +
+        46 => MINUS, // -
         _ => 0,
     }
 }

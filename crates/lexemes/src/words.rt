@@ -2,6 +2,30 @@
 use crate::lexemes::Lexeme;
 use classes::classes::IN_NAME;
 use classes::classes::run_end;
+use rules::kinds::AND;
+use rules::kinds::BEGIN;
+use rules::kinds::DECODE;
+use rules::kinds::END;
+use rules::kinds::EQL;
+use rules::kinds::EQV;
+use rules::kinds::GEQ;
+use rules::kinds::GTR;
+use rules::kinds::IF;
+use rules::kinds::LEAVE;
+use rules::kinds::LEQ;
+use rules::kinds::LSS;
+use rules::kinds::MAIN;
+use rules::kinds::NAME;
+use rules::kinds::NEQ;
+use rules::kinds::NEXT;
+use rules::kinds::NO_OP;
+use rules::kinds::NOT;
+use rules::kinds::OR;
+use rules::kinds::OTHERWISE;
+use rules::kinds::REPEAT;
+use rules::kinds::RESTART;
+use rules::kinds::STOP;
+use rules::kinds::XOR;
 use rules::limits::LONGEST_NAME;
 ghost use mathlib.Core.Path.{_≡_};
 ghost use mathlib.Core.Bool.{true};
@@ -51,35 +75,35 @@ fn word_code(text: &[u8], at: usize, end: usize) -> u64
     code
 }
 
-// The kind of the keyword that has this number, and 0 where none has.
+// The kind of the keyword that has this number, and that of a name where none has.
 fn keyword_kind(code: u64) -> u8
     ensures { λ r. ⌜ r ≡ kindBy wordCode code keywords ⌝ }
 {
     match code {
-        782661986 => 19, // BEGIN
-        150437 => 20, // END
-        13863278 => 21, // NEXT
-        2473 => 22, // IF
-        40344893796 => 23, // DECODE
-        10641751913434415 => 24, // OTHERWISE
-        56398121330 => 25, // REPEAT
-        635050348 => 26, // LEAVE
-        3627667372402 => 27, // RESTART
-        12228717 => 28, // MAIN
-        12778803 => 29, // STOP
-        817687534 => 30, // NO.OP
-        216046 => 31, // NOT
-        150433 => 32, // AND
-        224357 => 33, // EQV
-        3247 => 34, // OR
-        207864 => 35, // XOR
-        183397 => 36, // EQL
-        203118 => 37, // NEQ
-        212204 => 38, // LSS
-        203116 => 39, // LEQ
-        208167 => 40, // GTR
-        203111 => 41, // GEQ
-        _ => 0,
+        782661986 => BEGIN,
+        150437 => END,
+        13863278 => NEXT,
+        2473 => IF,
+        40344893796 => DECODE,
+        10641751913434415 => OTHERWISE,
+        56398121330 => REPEAT,
+        635050348 => LEAVE,
+        3627667372402 => RESTART,
+        12228717 => MAIN,
+        12778803 => STOP,
+        817687534 => NO_OP,
+        216046 => NOT,
+        150433 => AND,
+        224357 => EQV,
+        3247 => OR,
+        207864 => XOR,
+        183397 => EQL,
+        203118 => NEQ,
+        212204 => LSS,
+        203116 => LEQ,
+        208167 => GTR,
+        203111 => GEQ,
+        _ => NAME,
     }
 }
 
@@ -89,7 +113,7 @@ fn word_kind(text: &[u8], at: usize, end: usize) -> u8
     ensures { λ r. ⌜ r ≡ kindNo (wordKind keywords (map fold (slice at end (now (text .entry))))) ⌝ }
 {
     if 9 < end - at {
-        return 0;
+        return NAME;
     }
     keyword_kind(word_code(text, at, end))
 }

@@ -1,10 +1,10 @@
 // The links of an action that has no action inside.
-use table::kinds::EQUALS;
-use table::kinds::LEAVE;
-use table::kinds::LPAR;
-use table::kinds::NO_OP;
-use table::kinds::RESTART;
-use table::kinds::STOP;
+use rules::kinds::EQUALS;
+use rules::kinds::LEAVE;
+use rules::kinds::LPAR;
+use rules::kinds::NO_OP;
+use rules::kinds::RESTART;
+use rules::kinds::STOP;
 use table::records::kind_at;
 use table::records::put_inside;
 use table::records::put_link;

@@ -6,10 +6,10 @@ use crate::frames::inside;
 use crate::frames::next;
 use crate::frames::open;
 use reading::kinds::more;
-use table::kinds::BEGIN;
-use table::kinds::END;
-use table::kinds::NEXT;
-use table::kinds::SEMI;
+use rules::kinds::BEGIN;
+use rules::kinds::END;
+use rules::kinds::NEXT;
+use rules::kinds::SEMI;
 use table::records::kind_at;
 ghost use Rattle.marking.specs.Walking.{Acting, Acted};
 

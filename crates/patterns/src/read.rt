@@ -1,7 +1,7 @@
 // Items of selectors, read from the token table.
 use crate::items::Item;
-use table::kinds::COLON;
-use table::kinds::MASKED;
+use rules::kinds::COLON;
+use rules::kinds::MASKED;
 use table::records::kind_at;
 use table::records::value_at;
 ghost use mathlib.Core.Path.{_≡_};

@@ -1,9 +1,9 @@
 // What stands behind the name of an access: its subscript, and the names of its bits. At a name that stands for no access anything is read, and nothing
 // is claimed.
-use table::kinds::COLON;
-use table::kinds::LBRA;
-use table::kinds::LESS;
-use table::kinds::RBRA;
+use rules::kinds::COLON;
+use rules::kinds::LBRA;
+use rules::kinds::LESS;
+use rules::kinds::RBRA;
 use table::records::kind_at;
 use table::records::value_at;
 use table::views::Names;

@@ -1,11 +1,11 @@
 // The labels of a body, against each other and against what is declared.
+use rules::kinds::BECOMES;
+use rules::kinds::NAME;
 use stacks::is_stacked;
 use stacks::push;
 use table::keys::NO_KEY;
 use table::keys::earlier;
 use table::keys::fault_key;
-use table::kinds::BECOMES;
-use table::kinds::NAME;
 use table::meanings::UNKNOWN;
 use table::records::inside16_at;
 use table::records::kind_at;

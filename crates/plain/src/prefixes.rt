@@ -1,11 +1,11 @@
 // Labels, IFs and REPEATs in front of an action.
 use crate::labels::is_label;
 use expressions::judge::expression;
+use rules::kinds::IF;
+use rules::kinds::REPEAT;
 use stacks::push;
 use table::keys::NO_KEY;
 use table::keys::earlier;
-use table::kinds::IF;
-use table::kinds::REPEAT;
 use table::records::kind_at;
 ghost use mathlib.Core.List.{List};
 ghost use Prim.Native.Nat.{ℕ};

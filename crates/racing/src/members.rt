@@ -2,7 +2,7 @@
 use gathering::touches::touched;
 use reading::kinds::end_of;
 use reading::kinds::kind_of;
-use table::kinds::SEMI;
+use rules::kinds::SEMI;
 use whole::groups::place_of;
 use whole::groups::races;
 ghost use Prim.Native.Nat.{_*_, _≤_};

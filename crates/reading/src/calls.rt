@@ -2,8 +2,8 @@
 use crate::kinds::closes;
 use crate::kinds::kind_of;
 use crate::kinds::mode;
-use table::kinds::LPAR;
-use table::kinds::NAME;
+use rules::kinds::LPAR;
+use rules::kinds::NAME;
 use table::records::kind_at;
 use table::scans::SEPARATOR;
 use table::scans::deeper;

@@ -1,7 +1,7 @@
 // What the names of a body mean.
 use cells::get16;
+use rules::kinds::BECOMES;
 use rules::limits::MOST_DECLARATIONS;
-use table::kinds::BECOMES;
 use table::records::inside_at;
 use table::records::kind_at;
 use table::views::target_of;

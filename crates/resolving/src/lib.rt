@@ -1,6 +1,6 @@
 // What the names mean: each name's record takes the number of its first declaration.
 use cells::get16;
-use table::kinds::NAME;
+use rules::kinds::NAME;
 use table::meanings::OUTER_ONLY;
 use table::meanings::UNKNOWN;
 use table::records::inside16_at;

@@ -2,12 +2,12 @@
 use crate::labels::push_label;
 use cells::get16;
 use cells::put16;
-use table::kinds::BECOMES;
-use table::kinds::BEGIN;
-use table::kinds::COMMA;
-use table::kinds::END;
-use table::kinds::NEXT;
-use table::kinds::SEMI;
+use rules::kinds::BECOMES;
+use rules::kinds::BEGIN;
+use rules::kinds::COMMA;
+use rules::kinds::END;
+use rules::kinds::NEXT;
+use rules::kinds::SEMI;
 use table::room::FIRST_SCOPE;
 use table::room::SCOPES_END;
 ghost use mathlib.Core.Path.{_≡_};

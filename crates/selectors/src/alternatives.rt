@@ -2,12 +2,12 @@
 use crate::lists::past_length;
 use crate::lists::some_meet;
 use cells::get16;
+use rules::kinds::LBRA;
+use rules::kinds::OTHERWISE;
 use summaries::Summary;
 use summaries::apart;
 use summaries::of_items;
 use summaries::open;
-use table::kinds::LBRA;
-use table::kinds::OTHERWISE;
 use table::records::kind_at;
 ghost use mathlib.Core.Path.{_≡_};
 ghost use mathlib.Core.List.{List};

@@ -3,7 +3,7 @@ use patterns::items::Item;
 use patterns::items::past;
 use patterns::meets::items_meet;
 use patterns::read::item_at;
-use table::kinds::COMMA;
+use rules::kinds::COMMA;
 use table::records::kind_at;
 ghost use mathlib.Core.Path.{_≡_};
 ghost use Prim.Native.Nat.{_≤_};

@@ -10,7 +10,7 @@ use crate::nodes::clear_heads;
 use crate::searching::search;
 use cells::get16;
 use cells::put16;
-use table::kinds::NAME;
+use rules::kinds::NAME;
 use table::records::kind_at;
 use table::records::put_link;
 ghost use Prim.Native.Nat.{_+_, _*_, _≤_};

@@ -1,12 +1,12 @@
 // The alternative of a DECODE that takes a value.
 use patterns::items::matches;
 use patterns::read::item_at;
-use table::kinds::COMMA;
-use table::kinds::END;
-use table::kinds::LBRA;
-use table::kinds::MASKED;
-use table::kinds::NAME;
-use table::kinds::OTHERWISE;
+use rules::kinds::COMMA;
+use rules::kinds::END;
+use rules::kinds::LBRA;
+use rules::kinds::MASKED;
+use rules::kinds::NAME;
+use rules::kinds::OTHERWISE;
 use table::records::inside_at;
 use table::records::kind_at;
 use table::records::link_at;

@@ -4,7 +4,7 @@ use patterns::meets::higher;
 use patterns::meets::lower;
 use patterns::meets::patterns_meet;
 use patterns::read::item_at;
-use table::kinds::COMMA;
+use rules::kinds::COMMA;
 use table::records::kind_at;
 ghost use mathlib.Core.Path.{_≡_};
 ghost use mathlib.Core.Bool.{true};

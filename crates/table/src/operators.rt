@@ -1,17 +1,17 @@
 // Operators by their kinds: how tightly they bind.
-use crate::kinds::AND;
-use crate::kinds::AT;
-use crate::kinds::EQL;
-use crate::kinds::EQV;
-use crate::kinds::GEQ;
-use crate::kinds::GTR;
-use crate::kinds::LEQ;
-use crate::kinds::LSS;
-use crate::kinds::MINUS;
-use crate::kinds::NEQ;
-use crate::kinds::OR;
-use crate::kinds::PLUS;
-use crate::kinds::XOR;
+use rules::kinds::AND;
+use rules::kinds::AT;
+use rules::kinds::EQL;
+use rules::kinds::EQV;
+use rules::kinds::GEQ;
+use rules::kinds::GTR;
+use rules::kinds::LEQ;
+use rules::kinds::LSS;
+use rules::kinds::MINUS;
+use rules::kinds::NEQ;
+use rules::kinds::OR;
+use rules::kinds::PLUS;
+use rules::kinds::XOR;
 ghost use mathlib.Core.Path.{_≡_};
 ghost use Rattle.table.specs.Operators.{tightnessAt};
 

@@ -1,9 +1,9 @@
 // Searches along the tokens outside of blocks: where they end, and how many BEGINs are open.
-use crate::kinds::BEGIN;
-use crate::kinds::COMMA;
-use crate::kinds::END;
-use crate::kinds::NEXT;
-use crate::kinds::SEMI;
+use rules::kinds::BEGIN;
+use rules::kinds::COMMA;
+use rules::kinds::END;
+use rules::kinds::NEXT;
+use rules::kinds::SEMI;
 ghost use mathlib.Core.Path.{_≡_};
 ghost use Prim.Native.Nat.{_+_, _<_, _≤_};
 ghost use Rattle.table.specs.Scans.{separates, stops, halts, deeper};

@@ -1,13 +1,13 @@
 // A declaration whose name is the token i, seen by tokens at fixed distances from it.
-use crate::kinds::BECOMES;
-use crate::kinds::BEGIN;
-use crate::kinds::COLON;
-use crate::kinds::GREATER;
-use crate::kinds::LBRA;
-use crate::kinds::LESS;
-use crate::kinds::MAIN;
 use crate::records::kind_at;
 use crate::records::value_at;
+use rules::kinds::BECOMES;
+use rules::kinds::BEGIN;
+use rules::kinds::COLON;
+use rules::kinds::GREATER;
+use rules::kinds::LBRA;
+use rules::kinds::LESS;
+use rules::kinds::MAIN;
 ghost use mathlib.Core.Path.{_≡_};
 ghost use mathlib.Core.List.{List};
 ghost use Prim.Native.Nat.{ℕ, _+_};

@@ -5,6 +5,8 @@ use crate::bytes::CLASSES;
 use cells::put64;
 use lexemes::lexemes::Lexeme;
 use lexemes::lexemes::lexeme_at;
+use rules::kinds::CONST;
+use rules::kinds::MASKED;
 use rules::limits::MOST_TOKENS;
 ghost use mathlib.Core.Path.{_≡_};
 ghost use Prim.Native.Nat.{_+_, _*_, _≤_};
@@ -24,10 +26,10 @@ pub enum Scanned {
 fn value_cell(kind: u8, value: u64, before: u64) -> u64
     ensures { λ r. ⌜ r ≡ valueBy kind value before ⌝ }
 {
-    if kind == 1 {
+    if kind == CONST {
         return value;
     }
-    if kind == 2 {
+    if kind == MASKED {
         return value;
     }
     before

@@ -1,10 +1,10 @@
 // The step of one instruction, whose stores are told.
 use evaluation::transfers::Transferred;
+use rules::kinds::LPAR;
+use rules::kinds::NAME;
 use stepping::steps::Moved;
 use stepping::steps::step;
 use storing::transfers::transfer;
-use table::kinds::LPAR;
-use table::kinds::NAME;
 use table::records::kind_at;
 use table::records::link_at;
 ghost use mathlib.Core.Path.{_≡_};

@@ -10,6 +10,18 @@ use operators::either;
 use operators::join;
 use operators::subtract;
 use operators::truth;
+use rules::kinds::AND;
+use rules::kinds::AT;
+use rules::kinds::EQL;
+use rules::kinds::EQV;
+use rules::kinds::GTR;
+use rules::kinds::LEQ;
+use rules::kinds::LSS;
+use rules::kinds::MINUS;
+use rules::kinds::NEQ;
+use rules::kinds::OR;
+use rules::kinds::PLUS;
+use rules::kinds::XOR;
 ghost use mathlib.Core.Path.{_≡_};
 ghost use Prim.Native.Nat.{max, _≤_};
 ghost use Rattle.rules.specs.Values.{opBits, opNumber};
@@ -29,13 +41,13 @@ pub fn operate_bits(op: u8, m: u32, n: u32) -> u32
 {
     let long = longer(m, n);
     match op {
-        15 => m + n,
-        16 => long + 1,
-        17 => long + 1,
-        32 => long,
-        33 => long,
-        34 => long,
-        35 => long,
+        AT => m + n,
+        PLUS => long + 1,
+        MINUS => long + 1,
+        AND => long,
+        EQV => long,
+        OR => long,
+        XOR => long,
         _ => 1,
     }
 }
@@ -46,18 +58,18 @@ pub fn operate(op: u8, m: u32, a: u64, n: u32, b: u64) -> u64
     ensures { λ r. ⌜ r ≡ opNumber (opAt op) m a n b ⌝ }
 {
     match op {
-        15 => join(n, a, b),
-        16 => add(a, b),
-        17 => subtract(longer(m, n) + 1, a, b),
-        32 => both(a, b),
-        33 => alike(longer(m, n), a, b),
-        34 => either(a, b),
-        35 => differ(a, b),
-        36 => truth(a == b),
-        37 => truth(a != b),
-        38 => truth(a < b),
-        39 => truth(a <= b),
-        40 => truth(a > b),
+        AT => join(n, a, b),
+        PLUS => add(a, b),
+        MINUS => subtract(longer(m, n) + 1, a, b),
+        AND => both(a, b),
+        EQV => alike(longer(m, n), a, b),
+        OR => either(a, b),
+        XOR => differ(a, b),
+        EQL => truth(a == b),
+        NEQ => truth(a != b),
+        LSS => truth(a < b),
+        LEQ => truth(a <= b),
+        GTR => truth(a > b),
         _ => truth(a >= b),
     }
 }

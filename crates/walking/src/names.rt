@@ -4,7 +4,7 @@ use counting::counts::Nest;
 use counting::counts::count;
 use reading::kinds::kind_of;
 use reading::names::index_of;
-use table::kinds::LPAR;
+use rules::kinds::LPAR;
 ghost use mathlib.Core.Path.{_≡_};
 ghost use mathlib.Core.List.{List};
 ghost use Prim.Native.Nat.{ℕ, _+_};

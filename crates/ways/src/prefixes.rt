@@ -2,11 +2,11 @@
 use crate::labels::push;
 use crate::scans::first_of;
 use crate::scans::seek;
-use table::kinds::ARROW;
-use table::kinds::BECOMES;
-use table::kinds::IF;
-use table::kinds::NAME;
-use table::kinds::REPEAT;
+use rules::kinds::ARROW;
+use rules::kinds::BECOMES;
+use rules::kinds::IF;
+use rules::kinds::NAME;
+use rules::kinds::REPEAT;
 use table::records::kind_at;
 use table::records::put_inside;
 use table::records::put_link;

@@ -1,7 +1,7 @@
 // Searches along the tokens: for the end of an action, for a mark at its own depth, for the first instruction of an action.
-use table::kinds::BECOMES;
-use table::kinds::BEGIN;
-use table::kinds::NAME;
+use rules::kinds::BECOMES;
+use rules::kinds::BEGIN;
+use rules::kinds::NAME;
 use table::records::kind_at;
 use table::scans::deeper;
 use table::scans::halts;

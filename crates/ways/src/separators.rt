@@ -1,11 +1,11 @@
 // The separators of the alternatives of a DECODE: its BEGIN and each `,` lead inside to the alternative, and behind to the next separator.
 use crate::scans::first_of;
 use crate::scans::seek;
-use table::kinds::BECOMES;
-use table::kinds::CONST;
-use table::kinds::LBRA;
-use table::kinds::MASKED;
-use table::kinds::OTHERWISE;
+use rules::kinds::BECOMES;
+use rules::kinds::CONST;
+use rules::kinds::LBRA;
+use rules::kinds::MASKED;
+use rules::kinds::OTHERWISE;
 use table::records::kind_at;
 use table::records::put_inside;
 use table::records::put_link;
