@@ -1,4 +1,4 @@
--- THE RESUME PROFILE: what is proved of it. Definitions: Paths.antt. The analysis: Cited/Early.antt.
+-- THE RESUME PROFILE: what is proved of it. Definitions: Paths.antt of `rules`. The analysis: Cited/Early.antt.
 use Prim.Native.Nat.{ℕ}
 use mathlib.Core.Path.{_≡_}
 use mathlib.Core.Bool.{true, false}
