@@ -1,7 +1,7 @@
 #!/usr/bin/env python3
 """Lays out the rows of crates/laws_grammar/specs/Cited/Rows.antt as one list of numbers, for the recogniser.
 
-Writes crates/grammar/src/table.rt (the numbers) and crates/grammar/specs/Places.antt (where each state's row begins).
+Writes crates/grammar/src/rows.rt (the numbers) and crates/grammar/specs/Places.antt (where each state's row begins).
 To be run after a change of the rows or of the kinds' order. Nothing rests on it: the check of `grammar` compares the numbers with the rows.
 """
 import re
@@ -132,7 +132,7 @@ def numbering(types, name, function):
 def places_file(types, places):
     function = {'Site': 'siteNo', 'Use': 'useNo', 'Part': 'partNo', 'Owner': 'ownerNo'}
     names = [c for name in (*function, 'State') for c, _ in types[name]]
-    out = ['-- Where the row of each state begins in the table of src/table.rt. No row begins at 0.',
+    out = ['-- Where the row of each state begins in the table of src/rows.rt. No row begins at 0.',
            '-- Written by tools/grammar_table.py.',
            'use mathlib.Core.List.{[], _∷_}',
            'use Prim.Native.Nat.{ℕ, _+_}',
@@ -184,7 +184,7 @@ def main():
     numbers = entries(rows, places, kind_no)
     assert max(places.values()) < PLACES and len(kind_no) <= NAMES_NO_KIND
     open('crates/grammar/specs/Places.antt', 'w', encoding='utf8').write(places_file(types, places))
-    open('crates/grammar/src/table.rt', 'w', encoding='utf8').write(table_file(numbers, places['title']))
+    open('crates/grammar/src/rows.rt', 'w', encoding='utf8').write(table_file(numbers, places['title']))
 
 
 if __name__ == '__main__':

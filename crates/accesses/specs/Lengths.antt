@@ -1,6 +1,6 @@
 -- The length of an access by the names of its bits: all bits of the declaration, or the given ones if they lie inside and run the same way.
 use Prim.Native.Nat.{ℕ, _≤_, max}
-use Rattle.rules.specs.Limits.{mostBits}
+use Rattle.rules.specs.Limits.{mostBits, largestName}
 use Rattle.rules.specs.Declarations.{names, howMany, these}
 use Rattle.rules.specs.Faults.Declared.{inside}
 use Rattle.table.specs.declared.views.Names.{Names}
@@ -28,4 +28,4 @@ accessLength own (Span l r) = partLength own l r
 abbrev pub Short : Names → Type 0
 Short Missing = Unit {0}
 Short Unnamed = Unit {0}
-Short (Span l r) = (howMany (names l r) ≤ mostBits) × (max l r ≤ 4095)
+Short (Span l r) = (howMany (names l r) ≤ mostBits) × (max l r ≤ largestName)

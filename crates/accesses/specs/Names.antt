@@ -10,7 +10,7 @@ use Rattle.rules.specs.Grammar.Trees.{Tokens, Bits, bitsTokens}
 use Rattle.rules.specs.Grammar.Precedence.{Index, no-index, index}
 use Rattle.rules.specs.Declarations.{Names as Span-of, BitNames, mainNames}
 use Rattle.rules.specs.Faults.Bodies.{judgeAccess}
-use Rattle.table.specs.Holds.{tokenAt}
+use Rattle.records.specs.Holds.{tokenAt}
 use Rattle.table.specs.Bits.{accessBits}
 use Rattle.table.specs.Shown.{shownBits, shownWords}
 use Rattle.table.specs.declared.views.Names.{Names}

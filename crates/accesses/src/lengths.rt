@@ -1,46 +1,11 @@
 // The length of an access, by the names of its bits.
+use spans::inside;
 use table::views::Names;
 ghost use mathlib.Core.Path.{_≡_};
 ghost use Prim.Native.Nat.{_≤_};
 ghost use Rattle.rules.specs.Declarations as rules;
-ghost use Rattle.rules.specs.Declarations.{these, howMany};
-ghost use Rattle.rules.specs.Faults.Declared as faults;
+ghost use Rattle.rules.specs.Declarations.{howMany};
 ghost use Rattle.accesses.specs.Lengths.{Short, ownLength, partLength, accessLength};
-
-// Whether n is one of the names from left to right, either way round.
-fn among(left: u64, right: u64, n: u64) -> bool
-    ensures { λ r. ⌜ r ≡ faults.among (rules.names left right) n ⌝ }
-{
-    if left <= right {
-        if n < left {
-            return false;
-        }
-        return n <= right;
-    }
-    if n < right {
-        return false;
-    }
-    n <= left
-}
-
-// Whether the names from l to r lie inside those from left to right and run the same way; one name runs both ways.
-fn inside(left: u64, right: u64, l: u64, r: u64) -> bool
-    ensures { λ t. ⌜ t ≡ faults.inside (these (rules.names left right)) (rules.names l r) ⌝ }
-{
-    if !among(left, right, l) {
-        return false;
-    }
-    if !among(left, right, r) {
-        return false;
-    }
-    if l == r {
-        return true;
-    }
-    if left <= right {
-        return l <= r;
-    }
-    r < l
-}
 
 // How many names there are from l to r: as many as a value has bits, at most.
 fn how_many(l: u64, r: u64) -> u32

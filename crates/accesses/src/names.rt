@@ -2,12 +2,12 @@
 use crate::Judged;
 use crate::lengths::access_length;
 use cells::get16;
-use table::keys::NO_KEY;
-use table::keys::fault_key;
+use keys::NO_KEY;
+use keys::fault_key;
+use records::fields::inside16_at;
+use records::fields::place_at;
 use table::meanings::OUTER_ONLY;
 use table::meanings::UNKNOWN;
-use table::records::inside16_at;
-use table::records::place_at;
 use table::views::Names;
 use table::views::bits_of;
 use table::views::bits_size;

@@ -12,8 +12,8 @@ use Rattle.rules.specs.Text.Tokens.{BEGIN, DECODE, END, kindNo}
 use Rattle.rules.specs.Selectors.{between}
 use Rattle.rules.specs.Faults.Fault.{when}
 use Rattle.rules.specs.Faults.Bodies.{past}
-use Rattle.table.specs.Holds.{kindByte, placeCell}
-use Rattle.table.specs.Keys.{noKey, leastKey}
+use Rattle.records.specs.Holds.{kindByte, placeCell}
+use Rattle.keys.specs.Keys.{noKey, leastKey}
 use Rattle.stacks.specs.Stacks.{Kept}
 use Rattle.stacks.specs.Laws.Kept.{kept-all, kept-then, kept-less}
 use Rattle.patterns.specs.Stands.{AlternativeView}
@@ -22,7 +22,7 @@ use Rattle.accesses.specs.declared.Judged.{Judged as Value}
 use Rattle.plain.specs.declared.Walked.{Walked}
 use Rattle.plain.specs.declared.prefixes.Prefixed.{Prefixed}
 use Rattle.plain.specs.Actions.{ActionView, ActionAnswer, Simple, IsBlock, IsDecode}
-use Rattle.choices.specs.Room.{labelCells, levelBase}
+use Rattle.room.specs.Bodies.{labelCells, levelBase}
 use Rattle.choices.specs.Choices.{withStart, StartsView, OverlapAnswer, BehindView, BehindAnswer}
 use Rattle.actions.specs.Alternatives.{isSelector, IsCounted, IsSelected, ChoicesView, ChoicesAnswer}
 use Rattle.plain.specs.Prefixes.{PrefixAnswer}

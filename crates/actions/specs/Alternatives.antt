@@ -11,8 +11,9 @@ use Rattle.rules.specs.Limits.{mostBits, deepest}
 use Rattle.rules.specs.Faults.Fault.{Fault}
 use Rattle.rules.specs.Faults.Bodies.{alternativesFaults, insideFaults}
 use Rattle.laws_grammar.specs.Cited.Nesting.{alternativesNest}
-use Rattle.table.specs.Keys.{leastKey}
-use Rattle.stacks.specs.Stacks.{stackedWords, indexEnd, Stacked}
+use Rattle.keys.specs.Keys.{leastKey}
+use Rattle.stacks.specs.Stacks.{stackedWords, Stacked}
+use Rattle.room.specs.Bodies.{indexEnd}
 use Rattle.plain.specs.declared.Walked.{Walked}
 use Rattle.plain.specs.Stage.{Stage, outerOf, tableOf}
 

@@ -4,26 +4,14 @@ use asking::carrier_bytes;
 use asking::check;
 use asking::run;
 use lines::answers::Answer;
-use lines::answers::REFUSED;
-use lines::bytes::put_byte;
-use lines::endings::put_ending;
 use rules::limits::LONGEST_TEXT;
 use showing::page;
-use showing::put_words;
+use showing::put_report;
 ghost use Prim.Native.Nat.{_≤_};
 ghost use lib.ListN.{length};
 ghost use Rattle.rules.specs.Limits.{longestText};
 
 const BUDGET: u32 = 1000000;
-
-// The first line.
-fn put_first(out: &mut [u8], a: Answer) -> usize
-    requires { ⌜ 128 ≤ length (now out) ⌝ }
-    ensures { λ r. ⌜ r ≤ 128 ⌝ }
-{
-    let next = put_ending(out, 0, a);
-    put_byte(out, next, 10)
-}
 
 // The run of a text, from as many zero carriers as it asks for.
 fn run_text(text: &[u8], carriers: &mut [u8], a: &mut [u8], b: &mut [u8], c: &mut [u8]) -> Answer
@@ -32,27 +20,6 @@ fn run_text(text: &[u8], carriers: &mut [u8], a: &mut [u8], b: &mut [u8], c: &mu
     let accepted = check(text, a, b, c);
     let size = carrier_bytes(accepted.words);
     run(text, &mut carriers[..size], BUDGET, a, b, c)
-}
-
-// All that is to be written for a text whose run has ended.
-fn put_report(
-    out: &mut [u8],
-    ended: Answer,
-    text: &[u8],
-    carriers: &[u8],
-    a: &mut [u8],
-    b: &mut [u8],
-    c: &mut [u8],
-) -> usize
-    requires { ⌜ (length (now text) ≤ longestText) × ((65536 ≤ length (now a)) × ((65536 ≤ length (now b)) × (65536 ≤ length (now c)))) ⌝ }
-    requires { ⌜ (524544 ≤ length (now out)) × (32768 ≤ length (now carriers)) ⌝ }
-    ensures { λ r. ⌜ r ≤ length (now (out .exit)) ⌝ }
-{
-    let next = put_first(out, ended);
-    if ended.ending == REFUSED {
-        return next;
-    }
-    put_words(out, next, text, carriers, a, b, c)
 }
 
 // The run and its report.

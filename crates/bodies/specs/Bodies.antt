@@ -10,7 +10,7 @@ use Rattle.rules.specs.Faults.Fault.{Fault}
 use Rattle.rules.specs.Faults.Bodies.{bodyFaults, faults40}
 use Rattle.laws_grammar.specs.Cited.Nesting.{declarationNest}
 use Rattle.table.specs.Declarations.{DeclaredAt}
-use Rattle.stacks.specs.Stacks.{indexEnd}
+use Rattle.room.specs.Bodies.{indexEnd}
 use Rattle.plain.specs.Stage.{Stage, outerOf, tableOf}
 
 -- a declaration's name is the token i

@@ -1,17 +1,17 @@
 // All bodies of a description, one after the other: the least fault of the 40s.
 use actions::action;
 use cells::get16;
+use keys::NO_KEY;
+use keys::earlier;
 use plain::labels::labels_fault;
 use rules::limits::DEEPEST;
 use stacks::push;
-use table::keys::NO_KEY;
-use table::keys::earlier;
 use table::views::body_of;
 ghost use mathlib.Core.Path.{_≡_};
 ghost use mathlib.Core.List.{List};
 ghost use Prim.Native.Nat.{ℕ};
 ghost use lib.ListN.{length};
-ghost use Rattle.table.specs.Keys.{leastKey};
+ghost use Rattle.keys.specs.Keys.{leastKey};
 ghost use Rattle.bodies.specs.Bodies.{BodyView, faultsOfBody, BodiesView, faultsOfBodies};
 
 // The body of the declaration whose name is the token i: its action under that name, and its labels against each other.

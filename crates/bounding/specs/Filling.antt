@@ -11,7 +11,7 @@ use Rattle.rules.specs.Limits.{longestChain}
 use Rattle.rules.specs.Faults.Whole.{faults50}
 use Rattle.rules.specs.Whole.Sets.{anyName, chainOver}
 use Rattle.bounds.specs.Cited.Counts.{countDown}
-use Rattle.table.specs.Words.{wordAt}
+use Rattle.records.specs.Words.{wordAt}
 use Rattle.reading.specs.Reading.{Reading, tableOf}
 use Rattle.reading.specs.Events.{heard}
 use Rattle.reading.specs.Calls.{callsOf}

@@ -8,8 +8,8 @@ use Rattle.rules.specs.Limits.{longestChain}
 use Rattle.rules.specs.Declarations.{declarations}
 use Rattle.rules.specs.Faults.Whole.{mainName}
 use Rattle.bounds.specs.Cited.Counts.{endless, countDown}
-use Rattle.table.specs.Holds.{kindByte}
-use Rattle.table.specs.Words.{wordAt}
+use Rattle.records.specs.Holds.{kindByte}
+use Rattle.records.specs.Words.{wordAt}
 use Rattle.links.specs.Mains.{MainIn}
 use Rattle.reading.specs.Reading.{tableOf}
 use Rattle.bounding.specs.Filling.{Ready}

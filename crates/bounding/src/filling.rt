@@ -12,8 +12,10 @@ ghost use Prim.Native.Nat.{_<_, _≤_};
 ghost use lib.ListN.{length};
 ghost use Rattle.rules.specs.Text.Tokens.{Name, kindNo};
 ghost use Rattle.rules.specs.Whole.Sets.{anyName, chainOver};
-ghost use Rattle.table.specs.Holds.{kindByte};
+ghost use Rattle.rules.specs.Limits.{longestChain};
+ghost use Rattle.records.specs.Holds.{kindByte};
 ghost use Rattle.reading.specs.Reading.{tableOf};
+ghost use Rattle.walking.specs.Walking.{tableSize};
 ghost use Rattle.bounding.specs.Filling.{Ready, ShortFrom, callsFrom, Blank, Fillable, Fills, Descends};
 
 // A count that is not known yet: each body takes a step.
@@ -21,7 +23,7 @@ const UNKNOWN: u64 = 0;
 
 // Nothing is known, but that a name which is not declared does nothing. That is a step.
 pub fn blank(table: &mut [u8])
-    requires { ⌜ 2056 ≤ length (now table) ⌝ }
+    requires { ⌜ tableSize ≤ length (now table) ⌝ }
     ensures { λ _. ⌜ Blank (now (table .entry)) (now (table .exit)) ⌝ }
 {
     let mut k: usize = 0;
@@ -45,7 +47,7 @@ pub fn fill(
     left: usize,
 )
     requires { ⌜ Fillable (now records) (now decls) (now table) (now room) m n × ((i < n) × ((kindByte (now records) i ≡ kindNo Name)
-        × ((left ≤ 16) × ((v : Ready (now records) (now decls) m n) → ShortFrom v i left)))) ⌝ }
+        × ((left ≤ longestChain) × ((v : Ready (now records) (now decls) m n) → ShortFrom v i left)))) ⌝ }
     ensures { λ _. ⌜ Fills (now (records .entry)) (now (decls .entry)) (now (table .entry)) (now (table .exit)) m n i ⌝ }
 {
     let k = index_of(records, m, i);
@@ -73,7 +75,7 @@ fn descend(
     from: usize,
     left: usize,
 )
-    requires { ⌜ Fillable (now records) (now decls) (now table) (now room) m n × ((left ≤ 16)
+    requires { ⌜ Fillable (now records) (now decls) (now table) (now room) m n × ((left ≤ longestChain)
         × ((v : Ready (now records) (now decls) m n) → anyName (chainOver (tableOf (v .reading)) left) (callsFrom v from) ≡ false)) ⌝ }
     ensures { λ _. ⌜ Descends (now (records .entry)) (now (decls .entry)) (now (table .entry)) (now (table .exit)) m n from ⌝ }
 {

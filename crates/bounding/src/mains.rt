@@ -9,6 +9,7 @@ use table::views::main_of;
 ghost use Prim.Native.Nat.{_≤_};
 ghost use lib.ListN.{length};
 ghost use Rattle.links.specs.Mains.{MainIn};
+ghost use Rattle.walking.specs.Walking.{tableSize};
 ghost use Rattle.bounding.specs.Filling.{Ready, Fillable};
 ghost use Rattle.bounding.specs.Mains.{MainNamed, Longest};
 
@@ -48,7 +49,7 @@ fn main_count(
 
 // What MAIN costs, cut at ENDLESS. The table may hold anything before and afterwards.
 pub fn longest(records: &[u8], decls: &[u8], table: &mut [u8], m: usize, n: usize) -> u64
-    requires { ⌜ Ready (now records) (now decls) m n × (2056 ≤ length (now table)) ⌝ }
+    requires { ⌜ Ready (now records) (now decls) m n × (tableSize ≤ length (now table)) ⌝ }
     ensures { λ r. ⌜ Longest (now (records .entry)) (now (decls .entry)) m n r ⌝ }
 {
     let mut room: [u8; 512] = [0; 512];

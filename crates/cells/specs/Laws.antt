@@ -8,7 +8,7 @@ use native.Mathlib.Omega.{arith}
 use native.Mathlib.Decide.{decLt}
 use lib.ListN.{length, getD, set, length-set}
 use lib.Seq.{getD-set-same, getD-set-other, ext-getD}
-use Rattle.cells.specs.Cells.{leAt, putAt, putCell, cellsFrom, cells}
+use Rattle.cells.specs.Cells.{leAt, putAt, cell, putCell, cellsFrom, cells}
 
 pub length-put : (w : ℕ) (b : List ℕ) (o v : ℕ) → length (putAt w b o v) ≡ length b
 unfolding putAt
@@ -57,6 +57,31 @@ le-put-above (suc n) w b o v k h =
     let first : getD (putAt w b o v) k 0 ≡ getD b k 0 = getD-put-above w b o v k (omega arith) in
     let rest : leAt n (putAt w b o v) (k + 1) ≡ leAt n b (k + 1) = le-put-above n w b o v (k + 1) (omega arith) in
     omega arith
+
+-- a cell that is put is read back, every other is as before, and there are as many bytes
+pub cell-same : (w : ℕ) (b : List ℕ) (i v : ℕ) → w * i + w ≤ length b → v < 256 ^ w → cell w (putCell w b i v) i ≡ v
+cell-same w b i v room fits = le-put-same w b (w * i) v room fits
+
+pub cell-other : (w : ℕ) (b : List ℕ) (i v j : ℕ) → (j ≡ i → ⊥) → cell w (putCell w b i v) j ≡ cell w b j
+cell-other w b i v j other = by (decLt j i)
+  where
+    by : Dec (j < i) → cell w (putCell w b i v) j ≡ cell w b j
+    by (yes l) = le-put-below w w b (w * i) v (w * j) (omega (arith, mul-suc w j, mul-le-mul-left w l))
+    by (no l) = let g : i < j = omega (arith, other) in le-put-above w w b (w * i) v (w * j) (omega (arith, mul-suc w i, mul-le-mul-left w g))
+
+pub long-put : (w : ℕ) (b : List ℕ) (i v : ℕ) → length (putCell w b i v) ≡ length b
+long-put w b i v = length-put w b (w * i) v
+
+-- the same of bytes that are new
+module _ (w : ℕ) (old new : List ℕ) (k v : ℕ) (put : new ≡ putCell w old k v) where
+  pub put-size : length new ≡ length old
+  put-size = ap length put ∙ long-put w old k v
+
+  pub put-same : (j : ℕ) → (j ≡ k → ⊥) → cell w new j ≡ cell w old j
+  put-same j n = ap (λ b. cell w b j) put ∙ cell-other w old k v j n
+
+  pub put-here : w * k + w ≤ length old → v < 256 ^ w → cell w new k ≡ v
+  put-here room fits = ap (λ b. cell w b k) put ∙ cell-same w old k v room fits
 
 -- the table as a list: as long as it says, its elements are the cells, and a put is a `set`
 pub length-cells : (w : ℕ) (b : List ℕ) (o n : ℕ) → length (cellsFrom w b o n) ≡ n

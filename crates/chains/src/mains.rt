@@ -1,9 +1,9 @@
 // MAIN: that there is one, and no second.
 use cells::get16;
-use table::keys::NO_KEY;
-use table::keys::earlier;
-use table::keys::number_key;
-use table::records::place_at;
+use keys::NO_KEY;
+use keys::earlier;
+use keys::number_key;
+use records::fields::place_at;
 use table::views::main_of;
 ghost use mathlib.Core.Path.{_≡_};
 ghost use mathlib.Core.Bool.{not, _||_, false};
@@ -13,7 +13,7 @@ ghost use lib.Dec.{eqb};
 ghost use Rattle.rules.specs.Text.Tokens.{Info};
 ghost use Rattle.rules.specs.Faults.Fault.{when};
 ghost use Rattle.rules.specs.Faults.Whole.{mains};
-ghost use Rattle.table.specs.Keys.{leastNumberKey};
+ghost use Rattle.keys.specs.Keys.{leastNumberKey};
 ghost use Rattle.table.specs.Views.{MainAt};
 ghost use Rattle.reading.specs.Reading.{Reading, tableOf};
 ghost use Rattle.chains.specs.Mains.{Mainly, secondMain};

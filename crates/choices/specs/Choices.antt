@@ -10,11 +10,11 @@ use Rattle.rules.specs.Text.Tokens.{Becomes, Info, tk}
 use Rattle.rules.specs.Grammar.Trees.{Tokens}
 use Rattle.rules.specs.Selectors.{Item}
 use Rattle.rules.specs.Faults.Fault.{fault}
-use Rattle.table.specs.Holds.{placeCell, Holds}
-use Rattle.table.specs.Keys.{key, noKey}
+use Rattle.records.specs.Holds.{placeCell, Holds}
+use Rattle.keys.specs.Keys.{key, noKey}
 use Rattle.patterns.specs.Stands.{Held, ItemsAt}
 use Rattle.selectors.specs.Overlaps.{FirstOverlap}
-use Rattle.choices.specs.Room.{levelBase}
+use Rattle.room.specs.Bodies.{levelBase}
 
 -- the cell of an alternative
 abbrev pub startCell : ℕ → ℕ → ℕ

@@ -1,18 +1,18 @@
 // The alternatives of one DECODE, each by itself and against the others: 45.
 use cells::get16;
 use cells::put16;
+use keys::NO_KEY;
+use keys::fault_key;
 use patterns::items;
 use patterns::items::Item;
+use records::fields::kind_at;
+use records::fields::place_at;
+use room::bodies::STARTS;
+use room::bodies::STARTS_SIZE;
 use rules::kinds::BECOMES;
 use rules::limits::MOST_ALTERNATIVES;
 use selectors::alternatives;
 use selectors::alternatives::first_overlap;
-use table::keys::NO_KEY;
-use table::keys::fault_key;
-use table::records::kind_at;
-use table::records::place_at;
-use table::room::STARTS;
-use table::room::STARTS_SIZE;
 ghost use mathlib.Core.Path.{_≡_};
 ghost use mathlib.Core.Bool.{_||_};
 ghost use mathlib.Core.List.{[], _∷_};
@@ -24,9 +24,9 @@ ghost use Rattle.rules.specs.Faults.Fault.{when};
 ghost use Rattle.rules.specs.Faults.Bodies as rules;
 ghost use Rattle.rules.specs.Limits.{mostAlternatives};
 ghost use Rattle.patterns.specs.Stands.{AlternativeView};
-ghost use Rattle.table.specs.Holds.{placeCell};
-ghost use Rattle.table.specs.Keys.{leastKey};
-ghost use Rattle.choices.specs.Room.{levelBase};
+ghost use Rattle.records.specs.Holds.{placeCell};
+ghost use Rattle.keys.specs.Keys.{leastKey};
+ghost use Rattle.room.specs.Bodies.{levelBase};
 ghost use Rattle.choices.specs.Choices.{withStart, StartsView, OverlapAnswer, BehindView, BehindAnswer};
 
 // 45 for an alternative behind `number` others, where it is the 65th or a later one, or past the tested length.

@@ -1,3 +1,2 @@
 -- The laws of comparing.
-pub mod Laid
 pub mod Traced

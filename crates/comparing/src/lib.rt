@@ -1,5 +1,4 @@
 // Trace: compares a designer's list of stores with the runs of a text.
-mod endings;
 mod traces;
 
 use crate::traces::traced;

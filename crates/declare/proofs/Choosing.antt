@@ -16,9 +16,9 @@ use Rattle.rules.specs.Grammar.Trees.{Tokens, Declaration, Description, descrip
 use Rattle.rules.specs.Declarations.{Word, Table, outerName, numberFrom, numberOf}
 use Rattle.rules.specs.Faults.Declared.{isKnown}
 use Rattle.rules.specs.Limits.{mostTokens}
-use Rattle.table.specs.Holds.{tokenAt, insideCell}
+use Rattle.records.specs.Holds.{tokenAt, insideCell}
 use Rattle.table.specs.Declarations.{DeclaredAt, declarationList}
-use Rattle.table.specs.Words.{NameAt, wordAt, TwoNames, sameWords}
+use Rattle.records.specs.Words.{NameAt, wordAt, TwoNames, sameWords}
 use Rattle.table.specs.Views.{View}
 use Rattle.table.specs.Laws.Views.{name-token}
 use Rattle.table.specs.Meaning.{outerOnly, unknownName, meaningBy, meaningOf}

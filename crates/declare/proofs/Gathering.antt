@@ -15,7 +15,7 @@ use Rattle.rules.specs.Limits.{mostTokens}
 use Rattle.rules.specs.Grammar.Trees.{Tokens, Heading, no-heading, heading, headingTokens, Declaration, plain, main, declarationTokens}
 use Rattle.rules.specs.Grammar.Trees.{Declarations, declared-all, declared-also, declarationsTokens, Description, description, flatten}
 use Rattle.laws_grammar.specs.Grammar.Positions.{declaration-writes}
-use Rattle.table.specs.Holds.{kindByte, tokenAt, Holds}
+use Rattle.records.specs.Holds.{kindByte, tokenAt, Holds}
 use Rattle.table.specs.Laws.Positions.{token-far, behind-far}
 use Rattle.table.specs.Declarations.{nameTokens, DeclaredAt, followingList, declarationList}
 use Rattle.declare.specs.Finding.{Described, Begins, Named, Follow, Beginning, Naming, Increasing, Found}

@@ -19,12 +19,12 @@ use Rattle.rules.specs.Faults.Fault.{fault}
 use Rattle.rules.specs.Limits.{longestText, mostWords}
 use Rattle.rules.specs.Faults.Declared.{largeBits, largeWords, isKnown, badMapping, twice, large, tooMany, mappings, faults30}
 use Rattle.table.specs.Laws.Kth.{table-from}
-use Rattle.table.specs.Holds.{placeCell, tokenAt}
+use Rattle.records.specs.Holds.{placeCell, tokenAt}
 use Rattle.table.specs.Declarations.{declarationList}
 use Rattle.table.specs.Views.{View}
 use Rattle.table.specs.Laws.Views.{name-token}
 use Rattle.table.specs.Lookups.{nth}
-use Rattle.table.specs.Keys.{key, noKey, leastKey, leastBy}
+use Rattle.keys.specs.Keys.{key, noKey, leastKey, leastBy}
 use Rattle.declare.specs.Faults.{knownBehind, isLarge, isTooMany, numberOr, ownNumber}
 use Rattle.declare.specs.Laws.Faults.{faultsFrom}
 use Rattle.declare.specs.Laws.Earliest.{Within, none-within, also-within, passed-on, first-fault}

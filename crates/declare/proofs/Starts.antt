@@ -14,7 +14,7 @@ use Rattle.rules.specs.Text.Scan.{plainInfo}
 use Rattle.rules.specs.Grammar.Trees.{Tokens, Heading, no-heading, heading, Declaration, plain, main, declarationTokens}
 use Rattle.rules.specs.Grammar.Trees.{Declarations, declared-all, declared-also, declarationsTokens}
 use Rattle.rules.specs.Grammar.Verdict.{opens, closes, counted-by, count}
-use Rattle.table.specs.Holds.{kindByte, tokenAt, Holds}
+use Rattle.records.specs.Holds.{kindByte, tokenAt, Holds}
 use Rattle.table.specs.Laws.Positions.{far, token-far, behind-far, kind-far, record-within}
 use Rattle.table.specs.Declarations.{nameTokens}
 use Rattle.declare.specs.Skipping.{ends}

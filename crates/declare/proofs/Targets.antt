@@ -14,10 +14,10 @@ use Rattle.rules.specs.Grammar.Trees.{Tokens}
 use Rattle.rules.specs.Declarations.{declaredOf, Target, numberOf}
 use Rattle.rules.specs.Faults.Declared.{goodTarget, declaredAt, badMapping}
 use Rattle.rules.specs.Limits.{mostTokens}
-use Rattle.table.specs.Holds.{insideCell}
+use Rattle.records.specs.Holds.{insideCell}
 use Rattle.table.specs.Kth.{map-found}
 use Rattle.table.specs.Declarations.{declarationList}
-use Rattle.table.specs.Words.{NameAt, wordAt, TwoNames, sameWords}
+use Rattle.records.specs.Words.{NameAt, wordAt, TwoNames, sameWords}
 use Rattle.table.specs.Views.{View, TargetAt}
 use Rattle.table.specs.Lookups.{nth}
 use Rattle.table.specs.Meaning.{meaningBy, meaningOf}

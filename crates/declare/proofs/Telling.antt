@@ -11,14 +11,14 @@ use Rattle.rules.specs.Declarations.{declaredOf, outerName, declarations}
 use Rattle.rules.specs.Faults.Declared.{faults30}
 use Rattle.laws_grammar.specs.Cited.Nesting.{nest}
 use Rattle.table.specs.Declarations.{declarationList, all-declared}
-use Rattle.table.specs.Keys.{noKey, leastKey, Smalls}
-use Rattle.table.specs.Laws.Keys.{by-place, no-fault, place-first, place-near}
-use Rattle.table.specs.Kept.{Kept}
-use Rattle.table.specs.Laws.Kept.{holds-kept}
+use Rattle.keys.specs.Keys.{noKey, leastKey, Smalls}
+use Rattle.keys.specs.Laws.Keys.{by-place, no-fault, place-first, place-near}
+use Rattle.records.specs.Kept.{Kept}
+use Rattle.records.specs.Laws.Kept.{holds-kept}
 use Rattle.table.specs.Meaning.{MeaningHolds}
-use Rattle.table.specs.Words.{wordAt}
+use Rattle.records.specs.Words.{wordAt}
+use Rattle.records.specs.Holds.{Tabled}
 use Rattle.spelling.specs.Spelled.{Spelled}
-use Rattle.spelling.specs.Spelling.{Tabled}
 use Rattle.declare.specs.Finding.{Described, Found}
 use Rattle.declare.specs.Laws.Earliest.{faults-small}
 use Rattle.declare.specs.Laws.Lawful.{lawful-count}

@@ -6,7 +6,7 @@ use lib.ListN.{length, drop}
 use Rattle.cells.specs.Cells.{cell}
 use Rattle.rules.specs.Text.Tokens.{MAIN}
 use Rattle.rules.specs.Grammar.Trees.{Tokens, Heading, headingTokens, Declaration, declarationTokens, Declarations, declarationsTokens, Description, flatten}
-use Rattle.table.specs.Holds.{tokenAt, Holds}
+use Rattle.records.specs.Holds.{tokenAt, Holds}
 use Rattle.table.specs.Declarations.{nameTokens, LedBy}
 use Rattle.table.specs.Lookups.{DeclsHold}
 

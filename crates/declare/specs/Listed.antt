@@ -8,7 +8,7 @@ use lib.ListN.{length, take, getElem?}
 use Rattle.rules.specs.Grammar.Trees.{Tokens, Declaration, Description, flatten}
 use Rattle.rules.specs.Declarations.{Word, Declared, Table, declaredOf, outerName}
 use Rattle.rules.specs.Faults.Declared.{largeWords}
-use Rattle.table.specs.Holds.{Holds}
+use Rattle.records.specs.Holds.{Holds}
 use Rattle.table.specs.Declarations.{declarationList}
 use Rattle.table.specs.Lookups.{DeclsHold}
 use Rattle.table.specs.Meaning.{MeaningHolds}

@@ -1,5 +1,10 @@
 // The refusals 30 to 33. Declarations are judged in their order: their places increase, so the first with a fault has the least one.
 use cells::get16;
+use keys::NO_KEY;
+use keys::fault_key;
+use records::fields::inside_at;
+use records::fields::place_at;
+use records::words::same_word;
 use rules::limits::MOST_DECLARATIONS;
 use rules::limits::MOST_WORDS;
 use spans::far;
@@ -7,15 +12,10 @@ use spans::fits;
 use spans::is_missing;
 use spans::large_bits;
 use spans::storage_words;
-use table::keys::NO_KEY;
-use table::keys::fault_key;
-use table::records::inside_at;
-use table::records::place_at;
 use table::views::bits_of;
 use table::views::target_bits;
 use table::views::target_of;
 use table::views::words_of;
-use table::words::same_word;
 ghost use mathlib.Core.Path.{_≡_};
 ghost use mathlib.Core.List.{List};
 ghost use mathlib.Core.Option.{some};
@@ -24,7 +24,7 @@ ghost use Rattle.rules.specs.Declarations.{declaredOf, wordsOf, Target};
 ghost use Rattle.rules.specs.Faults.Declared.{isKnown, goodTarget, badMapping, faults30};
 ghost use Rattle.rules.specs.Limits.{mostWords};
 ghost use Rattle.table.specs.Views.{View};
-ghost use Rattle.table.specs.Keys.{leastKey};
+ghost use Rattle.keys.specs.Keys.{leastKey};
 ghost use Rattle.declare.specs.Faults.{isLarge, ownNumber};
 ghost use Rattle.declare.specs.Listed.{Listed, outerOf, tableOf, knownOf, Chosen, chosenOf, SmallView};
 

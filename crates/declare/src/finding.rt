@@ -1,5 +1,6 @@
 // Where the declarations stand: one walk over the tokens, which passes over bodies by counting brackets.
 use cells::put16;
+use records::fields::kind_at;
 use rules::kinds::BEGIN;
 use rules::kinds::COMMA;
 use rules::kinds::END;
@@ -9,7 +10,6 @@ use rules::kinds::MAIN;
 use rules::kinds::RBRA;
 use rules::kinds::RPAR;
 use rules::kinds::STARS;
-use table::records::kind_at;
 ghost use mathlib.Core.Path.{_≡_};
 ghost use mathlib.Core.List.{List};
 ghost use Prim.Native.Nat.{ℕ, _*_, _<_, _≤_};

@@ -5,15 +5,15 @@ pub mod finding;
 
 use crate::faults::fault30;
 use crate::finding::find;
+use keys::NO_KEY;
+use keys::fault_of;
 use resolving::give_meanings;
 use spelling::spell;
-use table::keys::NO_KEY;
-use table::keys::fault_of;
 ghost use Prim.Native.Nat.{_≤_};
 ghost use lib.ListN.{length};
 ghost use Rattle.rules.specs.Limits.{deepest};
 ghost use Rattle.laws_grammar.specs.Cited.Nesting.{nest};
-ghost use Rattle.spelling.specs.Trees.{roomSize};
+ghost use Rattle.room.specs.Spelling.{roomSize};
 ghost use Rattle.declare.specs.Finding.{Described};
 ghost use Rattle.declare.specs.Told.{Told};
 

@@ -11,7 +11,7 @@ use Rattle.rules.specs.Faults.Fault.{Fault}
 use Rattle.rules.specs.Faults.Bodies.{judgeDestination, judgeJoined, storedTwice}
 use Rattle.rules.specs.Whole.Sets.{ownerIn}
 use Rattle.laws_grammar.specs.Cited.Nesting.{subscriptNest, joinedNest}
-use Rattle.table.specs.Keys.{leastKey, Smalls}
+use Rattle.keys.specs.Keys.{leastKey, Smalls}
 use Rattle.destinations.specs.declared.Checked.{Checked}
 use Rattle.destinations.specs.declared.owners.Storage.{Storage}
 use Rattle.destinations.specs.declared.owners.Storage.the-variants.{Carrier, Nothing}

@@ -6,7 +6,7 @@ use lib.ListN.{length}
 use Rattle.rules.specs.Text.Tokens.{Name, Info, tk}
 use Rattle.rules.specs.Declarations.{reach}
 use Rattle.rules.specs.Whole.Sets.{ownerIn}
-use Rattle.table.specs.Holds.{tokenAt}
+use Rattle.records.specs.Holds.{tokenAt}
 use Rattle.destinations.specs.declared.owners.Storage.{Storage}
 use Rattle.destinations.specs.declared.owners.Storage.the-variants.{Carrier, Nothing}
 use Rattle.accesses.specs.Scene.{Scene, tableOf}

@@ -9,20 +9,20 @@ use crate::carriers::with;
 use crate::owners::Storage;
 use crate::owners::owner;
 use expressions::judge::access;
+use keys::NO_KEY;
+use keys::earlier;
+use keys::fault_key;
+use records::fields::kind_at;
+use records::fields::place_at;
 use rules::kinds::AT;
-use table::keys::NO_KEY;
-use table::keys::earlier;
-use table::keys::fault_key;
-use table::records::kind_at;
-use table::records::place_at;
 use weighing::Weight;
 use weighing::operators::combined;
 ghost use mathlib.Core.Path.{_≡_};
 ghost use Prim.Native.Nat.{_+_, _*_, _≤_};
 ghost use lib.ListN.{length};
 ghost use Rattle.rules.specs.Faults.Fault.{when};
-ghost use Rattle.table.specs.Holds.{placeCell};
-ghost use Rattle.table.specs.Keys.{leastKey};
+ghost use Rattle.records.specs.Holds.{placeCell};
+ghost use Rattle.keys.specs.Keys.{leastKey};
 ghost use Rattle.destinations.specs.Destinations.{repeats, stored, DestinationAt, DestinationAnswer};
 
 // The key of the least fault, and the token behind.

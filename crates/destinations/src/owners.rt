@@ -1,8 +1,8 @@
 // The storage carrier that a name in a destination stores to.
 use accesses::names::is_missing;
 use cells::get16;
+use records::fields::inside16_at;
 use table::meanings::OUTER_ONLY;
-use table::records::inside16_at;
 use table::views::bits_of;
 use table::views::target_of;
 ghost use Rattle.destinations.specs.Owners.{NameHere, Owns};

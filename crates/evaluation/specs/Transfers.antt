@@ -19,7 +19,7 @@ use Rattle.evaluation.specs.declared.transfers.Transferred.the-variants.
 use Rattle.operands.specs.Scene.{Scene, carrierWords, wordsOf}
 use Rattle.evaluation.specs.Stores.{sizes}
 use Rattle.evaluation.specs.Gathering.{GatherAt}
-use Rattle.table.specs.Holds.{insideCell}
+use Rattle.records.specs.Holds.{insideCell}
 
 -- the stores of x to a destination
 abbrev pub assigned : Table → Carriers → List Access → ℕ → Outcome Carriers

@@ -8,7 +8,7 @@ use Rattle.rules.specs.Grammar.Trees.{Description, flatten}
 use Rattle.rules.specs.Grammar.Verdict.{Crowded}
 use Rattle.rules.specs.Declarations.{declarations, outerName}
 use Rattle.rules.specs.Faults.Declared.{faults30}
-use Rattle.table.specs.Holds.{Holds}
+use Rattle.records.specs.Holds.{Holds}
 use Rattle.reading.specs.Reading.{Reading}
 use Rattle.reader.specs.declared.declaring.Standing.{Standing}
 use Rattle.reader.specs.declared.declaring.Standing.the-variants.{Fine, Refused}

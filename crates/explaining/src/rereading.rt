@@ -6,7 +6,7 @@ use text::Scanned;
 ghost use Prim.Native.Nat.{_≤_};
 ghost use lib.ListN.{length};
 ghost use Rattle.rules.specs.Limits.{longestText};
-ghost use Rattle.spelling.specs.Trees.{roomSize};
+ghost use Rattle.room.specs.Spelling.{roomSize};
 ghost use Rattle.explaining.specs.Again.{Sound, Rescanned, Rereads};
 
 // The declarations of a sound text of n tokens, once more.

@@ -11,8 +11,8 @@ use Rattle.rules.specs.Text.Tokens.{Const, LPar, LBra, kindNo, Token}
 use Rattle.rules.specs.Grammar.Trees.{Tokens}
 use Rattle.rules.specs.Grammar.Precedence.{Factor}
 use Rattle.rules.specs.Faults.Bodies.{Judged}
-use Rattle.table.specs.Holds.{kindByte, sizeByte}
-use Rattle.table.specs.Keys.{noKey}
+use Rattle.records.specs.Holds.{kindByte, sizeByte}
+use Rattle.keys.specs.Keys.{noKey}
 use Rattle.table.specs.Laws.Positions.{here}
 use Rattle.accesses.specs.declared.Judged.{Judged as Answer}
 use Rattle.table.specs.Operators.{tightnessAt}
@@ -21,7 +21,7 @@ use Rattle.expressions.specs.Expressions.{ExpressionAt, ExpressionAnswer
 use Rattle.accesses.specs.Names.{NamedAt, NamedAnswer}
 use Rattle.expressions.specs.Laws.Accesses as accesses
 use Rattle.expressions.specs.Laws.Operands as operands
-use Rattle.expressions.specs.Operands.{OperandIn, Bared}
+use Rattle.nots.specs.Nots.{OperandIn, Bared}
 use Rattle.weighing.specs.Settling.{SettleAt, Settles}
 use Rattle.expressions.specs.Laws.Expressions as chains
 use Rattle.expressions.specs.Laws.Expressions.{Going}

@@ -2,4 +2,3 @@
 pub mod Operands
 pub mod Expressions
 pub mod Accesses
-pub mod Sound

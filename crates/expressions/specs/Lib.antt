@@ -1,3 +1,2 @@
 pub mod Expressions
-pub mod Operands
 pub mod Laws

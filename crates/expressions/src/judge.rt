@@ -2,34 +2,18 @@
 // with each; NOTs and operators in a row are loops.
 use accesses::Judged;
 use accesses::names::named;
+use keys::NO_KEY;
+use keys::earlier;
+use nots::behind_nots;
+use records::fields::kind_at;
+use records::fields::size_at;
 use rules::kinds::CONST;
 use rules::kinds::LBRA;
 use rules::kinds::LPAR;
-use rules::kinds::NOT;
-use table::keys::NO_KEY;
-use table::keys::earlier;
 use table::operators::tightness_of;
-use table::records::kind_at;
-use table::records::size_at;
 use weighing::operators::Settled;
 use weighing::operators::settle;
 ghost use Rattle.expressions.specs.Expressions.{ExpressionAt, ExpressionAnswer, OperandAt, OperandAnswer, AccessAt, AccessAnswer};
-ghost use Rattle.expressions.specs.Operands.{OperandIn, Bared};
-
-// The first token of the operand i that is no NOT.
-fn behind_nots(records: &[u8], i: usize) -> usize
-    requires { ⌜ OperandIn (now records) i ⌝ }
-    ensures { λ r. ⌜ ((v : OperandIn (now (records .entry)) i) → Bared v r) ⌝ }
-{
-    let mut at = i;
-    loop {
-        let kind = kind_at(records, at);
-        if kind != NOT {
-            return at;
-        }
-        at += 1;
-    }
-}
 
 // An access: faults of its subscript and of its name.
 pub fn access(records: &[u8], values: &[u8], decls: &[u8], i: usize, depth: usize) -> Judged

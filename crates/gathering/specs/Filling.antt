@@ -8,7 +8,7 @@ use lib.ListN.{length}
 use Rattle.rules.specs.Declarations.{Word, numberOf}
 use Rattle.rules.specs.Limits.{longestChain}
 use Rattle.rules.specs.Whole.Sets.{chainOver}
-use Rattle.table.specs.Words.{wordAt}
+use Rattle.records.specs.Words.{wordAt}
 use Rattle.reading.specs.Reading.{Reading, tableOf}
 use Rattle.gathering.specs.Memory.{markOf, carrierOf, Carrying, Recalls, Remembers}
 

@@ -7,7 +7,7 @@ use lib.ListN.{drop}
 use Rattle.rules.specs.Declarations.{Word}
 use Rattle.rules.specs.Limits.{longestChain}
 use Rattle.rules.specs.Whole.Sets.{Sets, bodySets, bodyStops, member}
-use Rattle.table.specs.Holds.{tokenAt}
+use Rattle.records.specs.Holds.{tokenAt}
 use Rattle.reading.specs.Kinds.{nextNo}
 use Rattle.reading.specs.Reading.{Reading, tableOf}
 use Rattle.reading.specs.Events.{Event, event, heard}

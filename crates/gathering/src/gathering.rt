@@ -9,9 +9,9 @@ use cells::get16;
 use reading::bodies::body_at;
 use reading::calls::next_call;
 use reading::names::carrier;
+use records::fields::inside_at;
 use rules::limits::LONGEST_CHAIN;
 use rules::limits::MOST_DECLARATIONS;
-use table::records::inside_at;
 ghost use mathlib.Core.Path.{_≡_};
 ghost use mathlib.Core.Bool.{false};
 ghost use Prim.Native.Nat.{ℕ, _*_, _<_, _≤_};
@@ -20,8 +20,8 @@ ghost use Rattle.rules.specs.Text.Tokens.{Name, kindNo};
 ghost use Rattle.rules.specs.Declarations.{Word};
 ghost use Rattle.rules.specs.Whole.Sets.{anyName, chainOver};
 ghost use Rattle.rules.specs.Limits.{longestChain};
-ghost use Rattle.table.specs.Holds.{kindByte};
-ghost use Rattle.table.specs.Words.{wordAt};
+ghost use Rattle.records.specs.Holds.{kindByte};
+ghost use Rattle.records.specs.Words.{wordAt};
 ghost use Rattle.reading.specs.Reading.{Reading, tableOf};
 ghost use Rattle.reading.specs.Events.{heard};
 ghost use Rattle.reading.specs.Calls.{callsOf};
@@ -39,7 +39,7 @@ pub fn gather(
     left: usize,
 )
     requires { ⌜ Fillable (now records) (now decls) (now memo) m n × ((i < n) × ((kindByte (now records) i ≡ kindNo Name)
-        × ((left ≤ 16) × ((v : Reading (now records) (now decls) m n) → chainOver (tableOf v) left (wordAt (v .tokens) i) ≡ false)))) ⌝ }
+        × ((left ≤ longestChain) × ((v : Reading (now records) (now decls) m n) → chainOver (tableOf v) left (wordAt (v .tokens) i) ≡ false)))) ⌝ }
     ensures { λ _. ⌜ Fills (now (records .entry)) (now (decls .entry)) (now (memo .entry)) (now (memo .exit)) m n i ⌝ }
 {
     let k = inside_at(records, i);
@@ -69,7 +69,7 @@ fn descend(
     from: usize,
     left: usize,
 )
-    requires { ⌜ Fillable (now records) (now decls) (now memo) m n × ((left ≤ 16)
+    requires { ⌜ Fillable (now records) (now decls) (now memo) m n × ((left ≤ longestChain)
         × ((v : Reading (now records) (now decls) m n) → anyName (chainOver (tableOf v) left) (callsOf (heard 0 0 (drop from (v .tokens)))) ≡ false)) ⌝ }
     ensures { λ _. ⌜ Grows (now (records .entry)) (now (decls .entry)) (now (memo .entry)) (now (memo .exit)) m n
         × ((v : Reading (now (records .entry)) (now (decls .entry)) m n) → AllDone v (now (memo .exit)) (callsOf (heard 0 0 (drop from (v .tokens))))) ⌝ }

@@ -20,7 +20,8 @@ use Rattle.laws_grammar.specs.Grammar.Kinds.{kindAt-kindNo}
 use Rattle.laws_grammar.specs.Cited.Rows.{State, title, Stack, Move, go, open-to, shut, row, lookup, too-deep, judge, run, recognise}
 use Rattle.grammar.specs.Places.{place}
 use Rattle.grammar.specs.Entries.{nextOf}
-use Rattle.grammar.specs.Records.{kindByte, KindsStand, answerOf, Answers}
+use Rattle.records.specs.Holds.{kindByte}
+use Rattle.grammar.specs.Records.{KindsStand, answerOf, Answers}
 use Rattle.grammar.specs.declared.Next.{Next}
 use Rattle.grammar.specs.declared.Next.the-variants.{Nowhere, On, Into, Out}
 use Rattle.grammar.specs.declared.Recognised.the-variants.{Accepted, Refused20, Refused21}

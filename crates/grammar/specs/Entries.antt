@@ -3,16 +3,16 @@ use mathlib.Core.Path.{_≡_}
 use mathlib.Core.Option.{Option, none, some}
 use mathlib.Core.List.{List}
 use Prim.Native.Nat.{ℕ, _+_, _*_, _%_, _<_}
-use lib.ListN.{getD}
+use lib.ListN.{length, getD}
 use Rattle.laws_grammar.specs.Cited.Rows.{State, Move, go, open-to, shut, row, lookup}
 use Rattle.grammar.specs.Places.{place}
 use Rattle.grammar.specs.declared.Next.{Next}
 use Rattle.grammar.specs.declared.Next.the-variants.{Nowhere, On, Into, Out}
-use Rattle.laws_grammar.specs.Cited.Kinds.{kindAt}
+use Rattle.laws_grammar.specs.Cited.Kinds.{kinds, kindAt}
 
 -- how many kinds there are
 abbrev pub kindCount : ℕ
-kindCount = 42
+kindCount = length kinds
 
 abbrev pub moveNo : Move → ℕ
 moveNo (go s) = place s

@@ -1,4 +1,4 @@
--- Where the row of each state begins in the table of src/table.rt. No row begins at 0.
+-- Where the row of each state begins in the table of src/rows.rt. No row begins at 0.
 -- Written by tools/grammar_table.py.
 use mathlib.Core.List.{[], _∷_}
 use Prim.Native.Nat.{ℕ, _+_}

@@ -8,13 +8,10 @@ use Rattle.rules.specs.Grammar.Trees.{Tokens}
 use Rattle.rules.specs.Grammar.Verdict.{anyInfo}
 use Rattle.laws_grammar.specs.Cited.Answer.{Answer, accepted, refused20, refused21}
 use Rattle.laws_grammar.specs.Cited.Rows.{recognise}
+use Rattle.records.specs.Holds.{kindByte}
 use Rattle.grammar.specs.Entries.{kindCount}
 use Rattle.grammar.specs.declared.Recognised.{Recognised}
 use Rattle.grammar.specs.declared.Recognised.the-variants.{Accepted, Refused20, Refused21}
-
--- the first byte of record i
-abbrev pub kindByte : List ℕ → ℕ → ℕ
-kindByte bytes i = getD bytes (8 * i) 0
 
 -- n records, each with the number of a kind
 pub record Records (bytes : List ℕ) (n : ℕ) : Type 0 where

@@ -1,16 +1,18 @@
 // The grammar's recogniser: refusals 20 and 21, by one move a token over a stack of states.
-mod table;
+mod rows;
 
+use records::fields::kind_at;
+use rows::Entries;
+use rows::TABLE;
+use rows::TITLE;
 use rules::limits::DEEPEST;
-use table::Entries;
-use table::TABLE;
-use table::TITLE;
 ghost use mathlib.Core.Path.{_≡_};
 ghost use Prim.Native.Nat.{_<_};
 ghost use Rattle.laws_grammar.specs.Cited.Rows.{State, row, lookup};
 ghost use Rattle.grammar.specs.Places.{place};
 ghost use Rattle.grammar.specs.Entries.{kindCount, Ruled, nextOf};
-ghost use Rattle.grammar.specs.Records.{Records, Answers, kindByte};
+ghost use Rattle.records.specs.Holds.{kindByte};
+ghost use Rattle.grammar.specs.Records.{Records, Answers};
 ghost use Rattle.laws_grammar.specs.Cited.Kinds.{kindAt};
 
 // The tokens are a description's, or refused with the number of the token where they are: that of the end is how many there are.
@@ -40,13 +42,13 @@ fn wide32(x: u32) -> usize
     x as usize
 }
 
-// The kind's number of token i.
-fn kind_at(records: &[u8], i: usize, n: usize) -> usize
+// The kind's number of token i, one of n.
+fn kind_of(records: &[u8], i: usize, n: usize) -> usize
     requires { ⌜ Records (now records) n ⌝ }
     requires { ⌜ i < n ⌝ }
     ensures { λ r. ⌜ r ≡ kindByte (now (records .entry)) i ⌝ }
 {
-    wide8(records[8 * i])
+    wide8(kind_at(records, i))
 }
 
 // The move of the state at a place: an entry that names another kind is another row's.
@@ -85,7 +87,7 @@ fn walk(table: &Entries, records: &[u8], n: usize) -> Recognised
             return Recognised::Refused20(at);
         }
         let top = states - 1;
-        let next = moved(table, stack[top], kind_at(records, at, n));
+        let next = moved(table, stack[top], kind_of(records, at, n));
         match next {
             Next::Nowhere => return Recognised::Refused20(at),
             Next::On(inner) => {

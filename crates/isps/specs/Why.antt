@@ -1,5 +1,5 @@
 -- SAY WHY (request 2): what is claimed of `isps_why`. `WhyCall` (Calls/ of the crate `rules`) is its contract in src/lib.rt, which has no hypotheses; what a reason is stands in
--- Reasons.antt of the crate `rules`, what is true of a text in Truth.antt there, and what the numbers of a reason tell in Told.antt of the crate `reasons`.
+-- Reasons.antt of the crate `rules`, and what is true of a text and what the numbers of a reason tell in Truth.antt there.
 use Prim.Native.Nat.{ℕ, _≤_}
 use mathlib.Core.Path.{_≡_}
 use mathlib.Core.List.{List}

@@ -3,23 +3,11 @@ use Prim.Native.Nat.{ℕ, _<_}
 use mathlib.Core.Path.{_≡_}
 use mathlib.Core.List.{List}
 use lib.ListN.{length}
-use Rattle.rules.specs.Grammar.Trees.{Tokens, Description}
-use Rattle.rules.specs.Declarations.{Table, declarations}
-use Rattle.table.specs.Ready.{Ready}
+use Rattle.rules.specs.Declarations.{Table}
 use Rattle.rules.specs.Images.{imageOf, imageSize, heldIn}
 use Rattle.rules.specs.Keeping.{Kept, declined, kept, refusedOr, fault61, Keeps, keptIn}
 use Rattle.kept.specs.declared.endings.Ending.{Ending}
 use Rattle.kept.specs.declared.endings.Ending.the-variants.{Refused, Done}
-
--- an accepted description that stands in the table
-pub record Stands (records values decls : List ℕ) (m : ℕ) : Type 0 where
-  pub text : List ℕ
-  pub tokens : Tokens
-  pub description : Description
-  pub ready : Ready text records values decls tokens description m
-
-abbrev pub tableOf : {records values decls : List ℕ} {m : ℕ} → Stands records values decls m → Table
-tableOf v = declarations (v .description)
 
 -- an ending, with the bytes that are left
 abbrev pub keptOf : Ending → List ℕ → Kept

@@ -13,7 +13,8 @@ ghost use Rattle.rules.specs.Declarations.{totalWords};
 ghost use Rattle.starts.specs.Starts.{Starts};
 ghost use Rattle.rules.specs.Images.{imageSize, heldIn};
 ghost use Rattle.rules.specs.Keeping.{carriersSize, loading};
-ghost use Rattle.kept.specs.Kept.{Stands, tableOf, Keeping, Taken};
+ghost use Rattle.table.specs.Ready.{Scene, tableOf};
+ghost use Rattle.kept.specs.Kept.{Keeping, Taken};
 
 // Whether the carriers that an image holds can start a run. They are unpacked into a buffer of their size.
 fn start_held(
@@ -24,9 +25,9 @@ fn start_held(
     image: &[u8],
     held: &mut [u8],
 ) -> Started
-    requires { ⌜ Stands (now records) (now values) (now decls) m ⌝ }
+    requires { ⌜ Scene (now records) (now values) (now decls) m ⌝ }
     requires { ⌜ (length (now held) ≤ 32768) × (length (now image) ≡ imageSize (length (now held))) ⌝ }
-    ensures { λ r. ⌜ ((v : Stands (now (records .entry)) (now (values .entry)) (now (decls .entry)) m)
+    ensures { λ r. ⌜ ((v : Scene (now (records .entry)) (now (values .entry)) (now (decls .entry)) m)
         → Starts (tableOf v) (heldIn (length (now (held .entry))) (now (image .entry))) r) ⌝ }
 {
     read(image, held);
@@ -43,9 +44,9 @@ fn load_sound(
     carriers: &mut [u8],
     room: &mut [u8],
 ) -> Ending
-    requires { ⌜ Stands (now records) (now values) (now decls) m ⌝ }
+    requires { ⌜ Scene (now records) (now values) (now decls) m ⌝ }
     requires { ⌜ (65536 ≤ length (now room)) × ((length (now carriers) ≤ 32768) × (length (now image) ≡ imageSize (length (now carriers)))) ⌝ }
-    ensures { λ r. ⌜ ((v : Stands (now (records .entry)) (now (values .entry)) (now (decls .entry)) m)
+    ensures { λ r. ⌜ ((v : Scene (now (records .entry)) (now (values .entry)) (now (decls .entry)) m)
         → length (now (carriers .entry)) ≡ carriersSize (tableOf v) → Taken (tableOf v) (now (image .entry)) (now (carriers .entry)) (now (carriers .exit)) r) ⌝ }
 {
     let size = carriers.len();
@@ -69,9 +70,9 @@ pub fn load_accepted(
     carriers: &mut [u8],
     room: &mut [u8],
 ) -> Ending
-    requires { ⌜ ((v : Stands (now records) (now values) (now decls) m) × (words ≡ totalWords (tableOf v))) ⌝ }
+    requires { ⌜ ((v : Scene (now records) (now values) (now decls) m) × (words ≡ totalWords (tableOf v))) ⌝ }
     requires { ⌜ (65536 ≤ length (now room)) × (words ≤ 4096) ⌝ }
-    ensures { λ r. ⌜ ((v : Stands (now (records .entry)) (now (values .entry)) (now (decls .entry)) m)
+    ensures { λ r. ⌜ ((v : Scene (now (records .entry)) (now (values .entry)) (now (decls .entry)) m)
         → words ≡ totalWords (tableOf v)
         → Keeping (loading (now (image .entry)) (now (carriers .entry)) (tableOf v)) (now (carriers .entry)) (now (carriers .exit)) r) ⌝ }
 {

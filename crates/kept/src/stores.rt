@@ -7,7 +7,8 @@ use starts::start;
 ghost use Prim.Native.Nat.{_≤_};
 ghost use lib.ListN.{length};
 ghost use Rattle.rules.specs.Keeping.{storing};
-ghost use Rattle.kept.specs.Kept.{Stands, tableOf, Keeping, Written};
+ghost use Rattle.table.specs.Ready.{Scene, tableOf};
+ghost use Rattle.kept.specs.Kept.{Keeping, Written};
 
 // Writes the image of carriers, unless its length is wrong.
 fn write_image(carriers: &[u8], image: &mut [u8]) -> Ending
@@ -30,8 +31,8 @@ pub fn store_accepted(
     carriers: &[u8],
     image: &mut [u8],
 ) -> Ending
-    requires { ⌜ Stands (now records) (now values) (now decls) m ⌝ }
-    ensures { λ r. ⌜ ((v : Stands (now (records .entry)) (now (values .entry)) (now (decls .entry)) m)
+    requires { ⌜ Scene (now records) (now values) (now decls) m ⌝ }
+    ensures { λ r. ⌜ ((v : Scene (now (records .entry)) (now (values .entry)) (now (decls .entry)) m)
         → Keeping (storing (now (carriers .entry)) (now (image .entry)) (tableOf v)) (now (image .entry)) (now (image .exit)) r) ⌝ }
 {
     match start(records, values, decls, m, carriers) {

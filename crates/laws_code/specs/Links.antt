@@ -2,4 +2,3 @@ pub mod Bodies
 pub mod Held
 pub mod Numbers
 pub mod Placed
-pub mod Sized

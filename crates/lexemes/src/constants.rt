@@ -1,8 +1,8 @@
 // Constants: decimal, and of 1, 3 or 4 bits a digit.
 use crate::lexemes::Lexeme;
-use crate::words::upper;
 use classes::classes::IN_CONSTANT;
 use classes::classes::run_end;
+use classes::letters::upper;
 use rules::limits::MOST_BITS;
 ghost use mathlib.Core.Path.{_≡_};
 ghost use mathlib.Core.Bool.{true};

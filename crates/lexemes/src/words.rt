@@ -2,6 +2,7 @@
 use crate::lexemes::Lexeme;
 use classes::classes::IN_NAME;
 use classes::classes::run_end;
+use classes::letters::upper;
 use rules::kinds::AND;
 use rules::kinds::BEGIN;
 use rules::kinds::DECODE;
@@ -40,19 +41,6 @@ ghost use Rattle.rules.specs.Text.Scan.{wordKind, lexemeBy};
 ghost use Rattle.classes.specs.Classes.{Classed};
 ghost use Rattle.lexemes.specs.Codes.{wordCode, wordDigit, kindBy};
 ghost use Rattle.lexemes.specs.Lexemes.{lexemeOf};
-
-// The byte in upper case.
-pub fn upper(b: u8) -> u8
-    ensures { λ r. ⌜ r ≡ fold b ⌝ }
-{
-    if b < 97 {
-        return b;
-    }
-    if 122 < b {
-        return b;
-    }
-    b - 32
-}
 
 // The byte as a digit of a word's number.
 fn word_digit(b: u8) -> u64

@@ -22,9 +22,6 @@ unfoldable pub hexIn : ℕ → ℕ → ℕ → List ℕ
 hexIn ten zero n = []
 hexIn ten (suc k) n = hexIn ten k (n / 16) ++ (hexDigit ten (n % 16) ∷ [])
 
--- a number of 64 bits in 16 digits, in capitals or not
+-- a number of 64 bits in 16 digits, in capitals
 abbrev pub hexCapitals : ℕ → List ℕ
 hexCapitals n = hexIn 65 16 n
-
-abbrev pub hexSmall : ℕ → List ℕ
-hexSmall n = hexIn 97 16 n

@@ -4,7 +4,7 @@ ghost use mathlib.Core.Path.{_≡_};
 ghost use Prim.Native.Nat.{_+_, _<_, _≤_};
 ghost use lib.ListN.{length};
 ghost use Rattle.lines.specs.Appended.{Appended};
-ghost use Rattle.lines.specs.Digits.{decimalIn, decimalBytes, hexDigit, hexIn, hexCapitals, hexSmall};
+ghost use Rattle.lines.specs.Digits.{decimalIn, decimalBytes, hexDigit, hexIn, hexCapitals};
 
 // At most k decimal digits.
 fn decimal_in(out: &mut [u8], at: usize, k: usize, n: u64) -> usize
@@ -56,11 +56,4 @@ pub fn put_hex_capitals(out: &mut [u8], at: usize, n: u64) -> usize
     ensures { λ r. ⌜ Appended (now (out .entry)) (now (out .exit)) at r (hexCapitals n) × (r ≡ at + 16) ⌝ }
 {
     hex_in(out, at, b'A', 16, n)
-}
-
-pub fn put_hex_small(out: &mut [u8], at: usize, n: u64) -> usize
-    requires { ⌜ at + 16 ≤ length (now out) ⌝ }
-    ensures { λ r. ⌜ Appended (now (out .entry)) (now (out .exit)) at r (hexSmall n) × (r ≡ at + 16) ⌝ }
-{
-    hex_in(out, at, b'a', 16, n)
 }

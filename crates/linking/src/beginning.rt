@@ -3,19 +3,20 @@ use cells::get16;
 use cells::put16;
 use listed::entries::count;
 use listed::entries::entry_at;
-use matching::room::BAD;
-use matching::room::DEPTH;
-use matching::room::FIRST;
-use matching::room::FLOOR;
-use matching::room::NEVER;
-use matching::room::NEXT;
-use matching::room::WORDS;
+use matching::positions::NEVER;
+use room::trace::BAD;
+use room::trace::DEPTH;
+use room::trace::FIRST;
+use room::trace::FLOOR;
+use room::trace::NEXT;
+use rules::limits::MOST_WORDS;
 ghost use Prim.Native.Nat.{_+_, _<_, _≤_};
 ghost use lib.ListN.{length};
 ghost use Rattle.rules.specs.Limits.{mostWords};
 ghost use Rattle.rules.specs.Entries.{mostEntries, entriesIn};
 ghost use Rattle.matching.specs.Matching.{untold};
-ghost use Rattle.matching.specs.Room.{roomSize, Filled, Linked, Stands};
+ghost use Rattle.matching.specs.Room.{Filled, Linked, Stands};
+ghost use Rattle.room.specs.Trace.{roomSize};
 
 // Puts v as the first entry of every word.
 fn fill(room: &mut [u8], v: u16)
@@ -23,7 +24,7 @@ fn fill(room: &mut [u8], v: u16)
     ensures { λ _. ⌜ Filled (now (room .entry)) (now (room .exit)) v mostWords ⌝ }
 {
     let mut w: usize = 0;
-    while w < WORDS {
+    while w < MOST_WORDS {
         put16(room, FIRST + w, v);
         w += 1;
     }
@@ -37,7 +38,7 @@ fn link(room: &mut [u8], entries: &[u8], i: usize)
     put16(room, i, 0);
     let x = entry_at(entries, i);
     let w = x.word as usize;
-    if WORDS <= w {
+    if MOST_WORDS <= w {
         return;
     }
     let next = get16(room, FIRST + w);

@@ -2,8 +2,8 @@
 use cells::get16;
 use cells::put16;
 use listed::entries::count;
-use matching::room::FIRST;
-use matching::room::NEXT;
+use room::trace::FIRST;
+use room::trace::NEXT;
 ghost use Prim.Native.Nat.{_<_};
 ghost use Rattle.rules.specs.Limits.{mostWords};
 ghost use Rattle.rules.specs.Entries.{entriesIn};

@@ -11,16 +11,16 @@ use Rattle.rules.specs.Limits.{deepest}
 use Rattle.laws_grammar.specs.Cited.Nesting.{actionNest}
 use Rattle.laws_orders.specs.Cited.Flat.{exit, outer, bind}
 use Rattle.laws_code.specs.Cited.Code.{actionSize, firstOf}
-use Rattle.table.specs.Holds.{linkCell}
-use Rattle.table.specs.Words.{NameAt, wordAt}
+use Rattle.records.specs.Holds.{linkCell}
+use Rattle.records.specs.Words.{NameAt, wordAt}
 use Rattle.table.specs.Declarations.{declarationList}
 use Rattle.table.specs.Ready.{Ready}
 use Rattle.table.specs.Scans.{no as kindOf, separates}
 use Rattle.spelling.specs.Spelled.{Spelled}
 use Rattle.ways.specs.Seeking.{Ground, Stands}
-use Rattle.table.specs.Kept.{Kept}
+use Rattle.records.specs.Kept.{Kept}
 use Rattle.ways.specs.Linked.{Linked}
-use Rattle.ways.specs.Stack.{hintsEnd}
+use Rattle.room.specs.Links.{hintsEnd}
 use Rattle.ways.specs.Standing.{Meant}
 use Rattle.links.specs.Layout.{ends}
 use Rattle.links.specs.Links.{DeclarationLinked}

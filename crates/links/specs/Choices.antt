@@ -7,7 +7,7 @@ use Rattle.rules.specs.Grammar.Trees.{Tokens}
 use Rattle.laws_grammar.specs.Cited.Nesting.{actionNest}
 use Rattle.laws_code.specs.Cited.Code.{size}
 use Rattle.ways.specs.Seeking.{Ground}
-use Rattle.table.specs.Kept.{Kept}
+use Rattle.records.specs.Kept.{Kept}
 use Rattle.ways.specs.Linked.{Same}
 use Rattle.ways.specs.Stack.{LabelsKept}
 use Rattle.links.specs.Setting.{Setting}

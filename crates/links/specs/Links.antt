@@ -11,8 +11,8 @@ use Rattle.laws_orders.specs.Cited.Flat.{exit, outer, bind}
 use Rattle.laws_code.specs.Cited.Code.{firstOf}
 use Rattle.laws_code.specs.Cited.Placed.{bodyStarts}
 use Rattle.table.specs.Declarations.{declarationList}
-use Rattle.table.specs.Holds.{linkCell}
-use Rattle.table.specs.Kept.{Kept}
+use Rattle.records.specs.Holds.{linkCell}
+use Rattle.records.specs.Kept.{Kept}
 use Rattle.ways.specs.Linked.{Linked}
 
 -- the body of the declaration whose name is the token `name` begins at `start`

@@ -8,7 +8,7 @@ use Rattle.cells.specs.Cells.{cell}
 use Rattle.rules.specs.Grammar.Trees.{Tokens, Action, Declaration, Description}
 use Rattle.rules.specs.Declarations.{declaredOf, declarations}
 use Rattle.rules.specs.Faults.Whole.{mainName, faults50}
-use Rattle.table.specs.Holds.{Holds, linkCell}
+use Rattle.records.specs.Holds.{Holds, linkCell}
 use Rattle.table.specs.Declarations.{declarationList}
 use Rattle.table.specs.Lookups.{DeclsHold}
 

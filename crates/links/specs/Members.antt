@@ -9,7 +9,7 @@ use Rattle.laws_grammar.specs.Cited.Nesting.{actionNest, membersNest}
 use Rattle.laws_orders.specs.Cited.Flat.{Link, Labels}
 use Rattle.laws_code.specs.Cited.Code.{size, actionSize, firstOf, behind}
 use Rattle.ways.specs.Seeking.{Ground}
-use Rattle.table.specs.Kept.{Kept}
+use Rattle.records.specs.Kept.{Kept}
 use Rattle.ways.specs.Linked.{Linked, MembersLinked, Same}
 use Rattle.ways.specs.Stack.{LabelsKept}
 use Rattle.links.specs.Setting.{Setting}

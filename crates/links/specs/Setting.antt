@@ -6,7 +6,8 @@ use lib.ListN.{length}
 use Rattle.laws_orders.specs.Cited.Flat.{Link, Labels}
 use Rattle.promise.specs.Instructions.{linkNo}
 use Rattle.ways.specs.Seeking.{Ground, Stands}
-use Rattle.ways.specs.Stack.{hintsEnd, LabelsHold}
+use Rattle.ways.specs.Stack.{LabelsHold}
+use Rattle.room.specs.Links.{hintsEnd}
 use Rattle.ways.specs.Standing.{Meant}
 
 pub record Setting (g : Ground) (records labels : List ℕ) (at link count : ℕ) : Type 0 where

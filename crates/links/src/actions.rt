@@ -1,10 +1,10 @@
 // The links of an action and of all inside it. Only BEGIN nests, and `depth` falls with each; members, alternatives and prefixes in a row are loops.
 use crate::leaves::leaf;
+use records::fields::kind_at;
 use rules::kinds::ARROW;
 use rules::kinds::BEGIN;
 use rules::kinds::DECODE;
 use rules::kinds::END;
-use table::records::kind_at;
 use table::scans::SEPARATOR;
 use ways::prefixes::Spot;
 use ways::prefixes::Start;

@@ -1,8 +1,8 @@
 // The bodies of a description: each is linked with its own name as the outermost label, and its name leads to its first instruction.
 use crate::actions::action;
 use cells::get16;
+use records::fields::put_link;
 use rules::limits::DEEPEST;
-use table::records::put_link;
 use table::views::body_of;
 use ways::labels::push;
 use ways::prefixes::Spot;
@@ -14,7 +14,7 @@ ghost use Rattle.rules.specs.Grammar.Trees.{Tokens, Description};
 ghost use Rattle.table.specs.Ready.{Ready};
 ghost use Rattle.spelling.specs.Spelled.{Spelled};
 ghost use Rattle.ways.specs.Seeking.{Ground};
-ghost use Rattle.ways.specs.Stack.{hintsEnd};
+ghost use Rattle.room.specs.Links.{hintsEnd};
 ghost use Rattle.links.specs.Links.{Links};
 ghost use Rattle.links.specs.Bodies.{BodyIn, BodyDone, PartlyAt, Partly};
 

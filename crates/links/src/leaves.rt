@@ -1,13 +1,13 @@
 // The links of an action that has no action inside.
+use records::fields::kind_at;
+use records::fields::put_inside;
+use records::fields::put_link;
 use rules::kinds::EQUALS;
 use rules::kinds::LEAVE;
 use rules::kinds::LPAR;
 use rules::kinds::NO_OP;
 use rules::kinds::RESTART;
 use rules::kinds::STOP;
-use table::records::kind_at;
-use table::records::put_inside;
-use table::records::put_link;
 use ways::labels::BEHIND;
 use ways::labels::START;
 use ways::labels::aim;

@@ -1,6 +1,6 @@
 // Where a run begins.
 use cells::get16;
-use table::records::link_at;
+use records::fields::link_at;
 use table::views::main_of;
 ghost use Rattle.links.specs.Mains.{MainIn, MainFound};
 

@@ -7,7 +7,7 @@ use native.Mathlib.Omega.{arith}
 use lib.ListN.{length, getD, take, drop, length-map, length-take, length-drop}
 use lib.Seq.{drop-cons}
 use Rattle.rules.specs.Text.Bytes.{fold}
-use Rattle.table.specs.Holds.{sizeByte, placeCell, foldedAt}
+use Rattle.records.specs.Holds.{sizeByte, placeCell, foldedAt}
 use Rattle.lines.specs.Appended.{Appended}
 use Rattle.lines.specs.Laws.Appended.{Left, all-left, less-left, none-left}
 use Rattle.listing.specs.Standing.{nameBytes, NameStands}
@@ -41,9 +41,6 @@ run-starts text from n = let same : from + 0 ≡ from = omega arith in let all :
 module _ {text records : List ℕ} {p : ℕ} (s : NameStands text records p) {place size : ℕ} (is-place : place ≡ placeCell records p) (is-size : size ≡ sizeByte records p) where
   pub name-inside : place + size ≤ length text
   name-inside = omega (arith, s .inside)
-
-  pub name-room : (out : List ℕ) (at : ℕ) → at + 64 ≤ length out → at + size ≤ length out
-  name-room out at h = omega (arith, s .short)
 
   pub name-put : {before after : List ℕ} {at r : ℕ} → Appended before after at r (foldedAt text place size)
       → Appended before after at r (nameBytes text records p) × (r ≤ at + 64)

@@ -8,8 +8,8 @@ use native.Mathlib.Omega.{arith}
 use Rattle.cells.specs.Cells.{cell}
 use Rattle.rules.specs.Text.Tokens.{Token}
 use Rattle.rules.specs.Declarations.{Word, Names, names, howMany, BitNames, Target, declaredOf, storageWords}
-use Rattle.table.specs.Words.{NameAt}
-use Rattle.table.specs.Laws.Words.{word-folded, word-inside}
+use Rattle.records.specs.Words.{NameAt}
+use Rattle.records.specs.Laws.Words.{word-folded, word-inside}
 use Rattle.table.specs.Views.{View}
 use Rattle.table.specs.Laws.Views.{name-token}
 use Rattle.table.specs.Shown.{shownWords}

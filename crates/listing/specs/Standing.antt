@@ -7,7 +7,7 @@ use lib.ListN.{length}
 use Rattle.rules.specs.Grammar.Trees.{Tokens, Declaration}
 use Rattle.rules.specs.Declarations.{declaredOf, wordsOf}
 use Rattle.rules.specs.Faults.Declared.{largeWords}
-use Rattle.table.specs.Holds.{sizeByte, placeCell, foldedAt, Holds}
+use Rattle.records.specs.Holds.{sizeByte, placeCell, foldedAt, Holds}
 use Rattle.table.specs.Declarations.{DeclaredAt}
 
 -- the bytes of the name p, in capitals

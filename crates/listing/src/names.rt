@@ -1,11 +1,11 @@
 // A name of the text, in capitals.
+use classes::letters::upper;
 use lines::bytes::put_byte;
-use table::records::place_at;
-use table::records::size_at;
-use table::words::upper;
+use records::fields::place_at;
+use records::fields::size_at;
 ghost use Prim.Native.Nat.{_+_, _≤_};
 ghost use lib.ListN.{length};
-ghost use Rattle.table.specs.Holds.{foldedAt};
+ghost use Rattle.records.specs.Holds.{foldedAt};
 ghost use Rattle.lines.specs.Appended.{Appended};
 ghost use Rattle.listing.specs.Standing.{nameBytes, NameStands};
 

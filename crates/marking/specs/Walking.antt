@@ -2,7 +2,7 @@
 use Prim.Native.Nat.{ℕ, _+_, _<_}
 use mathlib.Core.List.{List}
 use lib.ListN.{drop}
-use Rattle.table.specs.Holds.{kindByte}
+use Rattle.records.specs.Holds.{kindByte}
 use Rattle.reading.specs.Groups.{more}
 use Rattle.reading.specs.Reading.{Kinded}
 use Rattle.marking.specs.Machine.{acted}

@@ -6,11 +6,11 @@ use crate::frames::inside;
 use crate::frames::next;
 use crate::frames::open;
 use reading::kinds::more;
+use records::fields::kind_at;
 use rules::kinds::BEGIN;
 use rules::kinds::END;
 use rules::kinds::NEXT;
 use rules::kinds::SEMI;
-use table::records::kind_at;
 ghost use Rattle.marking.specs.Walking.{Acting, Acted};
 
 // The token i of n.

@@ -1,4 +1,4 @@
--- What lies where in the lent memory, in cells of two bytes, and the matching that stands in it.
+-- The matching that stands in the lent memory.
 use Prim.Native.Nat.{ℕ, zero, suc, _+_, _*_, _<_, _≤_}
 use mathlib.Core.Path.{_≡_}
 use mathlib.Core.Bool.{cond}
@@ -8,41 +8,15 @@ use lib.Dec.{eqb, ltb}
 use lib.ListN.{length, getD}
 use Rattle.cells.specs.Cells.{cell}
 use Rattle.rules.specs.Limits.{mostWords}
+use Rattle.room.specs.Trace.{roomSize, mostGroups, nextCell, groupsCell, floorCell, badCell, depthCell, firstCell}
 use Rattle.rules.specs.Stores.{Entry, entry}
 use Rattle.traces.specs.Cited.Marking.{Pos, at, never, Cells}
 use Rattle.rules.specs.Entries.{mostEntries}
 use Rattle.matching.specs.Matching.{Group, group, Matching, matching}
 
--- bytes of the memory, and the number that stands for none
-abbrev pub roomSize : ℕ
-roomSize = 32768
-
+-- the number that stands for none
 abbrev pub endless : ℕ
 endless = 65535
-
--- the groups that can be open: those of 16 bodies with 32 brackets each
-abbrev pub mostGroups : ℕ
-mostGroups = 512
-
--- cells: one for each entry, whether it is taken; one for each entry, the next one of its word; two for each open group; three numbers; one for each word,
--- the first of its entries that may not be taken
-abbrev pub nextCell : ℕ
-nextCell = 4096
-
-abbrev pub groupsCell : ℕ
-groupsCell = 8192
-
-abbrev pub floorCell : ℕ
-floorCell = 9216
-
-abbrev pub badCell : ℕ
-badCell = 9217
-
-abbrev pub depthCell : ℕ
-depthCell = 9218
-
-abbrev pub firstCell : ℕ
-firstCell = 10240
 
 -- a number in the memory as a position
 unfoldable pub posOf : ℕ → Pos

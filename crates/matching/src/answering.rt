@@ -1,10 +1,10 @@
 // The answer about a list, when all is told.
+use crate::positions::NEVER;
 use crate::positions::lesser;
-use crate::room::BAD;
-use crate::room::FLOOR;
-use crate::room::NEVER;
 use cells::get16;
 use listed::entries::count;
+use room::trace::BAD;
+use room::trace::FLOOR;
 ghost use mathlib.Core.Path.{_≡_};
 ghost use lib.ListN.{length};
 ghost use Rattle.traces.specs.Cited.Marking as marking;

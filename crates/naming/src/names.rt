@@ -1,12 +1,12 @@
 // The lent names: the number of the declaration that each one means.
 use cells::get16;
+use classes::letters::upper;
 use reading::bodies::body_at;
-use table::records::place_at;
-use table::records::size_at;
+use records::fields::place_at;
+use records::fields::size_at;
 use table::views::Names;
 use table::views::bits_of;
 use table::views::target_of;
-use table::words::upper;
 ghost use mathlib.Core.Path.{_≡_};
 ghost use Prim.Native.Nat.{_+_, _≤_};
 ghost use lib.Dec.{eqb};
@@ -15,7 +15,7 @@ ghost use Rattle.rules.specs.Text.Bytes.{fold};
 ghost use Rattle.rules.specs.Text.Scan.{sameBytes};
 ghost use Rattle.rules.specs.Declarations.{declaredOf, numberOf};
 ghost use Rattle.rules.specs.Paths.{folded};
-ghost use Rattle.table.specs.Holds.{foldedAt};
+ghost use Rattle.records.specs.Holds.{foldedAt};
 ghost use Rattle.table.specs.Lookups.{orElse};
 ghost use Rattle.table.specs.Views.{View};
 ghost use Rattle.whole.specs.Written.{Written, whole};

@@ -5,7 +5,8 @@ use mathlib.Core.Bool.{Bool, false}
 use mathlib.Core.List.{List}
 use lib.ListN.{length}
 use Rattle.cells.specs.Cells.{cell}
-use Rattle.nesting.specs.Holding.{enough, Kept, Pushed}
+use Rattle.nesting.specs.Holding.{Kept, Pushed}
+use Rattle.room.specs.Profile.{roomSize}
 use Rattle.nesting.specs.declared.nests.Nest.{Nest}
 use Rattle.nesting.specs.declared.frames.Frame.{Frame}
 
@@ -36,7 +37,7 @@ resumed s f b = nest (s .depth) (s .free) (f .label) (f .own) b false false 0 fa
 pub record Resuming (room : List ℕ) (s : Nest) (f : Frame) : Type 0 where
   pub inside : 0 < s .depth
   pub shallow : s .depth ≤ 32
-  pub space : enough ≤ length room
+  pub space : roomSize ≤ length room
   pub label-fits : f .label < 65536
   pub flag-fits : f .flag < 65536
   pub own-fits : f .own < 65536

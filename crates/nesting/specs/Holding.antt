@@ -1,6 +1,6 @@
--- Where a walk stands, as it is kept: the flags in the cells from 0 on, a frame in six cells from 64 on, the labels around it from the cell 256 on, of each
--- its token and its flag, and behind them hints, one for each spelling: of the labels with a spelling none stands above the one that the hint leads to.
-use Prim.Native.Nat.{ℕ, suc, _+_, _*_, _-_, _%_, _<_, _≤_}
+-- Where a walk stands, as it is kept: the flags, the frames of the open BEGINs, the labels around it, of each its token and its flag, and hints, one for each
+-- spelling: of the labels with a spelling none stands above the one that the hint leads to.
+use Prim.Native.Nat.{ℕ, suc, _+_, _-_, _<_, _≤_}
 use mathlib.Core.Path.{_≡_}
 use mathlib.Core.Bool.{Bool, true, false}
 use mathlib.Core.List.{List, [], _∷_}
@@ -9,10 +9,11 @@ use lib.ListN.{length}
 use Rattle.cells.specs.Cells.{cell, putCell}
 use Rattle.rules.specs.Grammar.Trees.{Tokens}
 use Rattle.rules.specs.Limits.{deepest, mostTokens}
+use Rattle.room.specs.Profile.{mostFlags, labelsFrom, hintsFrom, frameCell, labelCell, hintCell, roomSize}
 use Rattle.paths.specs.Cited.Marks.{Marks, Slot}
 use Rattle.paths.specs.Cited.Least.{least}
-use Rattle.table.specs.Holds.{linkCell}
-use Rattle.table.specs.Words.{NameAt, wordAt}
+use Rattle.records.specs.Holds.{linkCell}
+use Rattle.records.specs.Words.{NameAt, wordAt}
 use Rattle.nesting.specs.Machine.{Frame, State}
 use Rattle.nesting.specs.declared.nests.Nest.{Nest}
 use Rattle.nesting.specs.declared.frames.Frame.{Frame as Kept-frame}
@@ -24,22 +25,6 @@ unseen = 65535
 abbrev pub bit : Bool → ℕ
 bit true = 1
 bit false = 0
-
-abbrev pub frameCell : ℕ → ℕ
-frameCell j = 64 + 6 * j
-
-abbrev pub labelCell : ℕ → ℕ
-labelCell p = 256 + 2 * p
-
-abbrev pub hintsFrom : ℕ
-hintsFrom = labelCell mostTokens
-
-abbrev pub hintCell : ℕ → ℕ
-hintCell spelling = hintsFrom + spelling % mostTokens
-
--- the bytes that are needed
-abbrev pub enough : ℕ
-enough = 49664
 
 -- tokens, and the spellings of those that are names
 pub record Book : Type 0 where
@@ -58,18 +43,18 @@ pub record Kept (old new : List ℕ) (a b : ℕ) : Type 0 where
 pub data Linked (ts : Book) (room : List ℕ) : ℕ → List Slot → Type 0 where
   unlinked : Linked ts room 0 []
   linked : {p : ℕ} {l : Slot} {ls : List Slot} → NameAt (ts .tokens) (cell 2 room (labelCell p)) → wordAt (ts .tokens) (cell 2 room (labelCell p)) ≡ l .name
-      → cell 2 room (labelCell p + 1) ≡ l .flag → l .flag < 64 → p ≤ cell 2 room (hintCell (ts .spelling (cell 2 room (labelCell p))))
+      → cell 2 room (labelCell p + 1) ≡ l .flag → l .flag < mostFlags → p ≤ cell 2 room (hintCell (ts .spelling (cell 2 room (labelCell p))))
       → Linked ts room p ls → Linked ts room (suc p) (l ∷ ls)
 
 -- the first `top` labels are the same, and no hint leads below one of them where it did not before
 pub record Still (old new : List ℕ) (top : ℕ) : Type 0 where
-  pub cells : (q : ℕ) → 256 ≤ q → q < labelCell top → cell 2 new q ≡ cell 2 old q
+  pub cells : (q : ℕ) → labelsFrom ≤ q → q < labelCell top → cell 2 new q ≡ cell 2 old q
   pub hints : (m c : ℕ) → m < top → hintsFrom ≤ c → m ≤ cell 2 old c → m ≤ cell 2 new c
 
 -- the label number j is put, and its hint
 pub record LabelPut (records old new : List ℕ) (j i flag : ℕ) : Type 0 where
   pub size : length new ≡ length old
-  pub low : (q : ℕ) → q < 256 → cell 2 new q ≡ cell 2 old q
+  pub low : (q : ℕ) → q < labelsFrom → cell 2 new q ≡ cell 2 old q
   pub still : Still old new j
   pub token : cell 2 new (labelCell j) ≡ i
   pub flag-is : cell 2 new (labelCell j + 1) ≡ flag
@@ -80,7 +65,7 @@ pub record FrameAt (ts : Book) (room : List ℕ) (top j : ℕ) (f : Frame) : Typ
   pub below : cell 2 room (frameCell j) ≤ top
   pub labels : Linked ts room (cell 2 room (frameCell j)) (f .labels)
   pub flag : cell 2 room (frameCell j + 1) ≡ f .flag
-  pub flag-low : f .flag < 64
+  pub flag-low : f .flag < mostFlags
   pub own : cell 2 room (frameCell j + 2) ≡ f .own
   pub own-low : f .own ≤ j + 2
   pub comes : cell 2 room (frameCell j + 3) ≡ bit (f .comes)
@@ -94,11 +79,11 @@ pub data Frames (ts : Book) (room : List ℕ) : ℕ → List Frame → Type 0 wh
       → Frames ts room top (f ∷ fs)
 
 pub record Flagged (room : List ℕ) (w : Marks) : Type 0 where
-  pub at : (j : ℕ) → j < 64 → cell 2 room j ≡ bit (w .flags j)
+  pub at : (j : ℕ) → j < mostFlags → cell 2 room j ≡ bit (w .flags j)
 
 pub record Shows (ts : Book) (room : List ℕ) (i : ℕ) (x : Nest) (z : State) : Type 0 where
-  pub space : enough ≤ length room
-  pub few : i ≤ 8192
+  pub space : roomSize ≤ length room
+  pub few : i ≤ mostTokens
   pub depth-is : x .depth ≡ length (z .frames)
   pub shallow : x .depth ≤ deepest
   pub free-is : x .free ≡ z .free
@@ -106,7 +91,7 @@ pub record Shows (ts : Book) (room : List ℕ) (i : ℕ) (x : Nest) (z : State) 
   pub label-low : x .label ≤ i
   pub labels : Linked ts room (x .label) (z .labels)
   pub flag-is : x .flag ≡ z .flag
-  pub flag-low : x .flag < 64
+  pub flag-low : x .flag < mostFlags
   pub comes-is : x .comes ≡ z .comes
   pub choosing-is : x .choosing ≡ z .choosing
   pub begun-is : x .begun ≡ z .dest .begun

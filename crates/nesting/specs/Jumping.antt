@@ -8,11 +8,12 @@ use Rattle.rules.specs.Text.Tokens.{Name, kindNo}
 use Rattle.rules.specs.Limits.{mostTokens}
 use Rattle.rules.specs.Grammar.Trees.{Tokens}
 use Rattle.paths.specs.Cited.Marks.{Slot, flagOf}
-use Rattle.table.specs.Holds.{kindByte}
-use Rattle.table.specs.Words.{NameAt, wordAt}
+use Rattle.records.specs.Holds.{kindByte}
+use Rattle.records.specs.Words.{NameAt, wordAt}
 use Rattle.nesting.specs.Spelt.{Spelt}
 use Rattle.nesting.specs.Machine.{State, left, labelled}
-use Rattle.nesting.specs.Holding.{enough, book, Linked, Shows}
+use Rattle.nesting.specs.Holding.{book, Linked, Shows}
+use Rattle.room.specs.Profile.{roomSize, mostFlags}
 use Rattle.nesting.specs.declared.nests.Nest.{Nest}
 
 pub record Sought (records room : List ℕ) (n count name : ℕ) : Type 0 where
@@ -22,7 +23,7 @@ pub record Sought (records room : List ℕ) (n count name : ℕ) : Type 0 where
   pub linked : Linked (book records (spelt .tokens)) room count labels
   pub name-in : name < n
   pub is-name : kindByte records name ≡ kindNo Name
-  pub space : enough ≤ length room
+  pub space : roomSize ≤ length room
 
 -- of the labels the first j are left
 pub record Seeking (records room : List ℕ) (n count name j : ℕ) : Type 0 where
@@ -44,10 +45,10 @@ Left records old new n name s r =
     (w : Spelt records n) (i : ℕ) (z : State) → Shows (book records (w .tokens)) old i s z
     → Shows (book records (w .tokens)) new i r (left (wordAt (w .tokens) name) z)
 
--- the flag of the label that is found, or 64
+-- the flag of the label that is found, or mostFlags
 abbrev pub FlagFound : Option ℕ → ℕ → Type 0
-FlagFound none r = r ≡ 64
-FlagFound (some k) r = (r ≡ k) × (k < 64)
+FlagFound none r = r ≡ mostFlags
+FlagFound (some k) r = (r ≡ k) × (k < mostFlags)
 
 -- one more label: the token i
 abbrev pub Labels : List ℕ → List ℕ → List ℕ → ℕ → Nest → Nest → Type 0

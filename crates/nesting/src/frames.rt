@@ -6,6 +6,7 @@ use crate::nests::mark;
 use crate::nests::take;
 use cells::get16;
 use cells::put16;
+use room::profile::FRAMES;
 use rules::limits::DEEPEST;
 ghost use mathlib.Core.Path.{_≡_};
 ghost use mathlib.Core.Bool.{true, false};
@@ -13,6 +14,7 @@ ghost use Prim.Native.Nat.{_+_, _*_, _<_, _≤_};
 ghost use lib.Dec.{ltb};
 ghost use lib.ListN.{length};
 ghost use Rattle.rules.specs.Limits.{deepest};
+ghost use Rattle.room.specs.Profile.{roomSize};
 ghost use Rattle.nesting.specs.Machine.{opened, closed, also, next, another};
 ghost use Rattle.nesting.specs.Holding.{bit, Standing, Does, Top, Pushed};
 ghost use Rattle.nesting.specs.Grouping.{settle, enter, Three, Resuming, Resumed};
@@ -30,10 +32,10 @@ pub struct Frame {
 
 // The innermost frame.
 fn top(room: &[u8], depth: usize) -> Frame
-    requires { ⌜ (0 < depth) × (depth ≤ 32) × (49664 ≤ length (now room)) ⌝ }
+    requires { ⌜ (0 < depth) × (depth ≤ deepest) × (roomSize ≤ length (now room)) ⌝ }
     ensures { λ r. ⌜ Top (now (room .entry)) depth r ⌝ }
 {
-    let at = 64 + 6 * (depth - 1);
+    let at = FRAMES + 6 * (depth - 1);
     Frame {
         label: get16(room, at) as usize,
         flag: get16(room, at + 1) as usize,
@@ -65,10 +67,10 @@ fn put3(room: &mut [u8], at: usize, a: usize, b: usize, c: usize)
 
 // The frame number j.
 fn push(room: &mut [u8], j: usize, f: Frame)
-    requires { ⌜ (j < 32) × (49664 ≤ length (now room)) × (f .label < 65536) × (f .flag < 65536) × (f .own < 65536) ⌝ }
+    requires { ⌜ (j < deepest) × (roomSize ≤ length (now room)) × (f .label < 65536) × (f .flag < 65536) × (f .own < 65536) ⌝ }
     ensures { λ _. ⌜ Pushed (now (room .entry)) (now (room .exit)) j f ⌝ }
 {
-    let at = 64 + 6 * j;
+    let at = FRAMES + 6 * j;
     put3(room, at, f.label, f.flag, f.own);
     put3(room, at + 3, bit(f.comes), bit(f.ended), bit(f.group));
 }
@@ -223,7 +225,7 @@ pub fn open(room: &mut [u8], s: Nest) -> Nest
 
 // Behind the BEGIN.
 fn entered(s: Nest, free: usize, flag: usize) -> Nest
-    requires { ⌜ s .depth < 32 ⌝ }
+    requires { ⌜ s .depth < deepest ⌝ }
     ensures { λ r. ⌜ r ≡ enter s free flag ⌝ }
 {
     Nest {

@@ -4,42 +4,46 @@ use crate::nests::Nest;
 use crate::nests::mark;
 use cells::get16;
 use cells::put16;
+use records::fields::link_at;
+use room::profile::FRAMES;
+use room::profile::HINTS;
+use room::profile::LABELS;
 use rules::limits::MOST_TOKENS;
 use spelling::words::same_spelling;
-use table::records::link_at;
 ghost use mathlib.Core.Path.{_≡_};
 ghost use mathlib.Core.List.{List};
 ghost use Prim.Native.Nat.{_+_, _*_, _<_, _≤_};
 ghost use lib.ListN.{length};
 ghost use Rattle.rules.specs.Limits.{mostTokens};
 ghost use Rattle.paths.specs.Cited.Marks.{Slot, flagOf};
-ghost use Rattle.table.specs.Holds.{linkCell};
-ghost use Rattle.table.specs.Words.{wordAt};
+ghost use Rattle.records.specs.Holds.{linkCell};
+ghost use Rattle.records.specs.Words.{wordAt};
 ghost use Rattle.nesting.specs.Spelt.{Spelt};
 ghost use Rattle.nesting.specs.Machine.{State};
-ghost use Rattle.nesting.specs.Holding.{hintsFrom, hintCell, enough, Book, book, Linked, Shows, LabelPut};
+ghost use Rattle.nesting.specs.Holding.{Book, book, Linked, Shows, LabelPut};
+ghost use Rattle.room.specs.Profile.{hintsFrom, hintCell, roomSize};
 ghost use Rattle.nesting.specs.Jumping.{Sought, Seeking, Jumping, Left, Labels, FlagFound};
 
-// No flag.
-const NONE: usize = 64;
+// Behind the cell of a label's token stands that of its flag.
+const LABEL_FLAGS: usize = LABELS + 1;
 
-// Cell of two bytes: the labels stand before it, and from it on the hints, a cell for each spelling.
-const HINTS: usize = 16640;
+// In place of a flag: there is none.
+const NONE: usize = FRAMES;
 
 // The cell of the hint for the name i.
 fn hint_cell(records: &[u8], i: usize) -> usize
     requires { ⌜ 8 * i + 8 ≤ length (now records) ⌝ }
-    ensures { λ r. ⌜ (r ≡ hintCell (linkCell (now (records .entry)) i)) × (hintsFrom ≤ r) × (2 * r + 2 ≤ enough) ⌝ }
+    ensures { λ r. ⌜ (r ≡ hintCell (linkCell (now (records .entry)) i)) × (hintsFrom ≤ r) × (2 * r + 2 ≤ roomSize) ⌝ }
 {
     HINTS + link_at(records, i) % MOST_TOKENS
 }
 
 // The label number j: its name is the token i.
 pub fn put_label(records: &[u8], room: &mut [u8], j: usize, i: usize, flag: usize)
-    requires { ⌜ (enough ≤ length (now room)) × (j < mostTokens) × (i < mostTokens) × (8 * i + 8 ≤ length (now records)) × (flag < 65536) ⌝ }
+    requires { ⌜ (roomSize ≤ length (now room)) × (j < mostTokens) × (i < mostTokens) × (8 * i + 8 ≤ length (now records)) × (flag < 65536) ⌝ }
     ensures { λ _. ⌜ LabelPut (now (records .entry)) (now (room .entry)) (now (room .exit)) j i flag ⌝ }
 {
-    let at = 256 + 2 * j;
+    let at = LABELS + 2 * j;
     let hint = hint_cell(records, i);
     put16(room, at, i as u16);
     put16(room, at + 1, flag as u16);
@@ -48,7 +52,7 @@ pub fn put_label(records: &[u8], room: &mut [u8], j: usize, i: usize, flag: usiz
 
 // The name that is the token i is a label.
 pub fn label(records: &[u8], room: &mut [u8], i: usize, s: Nest) -> Nest
-    requires { ⌜ (i < 8192) × (8 * i + 8 ≤ length (now records)) × ((ts : Book) × (z : State) × Shows ts (now room) i s z) ⌝ }
+    requires { ⌜ (i < mostTokens) × (8 * i + 8 ≤ length (now records)) × ((ts : Book) × (z : State) × Shows ts (now room) i s z) ⌝ }
     ensures { λ r. ⌜ Labels (now (records .entry)) (now (room .entry)) (now (room .exit)) i s r ⌝ }
 {
     let count = s.label;
@@ -80,9 +84,9 @@ fn flag_of(records: &[u8], room: &[u8], n: usize, count: usize, name: usize) -> 
     let mut j = lookable(records, room, n, count, name);
     while 0 < j {
         j -= 1;
-        let label = get16(room, 256 + 2 * j) as usize;
+        let label = get16(room, LABELS + 2 * j) as usize;
         if same_spelling(records, name, label) {
-            return get16(room, 257 + 2 * j) as usize;
+            return get16(room, LABEL_FLAGS + 2 * j) as usize;
         }
     }
     NONE

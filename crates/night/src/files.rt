@@ -2,7 +2,6 @@
 use libc::STDOUT_FILENO;
 use lines::bytes::put_bytes;
 ghost use Prim.Native.Nat.{_+_, _≤_};
-ghost use mathlib.Core.Path.{_≡_};
 ghost use lib.ListN.{length};
 
 // Whether a file that could not be opened is just not there; else says why.

@@ -6,13 +6,13 @@ use listed::entries::Entry;
 use listed::entries::count;
 use listed::entries::entry_at;
 use listed::entries::is_same;
+use matching::positions::NEVER;
 use matching::positions::greater;
 use matching::positions::lesser;
-use matching::room::BAD;
-use matching::room::DEPTH;
-use matching::room::FLOOR;
-use matching::room::GROUPS;
-use matching::room::NEVER;
+use room::trace::BAD;
+use room::trace::DEPTH;
+use room::trace::FLOOR;
+use room::trace::GROUPS;
 ghost use Prim.Native.Nat.{_<_};
 ghost use mathlib.Core.List.{List, []};
 ghost use lib.ListN.{length};
@@ -23,7 +23,8 @@ ghost use Rattle.traces.specs.Cited.Events.{stores, opens, turns, closes};
 ghost use Rattle.rules.specs.Entries.{entriesIn};
 ghost use Rattle.listed.specs.Named.{entryOf};
 ghost use Rattle.matching.specs.Matching.{told, partAt, spoilt, toldPart};
-ghost use Rattle.matching.specs.Room.{endless, mostGroups, matchingIn, Sound, Stands};
+ghost use Rattle.matching.specs.Room.{endless, matchingIn, Sound, Stands};
+ghost use Rattle.room.specs.Trace.{mostGroups};
 
 // The entry i is bad for a store.
 fn spoil(room: &mut [u8], i: u16)

@@ -3,7 +3,6 @@ pub mod Cells
 pub mod Chains
 pub mod Expressions
 pub mod Laws
-pub mod Nots
 pub mod Operands
 pub mod Scene
 pub mod Settling

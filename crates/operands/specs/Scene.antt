@@ -15,7 +15,7 @@ use Rattle.rules.specs.Steps.Evaluation.{Carriers, Outcome, gives, faulty, Fiel
 use Rattle.laws_grammar.specs.Cited.Nesting.{operandNest, tailNest, subscriptNest}
 use Rattle.laws_accepted.specs.Cited.Declared.{Declares}
 use Rattle.laws_accepted.specs.Cited.Lengths.{Sized, SizedFactor}
-use Rattle.table.specs.Holds.{Holds, tokenAt}
+use Rattle.records.specs.Holds.{Holds, tokenAt}
 use Rattle.promise.specs.Accesses.{AccessesHold}
 use Rattle.table.specs.Operators.{endsAccess, endsExpression}
 use Rattle.operands.specs.declared.accesses.Located.{Located}

@@ -9,7 +9,7 @@ use Rattle.rules.specs.Text.Tokens.{Name, Info, Token, tk}
 use Rattle.rules.specs.Grammar.Trees.{Tokens, Bits, bitsTokens}
 use Rattle.rules.specs.Declarations.{Names, Reach}
 use Rattle.rules.specs.Steps.Evaluation.{fieldIn}
-use Rattle.table.specs.Holds.{Holds, valueCell, tokenAt}
+use Rattle.records.specs.Holds.{Holds, valueCell, tokenAt}
 use Rattle.operands.specs.declared.accesses.Located.{Located}
 use Rattle.table.specs.Operators.{endsAccess}
 use Rattle.operands.specs.Cells.{Parts}

@@ -2,14 +2,14 @@
 use crate::expressions::Evaluated;
 use cells::get16;
 use cells::get64;
-use table::records::place16_at;
+use records::fields::place16_at;
 use table::views::bits_size;
 use values::fields::field;
 ghost use mathlib.Core.Path.{_≡_};
 ghost use Prim.Native.Nat.{_+_, _*_, _≤_, _<_};
 ghost use lib.ListN.{length};
 ghost use Rattle.rules.specs.Declarations.{names, fromLeft};
-ghost use Rattle.table.specs.Holds.{valueCell};
+ghost use Rattle.records.specs.Holds.{valueCell};
 ghost use Rattle.operands.specs.Cells.{cellFirst, cellLow, cellBits, cellLeft, cellRight, shownWord, locatedAt};
 ghost use Rattle.operands.specs.Answers.{Readable, readAt};
 ghost use Rattle.operands.specs.Subscripts.{SubscriptedAt, SubscriptedAnswer};

@@ -6,15 +6,15 @@ use crate::accesses::read;
 use crate::accesses::subscripted;
 use crate::operators::Settled;
 use crate::operators::settle;
+use nots::behind_nots;
+use records::fields::kind_at;
+use records::fields::size_at;
+use records::fields::value_at;
 use rules::kinds::CONST;
 use rules::kinds::LBRA;
 use rules::kinds::LPAR;
 use rules::kinds::NAME;
-use rules::kinds::NOT;
 use table::operators::tightness_of;
-use table::records::kind_at;
-use table::records::size_at;
-use table::records::value_at;
 use table::views::bits_size;
 use values::operate;
 use values::operate_bits;
@@ -22,9 +22,8 @@ use values::operators::invert;
 ghost use mathlib.Core.Path.{_≡_};
 ghost use Prim.Native.Nat.{_+_};
 ghost use Rattle.rules.specs.Text.Tokens.{LBra, kindNo};
-ghost use Rattle.table.specs.Holds.{kindByte};
+ghost use Rattle.records.specs.Holds.{kindByte};
 ghost use Rattle.operands.specs.Answers.{Closable, closed, Invertible, inverted};
-ghost use Rattle.operands.specs.Nots.{OperandIn, Bared};
 ghost use Rattle.operands.specs.Scene.{ExpressionAt, ExpressionAnswer, OperandAt, OperandAnswer, AccessAt, AccessAnswer};
 ghost use Rattle.operands.specs.Operands.{NestedAt};
 ghost use Rattle.operands.specs.Expressions.{PairAt, PairAnswer, ChainAt, ChainAnswer};
@@ -33,21 +32,6 @@ ghost use Rattle.operands.specs.Expressions.{PairAt, PairAnswer, ChainAt
 pub enum Evaluated {
     Value(u64, u32, usize),
     Fault(u16),
-}
-
-// The first token of the operand i that is no NOT.
-fn behind_nots(records: &[u8], i: usize) -> usize
-    requires { ⌜ OperandIn (now records) i ⌝ }
-    ensures { λ r. ⌜ ((v : OperandIn (now (records .entry)) i) → Bared v r) ⌝ }
-{
-    let mut at = i;
-    loop {
-        let kind = kind_at(records, at);
-        if kind != NOT {
-            return at;
-        }
-        at += 1;
-    }
 }
 
 // A value behind so many NOTs, of which two cancel.

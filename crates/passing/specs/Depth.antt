@@ -6,7 +6,8 @@ use Rattle.rules.specs.Stores.{Entry}
 use Rattle.traces.specs.Cited.Events.{Event}
 use Rattle.telling.specs.Cited.Passing.{Passing, opened, turned, closed}
 use Rattle.matching.specs.Matching.{toldAll}
-use Rattle.matching.specs.Room.{mostGroups, matchingIn, Sound}
+use Rattle.matching.specs.Room.{matchingIn, Sound}
+use Rattle.room.specs.Trace.{mostGroups}
 
 abbrev pub depthBehind : Passing → ℕ → ℕ
 depthBehind (opened y) d = suc d

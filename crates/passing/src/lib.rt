@@ -15,7 +15,8 @@ ghost use lib.ListN.{length};
 ghost use Rattle.rules.specs.Stores.{Entry};
 ghost use Rattle.telling.specs.Cited.Passing.{groupEvent};
 ghost use Rattle.matching.specs.Matching.{toldAll};
-ghost use Rattle.matching.specs.Room.{mostGroups, matchingIn, Sound, Stands};
+ghost use Rattle.matching.specs.Room.{matchingIn, Sound, Stands};
+ghost use Rattle.room.specs.Trace.{mostGroups};
 ghost use Rattle.passing.specs.Ways.{between, into, outOf};
 ghost use Rattle.passing.specs.Depth.{depthAfter};
 

@@ -7,7 +7,7 @@ use Rattle.rules.specs.Text.Tokens.{Kind, Const, Masked, LBra, RBra, Comma, Bec
 use Rattle.rules.specs.Grammar.Trees.{Tokens, Literal, literalTokens, Range, single, to, rangeTokens}
 use Rattle.rules.specs.Selectors as rules
 use Rattle.rules.specs.Selectors.{literalInfo, lowest, itemOf, highest}
-use Rattle.table.specs.Holds.{tokenAt, Holds}
+use Rattle.records.specs.Holds.{tokenAt, Holds}
 use Rattle.patterns.specs.declared.items.Item.{Item}
 use Rattle.patterns.specs.Items.{meant}
 

@@ -1,9 +1,9 @@
 // Items of selectors, read from the token table.
 use crate::items::Item;
+use records::fields::kind_at;
+use records::fields::value_at;
 use rules::kinds::COLON;
 use rules::kinds::MASKED;
-use table::records::kind_at;
-use table::records::value_at;
 ghost use mathlib.Core.Path.{_≡_};
 ghost use Prim.Native.Nat.{_+_, _^_, _<_};
 ghost use Rattle.patterns.specs.Items.{meant, rangeOf};

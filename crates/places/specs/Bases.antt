@@ -8,12 +8,12 @@ use Rattle.cells.specs.Cells.{cell}
 use Rattle.rules.specs.Grammar.Trees.{Bits}
 use Rattle.rules.specs.Declarations.{BitNames, lowBit, mainNames, Target, Declared, Table, declaredOf, numberOf, firstWord, Reach, accessLow, accessBits}
 use Rattle.rules.specs.Limits.{mostBits}
+use Rattle.table.specs.Ready.{Scene, tableOf}
 use Rattle.table.specs.Bits.{accessBits as written-bits}
 use Rattle.table.specs.Shown.{shownBits, shownTarget}
 use Rattle.table.specs.Views.{View, TargetStands}
 use Rattle.table.specs.declared.views.Names.{Names}
 use Rattle.promise.specs.Accesses.{leftName, rightName, accessCell}
-use Rattle.places.specs.Scene.{Scene, tableOf}
 use Rattle.places.specs.declared.bases.Base.{Base}
 use Rattle.places.specs.declared.bases.Lies.{Lies}
 

@@ -4,7 +4,6 @@ pub mod Tabled
 pub mod Brackets
 pub mod Given
 pub mod Scene
-pub mod Packed
 pub mod Bases
 pub mod Reaching
 pub mod Apart

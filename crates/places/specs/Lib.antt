@@ -2,7 +2,6 @@ pub mod Spans
 pub mod Tabled
 pub mod Brackets
 pub mod Given
-pub mod Scene
 pub mod Packed
 pub mod Bases
 pub mod Counting

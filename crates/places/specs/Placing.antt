@@ -9,11 +9,10 @@ use Rattle.rules.specs.Grammar.Trees.{Tokens, Bits, bitsTokens, Subscript, subs
 use Rattle.rules.specs.Grammar.Precedence.{indexOf}
 use Rattle.rules.specs.Declarations.{Word, Table, declarations, outerName, Reach, reach}
 use Rattle.rules.specs.Faults.Bodies.{judgeAccess}
-use Rattle.table.specs.Holds.{valueCell}
-use Rattle.table.specs.Words.{NameAt}
-use Rattle.table.specs.Ready.{Ready}
+use Rattle.records.specs.Holds.{valueCell}
+use Rattle.records.specs.Words.{NameAt}
+use Rattle.table.specs.Ready.{Ready, Scene, outerOf, tableOf}
 use Rattle.promise.specs.Accesses.{accessCell, EndsAccess, AccessesHold}
-use Rattle.places.specs.Scene.{Scene, outerOf, tableOf}
 use Rattle.places.specs.Bases.{FirstsHold}
 
 -- the bits of an access stand behind its subscript

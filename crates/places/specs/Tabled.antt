@@ -4,7 +4,7 @@ use mathlib.Core.Path.{_≡_}
 use mathlib.Core.List.{List}
 use lib.ListN.{length}
 use Rattle.rules.specs.Grammar.Trees.{Tokens}
-use Rattle.table.specs.Holds.{Holds}
+use Rattle.records.specs.Holds.{Holds}
 
 pub record Tabled (records values : List ℕ) (n : ℕ) : Type 0 where
   pub text : List ℕ

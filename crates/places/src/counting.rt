@@ -11,8 +11,8 @@ ghost use Prim.Native.Nat.{_*_, _≤_};
 ghost use lib.ListN.{length};
 ghost use Rattle.rules.specs.Declarations.{declaredOf, wordsOf};
 ghost use Rattle.rules.specs.Limits.{mostWords};
+ghost use Rattle.table.specs.Ready.{Scene, tableOf};
 ghost use Rattle.table.specs.Views.{View};
-ghost use Rattle.places.specs.Scene.{Scene, tableOf};
 ghost use Rattle.places.specs.Bases.{FirstsHold};
 ghost use Rattle.places.specs.Counting.{WordsIn, StorageIn};
 

@@ -1,11 +1,11 @@
 // What stands behind the name of an access: its subscript, and the names of its bits. At a name that stands for no access anything is read, and nothing
 // is claimed.
+use records::fields::kind_at;
+use records::fields::value_at;
 use rules::kinds::COLON;
 use rules::kinds::LBRA;
 use rules::kinds::LESS;
 use rules::kinds::RBRA;
-use table::records::kind_at;
-use table::records::value_at;
 use table::views::Names;
 ghost use mathlib.Core.Path.{_≡_};
 ghost use mathlib.Core.List.{List};

@@ -2,12 +2,10 @@
 use rules::limits::MOST_WORDS;
 use table::views::Names;
 ghost use mathlib.Core.Path.{_≡_};
-ghost use mathlib.Core.Option.{some};
 ghost use Prim.Native.Nat.{_+_, _<_, _≤_};
 ghost use Rattle.rules.specs.Declarations as rules;
-ghost use Rattle.rules.specs.Declarations.{names, howMany, fromRight, BitNames, bitCount, lowBit};
+ghost use Rattle.rules.specs.Declarations.{names, howMany, fromRight};
 ghost use Rattle.rules.specs.Limits.{mostWords};
-ghost use Rattle.table.specs.Shown.{shownBits};
 ghost use Rattle.places.specs.Spans.{ManyIn, LowIn};
 
 // One more than the distance of two names; 0 where that is more than there can be words.

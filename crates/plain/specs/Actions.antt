@@ -10,8 +10,9 @@ use Rattle.rules.specs.Limits.{deepest}
 use Rattle.rules.specs.Faults.Fault.{Fault}
 use Rattle.rules.specs.Faults.Bodies.{actionFaults}
 use Rattle.laws_grammar.specs.Cited.Nesting.{actionNest}
-use Rattle.table.specs.Keys.{leastKey}
-use Rattle.stacks.specs.Stacks.{stackedWords, indexEnd, Stacked}
+use Rattle.keys.specs.Keys.{leastKey}
+use Rattle.stacks.specs.Stacks.{stackedWords, Stacked}
+use Rattle.room.specs.Bodies.{indexEnd}
 use Rattle.plain.specs.declared.Walked.{Walked}
 use Rattle.plain.specs.Stage.{Stage, outerOf, tableOf}
 

@@ -12,10 +12,11 @@ use Rattle.rules.specs.Faults.Fault.{Fault, when}
 use Rattle.rules.specs.Faults.Declared.{isKnown, declaredAt}
 use Rattle.rules.specs.Faults.Bodies.{activated, actionFaults}
 use Rattle.laws_grammar.specs.Cited.Nesting.{actionNest}
-use Rattle.table.specs.Holds.{tokenAt}
-use Rattle.table.specs.Keys.{leastKey}
-use Rattle.table.specs.Words.{NameAt, wordAt}
-use Rattle.stacks.specs.Stacks.{stackedWords, indexEnd, Stacked}
+use Rattle.records.specs.Holds.{tokenAt}
+use Rattle.keys.specs.Keys.{leastKey}
+use Rattle.records.specs.Words.{NameAt, wordAt}
+use Rattle.stacks.specs.Stacks.{stackedWords, Stacked}
+use Rattle.room.specs.Bodies.{indexEnd}
 use Rattle.plain.specs.declared.Walked.{Walked}
 use Rattle.plain.specs.Stage.{Stage, outerOf, tableOf}
 use Rattle.plain.specs.Actions.{EndsAction}

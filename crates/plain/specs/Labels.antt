@@ -11,9 +11,10 @@ use Rattle.rules.specs.Declarations.{Word}
 use Rattle.rules.specs.Faults.Fault.{Fault, when}
 use Rattle.rules.specs.Faults.Declared.{isKnown}
 use Rattle.rules.specs.Faults.Bodies.{labels, labelFaults, declaredNames}
-use Rattle.table.specs.Holds.{kindByte, tokenAt}
-use Rattle.table.specs.Words.{NameAt, wordAt}
-use Rattle.stacks.specs.Stacks.{stackedWords, indexEnd, Stacked}
+use Rattle.records.specs.Holds.{kindByte, tokenAt}
+use Rattle.records.specs.Words.{NameAt, wordAt}
+use Rattle.stacks.specs.Stacks.{stackedWords, Stacked}
+use Rattle.room.specs.Bodies.{indexEnd}
 use Rattle.plain.specs.Stage.{Stage, outerOf, tableOf}
 
 -- whether the token i of a table is a label

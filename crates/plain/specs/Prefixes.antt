@@ -5,7 +5,7 @@ use mathlib.Core.List.{List, _∷_}
 use lib.ListN.{drop}
 use Rattle.rules.specs.Grammar.Trees.{Action, block, labelled, if-then, decode, repeat, leave, restart, activate, stop, no-op, transfer, actionTokens}
 use Rattle.laws_grammar.specs.Cited.Nesting.{actionNest}
-use Rattle.table.specs.Keys.{leastKey}
+use Rattle.keys.specs.Keys.{leastKey}
 use Rattle.stacks.specs.Stacks.{Stacked}
 use Rattle.plain.specs.declared.prefixes.Prefixed.{Prefixed}
 use Rattle.plain.specs.Actions.{ActionView, faultsUnder}

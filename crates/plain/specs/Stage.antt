@@ -6,7 +6,7 @@ use lib.ListN.{length}
 use Rattle.rules.specs.Text.Tokens.{Const}
 use Rattle.rules.specs.Grammar.Trees.{Tokens, Description}
 use Rattle.rules.specs.Declarations.{Word, Table, declarations, outerName}
-use Rattle.table.specs.Holds.{tokenAt}
+use Rattle.records.specs.Holds.{tokenAt}
 use Rattle.table.specs.Ready.{Ready}
 use Rattle.spelling.specs.Spelled.{Spelled}
 

@@ -1,21 +1,21 @@
 // The labels of a body, against each other and against what is declared.
+use keys::NO_KEY;
+use keys::earlier;
+use keys::fault_key;
+use records::fields::inside16_at;
+use records::fields::kind_at;
+use records::fields::place_at;
 use rules::kinds::BECOMES;
 use rules::kinds::NAME;
 use stacks::is_stacked;
 use stacks::push;
-use table::keys::NO_KEY;
-use table::keys::earlier;
-use table::keys::fault_key;
 use table::meanings::UNKNOWN;
-use table::records::inside16_at;
-use table::records::kind_at;
-use table::records::place_at;
 ghost use mathlib.Core.Path.{_≡_};
 ghost use mathlib.Core.List.{List};
 ghost use Prim.Native.Nat.{ℕ, _+_, _*_, _≤_};
 ghost use lib.ListN.{length};
-ghost use Rattle.table.specs.Keys.{leastKey};
-ghost use Rattle.stacks.specs.Stacks.{indexEnd};
+ghost use Rattle.keys.specs.Keys.{leastKey};
+ghost use Rattle.room.specs.Bodies.{indexEnd};
 ghost use Rattle.plain.specs.Labels.{labelAt, LabelView, labelFault, LabelsView, allLabelFaults};
 
 // Whether the token i is a label: a name with `:=` behind it.

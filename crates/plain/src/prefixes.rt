@@ -1,17 +1,17 @@
 // Labels, IFs and REPEATs in front of an action.
 use crate::labels::is_label;
 use expressions::judge::expression;
+use keys::NO_KEY;
+use keys::earlier;
+use records::fields::kind_at;
 use rules::kinds::IF;
 use rules::kinds::REPEAT;
 use stacks::push;
-use table::keys::NO_KEY;
-use table::keys::earlier;
-use table::records::kind_at;
 ghost use mathlib.Core.List.{List};
 ghost use Prim.Native.Nat.{ℕ};
 ghost use Rattle.stacks.specs.Stacks.{Kept};
 ghost use Rattle.plain.specs.Actions.{ActionView};
-ghost use Rattle.choices.specs.Room.{labelCells};
+ghost use Rattle.room.specs.Bodies.{labelCells};
 ghost use Rattle.plain.specs.Prefixes.{PrefixAnswer};
 
 // The key of the least fault in front of an action, where the action begins, and how many names stand around it.

@@ -5,10 +5,12 @@ use mathlib.Core.List.{List}
 use lib.ListN.{length}
 use Rattle.cells.specs.Cells.{cell}
 use Rattle.rules.specs.Grammar.Trees.{Tokens}
+use Rattle.rules.specs.Limits.{mostTokens}
 use Rattle.paths.specs.Cited.Least.{least}
-use Rattle.table.specs.Words.{NameAt, wordAt}
+use Rattle.records.specs.Words.{NameAt, wordAt}
 use Rattle.nesting.specs.Machine.{State, outset}
-use Rattle.nesting.specs.Holding.{unseen, enough, Book, book, Shows}
+use Rattle.nesting.specs.Holding.{unseen, Book, book, Shows}
+use Rattle.room.specs.Profile.{roomSize}
 use Rattle.profiling.specs.Walking.{Scene, Finds}
 use Rattle.nesting.specs.declared.nests.Nest.{Nest}
 use Rattle.profiling.specs.declared.tasks.Task.{Task}
@@ -22,14 +24,14 @@ pub record Cleared (old new : List ℕ) (k : ℕ) : Type 0 where
 pub record Beginning (records decls table room : List ℕ) (t : Task) (name from : ℕ) : Type 0 where
   pub scene : Scene records decls table t
   pub behind : name < from
-  pub few : name < 8192
+  pub few : name < mostTokens
   pub record-room : 8 * name + 8 ≤ length records
-  pub from-few : from ≤ 8192
+  pub from-few : from ≤ mostTokens
   pub is-name : (g : Scene records decls table t) → NameAt (g .written .tokens) name
-  pub space : enough ≤ length room
+  pub space : roomSize ≤ length room
 
 abbrev pub Begins : List ℕ → List ℕ → ℕ → Nest → Type 0
-Begins records room name r = (ts : Tokens) (i : ℕ) → NameAt ts name → name < i → i ≤ 8192 → Shows (book records ts) room i r (outset (wordAt ts name))
+Begins records room name r = (ts : Tokens) (i : ℕ) → NameAt ts name → name < i → i ≤ mostTokens → Shows (book records ts) room i r (outset (wordAt ts name))
 
 abbrev pub Tells : List ℕ → Nest → Found → Type 0
 Tells room s r = (ts : Book) (i : ℕ) (z : State) → Shows ts room i s z → (r .ends ≡ z .marks .flags 1) × (r .low ≡ least unseen (z .marks .places))

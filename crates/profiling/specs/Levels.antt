@@ -16,7 +16,8 @@ use Rattle.paths.specs.Cited.Early.{bodyEarly}
 use Rattle.table.specs.Scans.{no}
 use Rattle.reading.specs.Reading.{Kinded}
 use Rattle.profiling.specs.Spelt.{SpeltDescription, whole}
-use Rattle.nesting.specs.Holding.{bit, unseen, enough}
+use Rattle.nesting.specs.Holding.{bit, unseen}
+use Rattle.room.specs.Profile.{roomSize}
 use Rattle.reading.specs.Indexes.{indexOf}
 use Rattle.profiling.specs.Walking.{Known}
 use Rattle.profiling.specs.declared.tasks.Task.{Task}
@@ -62,7 +63,7 @@ pub record Levelled (records decls table next room : List ℕ) (t : Task) : Type
   pub output : t .out < 256
   pub table-room : 1028 ≤ length table
   pub next-room : 1028 ≤ length next
-  pub space : enough ≤ length room
+  pub space : roomSize ≤ length room
 
 -- the declaration k is walked
 pub record PartAt (records decls table next room : List ℕ) (t : Task) (k : ℕ) : Type 0 where
@@ -87,7 +88,7 @@ pub record Starting (records decls table next room : List ℕ) (t : Task) : Type
   pub output : t .out < 256
   pub table-room : 1028 ≤ length table
   pub next-room : 1028 ≤ length next
-  pub space : enough ≤ length room
+  pub space : roomSize ≤ length room
 
 abbrev pub Known16 : List ℕ → List ℕ → List ℕ → Task → Type 0
 Known16 records decls table t =

@@ -11,8 +11,8 @@ use Rattle.rules.specs.Declarations.{Word}
 use Rattle.paths.specs.Cited.Early.{Report}
 use Rattle.paths.specs.Cited.Marks.{Marks}
 use Rattle.paths.specs.Cited.Least.{least}
-use Rattle.table.specs.Holds.{kindByte, tokenAt}
-use Rattle.table.specs.Words.{wordAt}
+use Rattle.records.specs.Holds.{kindByte, tokenAt}
+use Rattle.records.specs.Words.{wordAt}
 use Rattle.reading.specs.Kinds.{nextNo}
 use Rattle.reading.specs.Indexes.{indexOf}
 use Rattle.scopes.specs.Walks.{nextWord}

@@ -12,15 +12,15 @@ use reading::kinds::kind_of;
 use reading::kinds::stores;
 use reading::names::carrier;
 use reading::names::index_of;
+use records::fields::place_at;
 use rules::kinds::BECOMES;
 use rules::kinds::LPAR;
-use table::records::place_at;
 ghost use mathlib.Core.Path.{_≡_};
 ghost use Prim.Native.Nat.{_+_, _*_, _<_};
 ghost use Rattle.rules.specs.Text.Tokens.{Name, kindNo};
 ghost use Rattle.rules.specs.Whole.Sets.{member, owner};
-ghost use Rattle.table.specs.Holds.{kindByte};
-ghost use Rattle.table.specs.Words.{wordAt};
+ghost use Rattle.records.specs.Holds.{kindByte};
+ghost use Rattle.records.specs.Words.{wordAt};
 ghost use Rattle.reading.specs.Reading.{Reading, tableOf};
 ghost use Rattle.profiling.specs.Walking.{Acting, Named, Activates};
 

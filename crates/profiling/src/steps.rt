@@ -27,7 +27,7 @@ use rules::kinds::REPEAT;
 use rules::kinds::SEMI;
 ghost use mathlib.Core.Path.{_≡_};
 ghost use mathlib.Core.Bool.{false};
-ghost use Rattle.table.specs.Holds.{kindByte};
+ghost use Rattle.records.specs.Holds.{kindByte};
 ghost use Rattle.profiling.specs.Walking.{Acting, Acted, Aims};
 ghost use Rattle.nesting.specs.Holding.{Standing, Does};
 ghost use Rattle.nesting.specs.Machine.{reached, chosen};

@@ -6,14 +6,14 @@ use nesting::labels::put_label;
 use nesting::nests::Nest;
 use nesting::nests::flag_at;
 use reading::kinds::mode;
-use table::records::kind_at;
+use records::fields::kind_at;
+use room::profile::FRAMES;
 ghost use Prim.Native.Nat.{_+_, _*_, _<_, _≤_};
 ghost use lib.ListN.{length};
+ghost use Rattle.rules.specs.Limits.{mostTokens};
+ghost use Rattle.room.specs.Profile.{mostFlags, roomSize};
 ghost use Rattle.profiling.specs.Going.{Cleared, Beginning, Begins, Tells, Walked};
 ghost use Rattle.nesting.specs.Holding.{Standing};
-
-// How many flags there are.
-const FLAGS: usize = 64;
 
 // Whether its end is reached, and the lowest place that is too early.
 pub struct Found {
@@ -22,11 +22,11 @@ pub struct Found {
 }
 
 fn clear_flags(room: &mut [u8])
-    requires { ⌜ 49664 ≤ length (now room) ⌝ }
-    ensures { λ _. ⌜ Cleared (now (room .entry)) (now (room .exit)) 64 ⌝ }
+    requires { ⌜ roomSize ≤ length (now room) ⌝ }
+    ensures { λ _. ⌜ Cleared (now (room .entry)) (now (room .exit)) mostFlags ⌝ }
 {
     let mut k: usize = 0;
-    while k < FLAGS {
+    while k < FRAMES {
         let at = k;
         k += 1;
         put16(room, at, 0);
@@ -35,7 +35,7 @@ fn clear_flags(room: &mut [u8])
 
 // At the start of a body, whose own name is the outermost label.
 fn begin(records: &[u8], room: &mut [u8], name: usize) -> Nest
-    requires { ⌜ (49664 ≤ length (now room)) × (name < 8192) × (8 * name + 8 ≤ length (now records)) ⌝ }
+    requires { ⌜ (roomSize ≤ length (now room)) × (name < mostTokens) × (8 * name + 8 ≤ length (now records)) ⌝ }
     ensures { λ r. ⌜ Begins (now (records .entry)) (now (room .exit)) name r ⌝ }
 {
     clear_flags(room);

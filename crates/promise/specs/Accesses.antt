@@ -10,7 +10,7 @@ use Rattle.rules.specs.Grammar.Trees.{Tokens, Bits, bitsTokens, Subscript, subs
 use Rattle.rules.specs.Grammar.Precedence.{indexOf}
 use Rattle.rules.specs.Declarations.{Word, Names, Table, Reach, reach, accessLow, accessBits}
 use Rattle.rules.specs.Faults.Bodies.{judgeAccess}
-use Rattle.table.specs.Holds.{valueCell}
+use Rattle.records.specs.Holds.{valueCell}
 
 abbrev pub leftName : Option Names → ℕ
 leftName none = 0

@@ -16,7 +16,7 @@ use Rattle.rules.specs.Steps.Actions.{Access, access, joinedAccesses}
 use Rattle.rules.specs.Faults.Bodies.{judge, judgeDestination, judgeJoined}
 use Rattle.laws_grammar.specs.Cited.Nesting.{operandNest, tailNest, subscriptNest, joinedNest}
 use Rattle.laws_orders.specs.Cited.Flat.{Link, at, exit, Entries, no-entry, entry, Instr, ifI, decodeI, goI, callI, stopI, moveI, Code}
-use Rattle.table.specs.Holds.{placeCell, insideCell, linkCell, tokenAt}
+use Rattle.records.specs.Holds.{placeCell, insideCell, linkCell, tokenAt}
 
 -- an instruction never stands at token 0, which is the outer name
 abbrev pub linkNo : Link → ℕ

@@ -13,7 +13,7 @@ use Rattle.rules.specs.Whole.Sets.{chainOver}
 use Rattle.rules.specs.Limits.{mostDeclarations, mostWords, longestChain}
 use Rattle.laws_accepted.specs.Cited.Declared.{Declares}
 use Rattle.laws_orders.specs.Cited.Flat.{Code, HoldsBodies}
-use Rattle.table.specs.Holds.{Holds, tokenAt}
+use Rattle.records.specs.Holds.{Holds, tokenAt}
 use Rattle.promise.specs.Accesses.{AccessesHold}
 use Rattle.promise.specs.Instructions.{InstructionHolds}
 use Rattle.promise.specs.Reached.{Reached}

@@ -1,7 +1,7 @@
 // The groups of a description, in text order.
 use crate::members::Pair;
 use crate::members::race_in;
-use table::records::kind_at;
+use records::fields::kind_at;
 use whole::walks::opens;
 ghost use Prim.Native.Nat.{_*_, _<_, _≤_};
 ghost use lib.ListN.{length};

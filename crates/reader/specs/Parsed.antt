@@ -13,7 +13,7 @@ use Rattle.rules.specs.Answers.{refused, Checks}
 use Rattle.laws_grammar.specs.Cited.Nesting.{nest}
 use Rattle.text.specs.Table.{recordCells, valueCells, writeCells, scannedOf}
 use Rattle.text.specs.declared.Scanned.the-variants.{Fine as ScannedFine}
-use Rattle.table.specs.Holds.{placeCell, Holds}
+use Rattle.records.specs.Holds.{placeCell, Holds}
 use Rattle.reader.specs.declared.parsing.Parsed.{Parsed}
 use Rattle.reader.specs.declared.parsing.Parsed.the-variants.{Fine, Refused}
 

@@ -6,7 +6,7 @@ use declare::declare;
 ghost use Prim.Native.Nat.{_≤_};
 ghost use lib.ListN.{length};
 ghost use Rattle.rules.specs.Limits.{longestText};
-ghost use Rattle.spelling.specs.Trees.{roomSize};
+ghost use Rattle.room.specs.Spelling.{roomSize};
 ghost use Rattle.reader.specs.Parsed.{Stands};
 ghost use Rattle.reader.specs.Read.{Reads};
 

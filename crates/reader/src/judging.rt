@@ -3,17 +3,17 @@ use bodies::all::fault40;
 use cells::get16;
 use cells::put16;
 use declare::counting::words;
+use keys::NO_KEY;
+use keys::fault_of;
+use keys::number_fault_of;
 use rules::limits::MOST_DECLARATIONS;
-use table::keys::NO_KEY;
-use table::keys::fault_of;
-use table::keys::number_fault_of;
 use whole::fault50;
 ghost use Prim.Native.Nat.{_≤_};
 ghost use lib.ListN.{length};
 ghost use Rattle.rules.specs.Limits.{mostDeclarations};
 ghost use Rattle.reader.specs.Copied.{Copied};
-ghost use Rattle.reader.specs.Read.{Declares};
-ghost use Rattle.reader.specs.Judged.{Judges, Lawful};
+ghost use Rattle.accepted.specs.Accepted.{Declares, Lawful};
+ghost use Rattle.reader.specs.Judged.{Judges};
 
 // Accepted, with so many declarations, words and tokens; or the number and the place of the refusal.
 pub enum Verdict {

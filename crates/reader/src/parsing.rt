@@ -1,12 +1,11 @@
 // Tokens and grammar: refusals 10 to 21.
 use grammar::Recognised;
-use table::records::place_at;
+use records::fields::place_at;
 use text::Scanned;
 ghost use mathlib.Core.Path.{_≡_};
 ghost use Prim.Native.Nat.{_*_, _<_, _≤_};
 ghost use lib.ListN.{length};
 ghost use Rattle.rules.specs.Limits.{longestText};
-ghost use Rattle.table.specs.Holds.{placeCell};
 ghost use Rattle.reader.specs.Parsed.{placeBy, Scans, Parses};
 
 // A description stands in the table, with so many tokens; or the number and the place of the refusal.

@@ -6,8 +6,8 @@ use mathlib.Core.List.{List, [], _∷_}
 use lib.ListN.{drop}
 use Rattle.rules.specs.Text.Tokens.{Name, LPar, kindNo}
 use Rattle.rules.specs.Declarations.{Word}
-use Rattle.table.specs.Holds.{kindByte}
-use Rattle.table.specs.Words.{wordAt}
+use Rattle.records.specs.Holds.{kindByte}
+use Rattle.records.specs.Words.{wordAt}
 use Rattle.reading.specs.Reading.{Kinded}
 use Rattle.reading.specs.Events.{Event, reads, writes, activates, halts, heard}
 

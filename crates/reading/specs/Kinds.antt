@@ -6,7 +6,7 @@ use lib.Dec.{eqb}
 use Rattle.rules.specs.Text.Tokens.{LBra, RBra, Less, Comma, Semi, Becomes, Equals, Arrow, At, BEGIN, END, NEXT, IF, DECODE, REPEAT, kindNo}
 use Rattle.rules.specs.Grammar.Trees.{Tokens}
 use Rattle.rules.specs.Whole.Sets.{member}
-use Rattle.table.specs.Holds.{noKind}
+use Rattle.records.specs.Holds.{noKind}
 use Rattle.table.specs.Scans.{no, down, outermost, halts}
 
 -- the kind that comes next; past the end a number that no kind has

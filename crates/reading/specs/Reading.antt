@@ -5,7 +5,8 @@ use mathlib.Core.List.{List}
 use lib.ListN.{length}
 use Rattle.rules.specs.Grammar.Trees.{Tokens, Description}
 use Rattle.rules.specs.Declarations.{Table, declarations}
-use Rattle.table.specs.Holds.{kindByte, tokenAt}
+use Rattle.rules.specs.Limits.{mostTokens}
+use Rattle.records.specs.Holds.{kindByte, tokenAt}
 use Rattle.table.specs.Ready.{Ready}
 use Rattle.table.specs.Scans.{no}
 
@@ -13,7 +14,7 @@ use Rattle.table.specs.Scans.{no}
 pub record Kinded (records : List ℕ) (n : ℕ) : Type 0 where
   pub tokens : Tokens
   pub count : n ≡ length tokens
-  pub few : n ≤ 8192
+  pub few : n ≤ mostTokens
   pub room : 8 * n ≤ length records
   pub kind : (i : ℕ) → i < n → kindByte records i ≡ no (tokenAt tokens i)
 

@@ -2,9 +2,9 @@
 use crate::kinds::closes;
 use crate::kinds::kind_of;
 use crate::kinds::mode;
+use records::fields::kind_at;
 use rules::kinds::LPAR;
 use rules::kinds::NAME;
-use table::records::kind_at;
 use table::scans::SEPARATOR;
 use table::scans::deeper;
 use table::scans::halts;

@@ -1,4 +1,5 @@
 // The tokens of a body by their kinds: what separates actions, how deep they stand, where an action ends.
+use records::fields::kind_at;
 use rules::kinds::ARROW;
 use rules::kinds::AT;
 use rules::kinds::BECOMES;
@@ -15,7 +16,6 @@ use rules::kinds::NO_KIND;
 use rules::kinds::RBRA;
 use rules::kinds::REPEAT;
 use rules::kinds::SEMI;
-use table::records::kind_at;
 use table::scans::SEPARATOR;
 use table::scans::deeper;
 use table::scans::halts;

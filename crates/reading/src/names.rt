@@ -1,9 +1,9 @@
 // What the names of a body mean.
 use cells::get16;
+use records::fields::inside_at;
+use records::fields::kind_at;
 use rules::kinds::BECOMES;
 use rules::limits::MOST_DECLARATIONS;
-use table::records::inside_at;
-use table::records::kind_at;
 use table::views::target_of;
 ghost use mathlib.Core.Path.{_≡_};
 ghost use mathlib.Core.List.{List};
@@ -12,8 +12,8 @@ ghost use lib.ListN.{length};
 ghost use Rattle.rules.specs.Text.Tokens.{Name, kindNo};
 ghost use Rattle.rules.specs.Limits.{mostDeclarations};
 ghost use Rattle.rules.specs.Whole.Sets.{owner};
-ghost use Rattle.table.specs.Holds.{kindByte};
-ghost use Rattle.table.specs.Words.{wordAt};
+ghost use Rattle.records.specs.Holds.{kindByte};
+ghost use Rattle.records.specs.Words.{wordAt};
 ghost use Rattle.reading.specs.Reading.{Reading, tableOf};
 ghost use Rattle.reading.specs.Names.{Owned};
 ghost use Rattle.reading.specs.Indexes.{undeclared, indexOf};

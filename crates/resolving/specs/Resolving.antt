@@ -7,11 +7,11 @@ use Rattle.rules.specs.Text.Scan.{sameBytes}
 use Rattle.rules.specs.Grammar.Trees.{Tokens, Declaration}
 use Rattle.rules.specs.Declarations.{Word, declaredOf, numberFrom}
 use Rattle.rules.specs.Limits.{mostTokens}
-use Rattle.table.specs.Holds.{Holds, insideCell, linkCell}
-use Rattle.table.specs.Kept.{Kept}
+use Rattle.records.specs.Holds.{Holds, insideCell, linkCell}
+use Rattle.records.specs.Kept.{Kept}
 use Rattle.table.specs.Lookups.{DeclsHold}
 use Rattle.table.specs.Meaning.{unknownName, meaningBy, meaningOf}
-use Rattle.table.specs.Words.{NameAt, wordAt}
+use Rattle.records.specs.Words.{NameAt, wordAt}
 use Rattle.spelling.specs.Spelled.{Spelled}
 
 -- a table of tokens whose names are spelled

@@ -1,12 +1,12 @@
 // What the names mean: each name's record takes the number of its first declaration.
 use cells::get16;
+use records::fields::inside16_at;
+use records::fields::kind_at;
+use records::fields::link_at;
+use records::fields::put_inside;
 use rules::kinds::NAME;
 use table::meanings::OUTER_ONLY;
 use table::meanings::UNKNOWN;
-use table::records::inside16_at;
-use table::records::kind_at;
-use table::records::link_at;
-use table::records::put_inside;
 ghost use mathlib.Core.Path.{_≡_};
 ghost use mathlib.Core.List.{List};
 ghost use Prim.Native.Nat.{_+_, _*_, _<_, _≤_};
@@ -14,7 +14,7 @@ ghost use lib.ListN.{length};
 ghost use Rattle.rules.specs.Limits.{mostTokens};
 ghost use Rattle.rules.specs.Grammar.Trees.{Tokens, Declaration};
 ghost use Rattle.rules.specs.Declarations.{Word};
-ghost use Rattle.table.specs.Words.{wordAt};
+ghost use Rattle.records.specs.Words.{wordAt};
 ghost use Rattle.resolving.specs.Resolving.{SpelledIn, Lists, InsideOnly, Forgotten, MarkedFrom, MeantTo};
 
 // Leaves no meaning at the n tokens.

@@ -1,6 +1,6 @@
 // Where MAIN stands among the declarations.
 use cells::get16;
-use table::records::inside_at;
+use records::fields::inside_at;
 use table::views::main_of;
 ghost use mathlib.Core.Path.{_≡_};
 ghost use mathlib.Core.List.{[]};

@@ -5,7 +5,7 @@ use naming::names::number_of;
 ghost use Prim.Native.Nat.{ℕ};
 ghost use Rattle.rules.specs.Paths.{folded};
 ghost use Rattle.naming.specs.Names.{Output};
-ghost use Rattle.reader.specs.Judged.{Accepts, table-by};
+ghost use Rattle.accepted.specs.Accepted.{Accepts, table-by};
 
 // The number of the storage carrier that a lent name means, or m.
 pub fn output_number(

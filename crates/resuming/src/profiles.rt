@@ -18,7 +18,7 @@ ghost use Rattle.rules.specs.Paths.{folded};
 ghost use Rattle.rules.specs.Calls.Profile.{profileNumbers};
 ghost use Rattle.paths.specs.Cited.Early.{profile};
 ghost use Rattle.lent.specs.Numbers.{numbersOf};
-ghost use Rattle.reader.specs.Judged.{Accepts, table-by};
+ghost use Rattle.accepted.specs.Accepted.{Accepts, table-by};
 ghost use Rattle.resuming.specs.Asked.{Asked, Lowest};
 ghost use Rattle.resuming.specs.Told.{Told};
 

@@ -35,13 +35,13 @@ module _ (ds : Table) where
   others (also i a m) = memberOf a ∷ others m
   others (next i a m) = []
 
-  abbrev pub group : Action → Members → List Member
-  group a m = memberOf a ∷ others m
+  abbrev pub groupOf : Action → Members → List Member
+  groupOf a m = memberOf a ∷ others m
 
   -- the groups of an action, each as its members
   unfoldable mutual
     pub groupsIn : Action → List (List Member)
-    groupsIn (block b a m) = group a m ∷ (groupsIn a ++ groupsBehind m)
+    groupsIn (block b a m) = groupOf a m ∷ (groupsIn a ++ groupsBehind m)
     groupsIn (labelled n b a) = groupsIn a
     groupsIn (if-then i o t w a) = groupsIn a
     groupsIn (decode i o t w b v) = groupsAlternatives v
@@ -57,7 +57,7 @@ module _ (ds : Table) where
     pub groupsBehind : Members → List (List Member)
     groupsBehind (end e) = []
     groupsBehind (also i a m) = groupsIn a ++ groupsBehind m
-    groupsBehind (next i a m) = group a m ∷ (groupsIn a ++ groupsBehind m)
+    groupsBehind (next i a m) = groupOf a m ∷ (groupsIn a ++ groupsBehind m)
 
     pub groupsAlternatives : Alternatives → List (List Member)
     groupsAlternatives (counted a c) = groupsIn a ++ groupsCounted c
@@ -203,6 +203,6 @@ reason51 ds p = chainFrom ds (refusedBody ds p ds)
 
 -- the reasons that may be given for a verdict on a text
 pub data Explains (text : List ℕ) : Verdict → Reason → Type 0 where
-  plain : {v : Verdict} → (verdictNumber v ≡ 53 → ⊥) → (verdictNumber v ≡ 51 → ⊥) → Explains text v no-reason
+  unexplained : {v : Verdict} → (verdictNumber v ≡ 53 → ⊥) → (verdictNumber v ≡ 51 → ⊥) → Explains text v no-reason
   by-race : {p : ℕ} (d : Description) → flatten d ≡ scan text .tokens → Explains text (refused 53 p) (reason53 (declarations d) p)
   by-chain : {p : ℕ} (d : Description) → flatten d ≡ scan text .tokens → Explains text (refused 51 p) (reason51 (declarations d) p)

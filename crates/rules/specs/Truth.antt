@@ -1,5 +1,5 @@
 -- What a reason says of a text: both members stand in one group, the carrier is touched by both and written by one, and no earlier member and no earlier carrier
--- would do; each body of a chain activates the next one, and the last one is listed before or is the 17th.
+-- would do; each body of a chain activates the next one, and the last one is listed before or is the 17th. Then the same of the numbers that a call has written.
 use Prim.Native.Nat.{ℕ, suc, _<_}
 use mathlib.Core.Path.{_≡_}
 use mathlib.Core.Bool.{true, false}

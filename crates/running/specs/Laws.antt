@@ -1,3 +1,2 @@
 -- The laws of running.
-pub mod Prepared
 pub mod Outcome

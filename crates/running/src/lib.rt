@@ -1,5 +1,4 @@
 // Run: reads a text afresh and runs it.
-pub mod endings;
 pub mod runs;
 
 use crate::runs::ran;

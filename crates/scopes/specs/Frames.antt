@@ -1,5 +1,5 @@
--- The scopes around the open blocks. Of each the base and the top stand in two cells, from the cell 16384 downwards, far above the labels.
-use Prim.Native.Nat.{ℕ, suc, _+_, _-_, _*_, _<_, _≤_}
+-- The scopes around the open blocks. Of each the base and the top stand in two cells, downwards from `scopesEnd`, far above the labels.
+use Prim.Native.Nat.{ℕ, suc, _+_, _-_, _<_, _≤_}
 use mathlib.Core.Path.{_≡_}
 use mathlib.Core.Bool.{Bool, true, false}
 use mathlib.Core.List.{List, [], _∷_, _++_}
@@ -9,20 +9,17 @@ use Rattle.rules.specs.Text.Tokens.{END, kindNo}
 use Rattle.rules.specs.Grammar.Trees.{Tokens}
 use Rattle.rules.specs.Declarations.{Table}
 use Rattle.rules.specs.Faults.Whole.{Scope}
-use Rattle.table.specs.Holds.{kindByte, tokenAt}
+use Rattle.records.specs.Holds.{kindByte, tokenAt, Tabled}
 use Rattle.reading.specs.Reading.{Kinded}
 use Rattle.reading.specs.Groups.{more}
+use Rattle.room.specs.Whole.{scopeCell, openedCell, labelsSize}
 use Rattle.scopes.specs.Walks.{opens, walk, faultsAt}
-use Rattle.scopes.specs.Labels.{Worded, Labelled, Scoped}
-
--- the cell of the base of the block that is the depth-th from outside; that of its top is the next
-abbrev pub frameAt : ℕ → ℕ
-frameAt depth = 16384 - 2 * depth
+use Rattle.scopes.specs.Labels.{Labelled, Scoped}
 
 -- the frames of the scopes around the open blocks, whose tops are at most limit
 pub data Frames (ts : Tokens) (labels : List ℕ) : ℕ → ℕ → List Scope → Type 0 where
   no-frames : {limit : ℕ} → Frames ts labels 0 limit []
-  frame : {depth limit base top : ℕ} {s : Scope} {σ : List Scope} → cell 2 labels (frameAt (suc depth)) ≡ base → cell 2 labels (frameAt (suc depth) + 1) ≡ top
+  frame : {depth limit base top : ℕ} {s : Scope} {σ : List Scope} → cell 2 labels (scopeCell (suc depth)) ≡ base → cell 2 labels (scopeCell (suc depth) + 1) ≡ top
       → top ≤ limit
       → base ≤ top + 1 → Scoped ts labels base top s → Frames ts labels depth top σ → Frames ts labels (suc depth) limit (s ∷ σ)
 
@@ -34,19 +31,19 @@ pub record Standing (ts : Tokens) (labels : List ℕ) (depth base top : ℕ) (σ
 pub record Stack (records labels : List ℕ) (n base top : ℕ) : Type 0 where
   pub labelled : Labelled records labels n top
   pub edge : base ≤ top + 1
-  pub space : 32768 ≤ length labels
+  pub space : labelsSize ≤ length labels
 
 -- a frame is pushed
 pub record FramePushed (old new : List ℕ) (depth base top : ℕ) : Type 0 where
-  pub base-there : cell 2 new (16382 - 2 * depth) ≡ base
-  pub top-there : cell 2 new (16382 - 2 * depth + 1) ≡ top
-  pub kept : (j : ℕ) → (j ≡ 16382 - 2 * depth → ⊥) → (j ≡ 16382 - 2 * depth + 1 → ⊥) → cell 2 new j ≡ cell 2 old j
+  pub base-there : cell 2 new (openedCell depth) ≡ base
+  pub top-there : cell 2 new (openedCell depth + 1) ≡ top
+  pub kept : (j : ℕ) → (j ≡ openedCell depth → ⊥) → (j ≡ openedCell depth + 1 → ⊥) → cell 2 new j ≡ cell 2 old j
   pub size : length new ≡ length old
 
 -- the scope around the innermost open block, read from its frame
 pub record Surrounding (labels : List ℕ) (depth limit base top : ℕ) : Type 0 where
   pub outermost : depth ≡ 0 → (base ≡ limit + 1) × (top ≡ limit)
-  pub inside : (depth ≡ 0 → ⊥) → (base ≡ cell 2 labels (frameAt depth)) × (top ≡ cell 2 labels (frameAt depth + 1))
+  pub inside : (depth ≡ 0 → ⊥) → (base ≡ cell 2 labels (scopeCell depth)) × (top ≡ cell 2 labels (scopeCell depth + 1))
 
 -- whether the group that begins behind the token i, of this kind, has two members or more
 pub record Told (records : List ℕ) (n i kind : ℕ) (several : Bool) : Type 0 where
@@ -54,7 +51,7 @@ pub record Told (records : List ℕ) (n i kind : ℕ) (several : Bool) : Type 0 
 
 -- what a turn starts from: the token i, of this kind
 pub record Turning (text records labels : List ℕ) (n i kind : ℕ) (several : Bool) (depth base top : ℕ) : Type 0 where
-  pub worded : Worded text records n
+  pub worded : Tabled text records n
   pub scopes : List Scope
   pub scope : Scope
   pub standing : Standing (worded .tokens) labels depth base top scopes scope
@@ -77,7 +74,7 @@ pub record Onward (ds : Table) (ts : Tokens) (labels : List ℕ) (i depth base t
 pub record Turned (text records old new : List ℕ) (n i depth base top depth₁ base₁ top₁ : ℕ) : Type 0 where
   pub stack : Stack records new n base₁ top₁
   pub grown : top₁ + depth₁ ≤ top + depth + 1
-  pub on : (ds : Table) (v : Worded text records n) (σ : List Scope) (s : Scope) → Standing (v .tokens) old depth base top σ s
+  pub on : (ds : Table) (v : Tabled text records n) (σ : List Scope) (s : Scope) → Standing (v .tokens) old depth base top σ s
       → Onward ds (v .tokens) new i depth₁ base₁ top₁ σ s
 
 -- a block is opened, and a group begins in it: of one member in the same scope, of more in a new one

@@ -4,13 +4,7 @@ use mathlib.Core.Path.{_≡_}
 use mathlib.Core.List.{List}
 use lib.ListN.{length}
 use Rattle.cells.specs.Cells.{cell}
-
--- the labels and the scopes stand in the cells before it, the hints in those from it on
-abbrev pub scopesEnd : ℕ
-scopesEnd = 16384
-
-abbrev pub hintsEnd : ℕ
-hintsEnd = 23552
+use Rattle.room.specs.Whole.{scopesEnd}
 
 -- a hint is put
 pub record Hinting (old new : List ℕ) : Type 0 where

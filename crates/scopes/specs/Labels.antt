@@ -10,18 +10,11 @@ use Rattle.rules.specs.Text.Tokens.{Name, kindNo}
 use Rattle.rules.specs.Grammar.Trees.{Tokens}
 use Rattle.rules.specs.Declarations.{Word}
 use Rattle.rules.specs.Faults.Whole.{Scope}
-use Rattle.table.specs.Holds.{kindByte, tokenAt, Holds}
-use Rattle.table.specs.Words.{wordAt}
-use Rattle.table.specs.Keys.{leastNumberKey}
-use Rattle.scopes.specs.Hints.{scopesEnd}
+use Rattle.records.specs.Holds.{kindByte, tokenAt, Tabled}
+use Rattle.records.specs.Words.{wordAt}
+use Rattle.keys.specs.Keys.{leastNumberKey}
+use Rattle.room.specs.Whole.{scopesEnd}
 use Rattle.scopes.specs.Walks.{labelling, jumpAt}
-
--- n tokens with their words
-pub record Worded (text records : List ℕ) (n : ℕ) : Type 0 where
-  pub values : List ℕ
-  pub tokens : Tokens
-  pub holds : Holds text records values tokens
-  pub count : n ≡ length tokens
 
 -- the cells below the top are names
 pub record Labelled (records labels : List ℕ) (n top : ℕ) : Type 0 where
@@ -40,7 +33,7 @@ pub record Scoped (ts : Tokens) (labels : List ℕ) (base top : ℕ) (s : Scope)
 
 -- the key of a jump at the token i, as far as it lowers the key that is known
 pub record JumpKey (text records labels : List ℕ) (n i base top known r : ℕ) : Type 0 where
-  pub key : (v : Worded text records n) (s : Scope) → Scoped (v .tokens) labels base top s → min known r ≡ min known
+  pub key : (v : Tabled text records n) (s : Scope) → Scoped (v .tokens) labels base top s → min known r ≡ min known
       (leastNumberKey (jumpAt s (tokenAt (v .tokens) i) (drop (i + 1) (v .tokens))))
 
 -- a label more
@@ -49,5 +42,5 @@ pub record Pushed (text records old new : List ℕ) (n i base top r : ℕ) : Typ
   pub high : r ≤ top + 1
   pub kept : (j : ℕ) → j < scopesEnd → (j ≡ top → ⊥) → cell 2 new j ≡ cell 2 old j
   pub labelled : Labelled records old n top → Labelled records new n r
-  pub scope : (v : Worded text records n) (s : Scope) → Scoped (v .tokens) old base top s → Scoped (v .tokens) new base r
+  pub scope : (v : Tabled text records n) (s : Scope) → Scoped (v .tokens) old base top s → Scoped (v .tokens) new base r
       (labelling (tokenAt (v .tokens) (i - 1)) s)

@@ -2,21 +2,20 @@
 // nothing is promised of it, and who takes one looks whether the label stands there.
 use cells::get16;
 use cells::put16;
-use table::records::link_at;
-use table::room::SCOPES_END;
+use records::fields::link_at;
+use room::whole::HINT_COUNT;
+use room::whole::SCOPES_END;
 ghost use Prim.Native.Nat.{_+_, _*_, _<_, _≤_};
 ghost use lib.ListN.{length};
-ghost use Rattle.scopes.specs.Hints.{scopesEnd, hintsEnd, Hinting};
+ghost use Rattle.scopes.specs.Hints.{Hinting};
+ghost use Rattle.room.specs.Whole.{scopesEnd, hintsEnd};
 
-// How many cells the labels' part has behind the scopes.
-const HINTS: usize = 7168;
-
-// The cell for the spelling of the name. Spellings that are HINTS apart share one.
+// The cell for the spelling of the name. Spellings that are HINT_COUNT apart share one.
 fn hint_cell(records: &[u8], name: usize) -> usize
     requires { ⌜ 8 * name + 8 ≤ length (now records) ⌝ }
     ensures { λ r. ⌜ (scopesEnd ≤ r) × (r < hintsEnd) ⌝ }
 {
-    SCOPES_END + link_at(records, name) % HINTS
+    SCOPES_END + link_at(records, name) % HINT_COUNT
 }
 
 // The hint for the name, or 0 where the labels' part is too short to have one.

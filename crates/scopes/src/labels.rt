@@ -3,26 +3,26 @@ use crate::hints::hint;
 use crate::hints::put_hint;
 use cells::get16;
 use cells::put16;
+use keys::NO_KEY;
+use keys::number_key;
 use reading::kinds::kind_of;
+use records::fields::kind_at;
+use records::fields::place_at;
+use records::words::same_word;
 use rules::kinds::LEAVE;
 use rules::kinds::NAME;
 use rules::kinds::RESTART;
-use table::keys::NO_KEY;
-use table::keys::number_key;
-use table::records::kind_at;
-use table::records::place_at;
-use table::words::same_word;
 ghost use mathlib.Core.Path.{_≡_};
 ghost use mathlib.Core.Bool.{true};
 ghost use Prim.Native.Nat.{_+_, _-_, _*_, _<_, _≤_};
 ghost use lib.ListN.{length};
 ghost use Rattle.rules.specs.Text.Tokens.{Name, kindNo};
 ghost use Rattle.rules.specs.Faults.Declared.{isKnown};
-ghost use Rattle.table.specs.Holds.{kindByte};
-ghost use Rattle.table.specs.Words.{wordAt};
+ghost use Rattle.records.specs.Holds.{kindByte, Tabled};
+ghost use Rattle.records.specs.Words.{wordAt};
 ghost use Rattle.scopes.specs.Walks.{jumps};
-ghost use Rattle.scopes.specs.Hints.{scopesEnd};
-ghost use Rattle.scopes.specs.Labels.{Worded, Labelled, JumpKey, Pushed, namesFrom};
+ghost use Rattle.room.specs.Whole.{scopesEnd};
+ghost use Rattle.scopes.specs.Labels.{Labelled, JumpKey, Pushed, namesFrom};
 
 // Whether the hint for the name leads to a label from base up to top that has its word.
 fn hinted(
@@ -34,8 +34,8 @@ fn hinted(
     top: usize,
     name: usize,
 ) -> bool
-    requires { ⌜ Worded (now text) (now records) n × (Labelled (now records) (now labels) n top × ((base ≤ top) × ((name < n) × (kindByte (now records) name ≡ kindNo Name)))) ⌝ }
-    ensures { λ r. ⌜ ((v : Worded (now (text .entry)) (now (records .entry)) n) → r ≡ true
+    requires { ⌜ Tabled (now text) (now records) n × (Labelled (now records) (now labels) n top × ((base ≤ top) × ((name < n) × (kindByte (now records) name ≡ kindNo Name)))) ⌝ }
+    ensures { λ r. ⌜ ((v : Tabled (now (text .entry)) (now (records .entry)) n) → r ≡ true
         → isKnown (wordAt (v .tokens) name) (namesFrom (v .tokens) (now (labels .entry)) base (top - base)) ≡ true) ⌝ }
 {
     let k = hint(records, labels, name);
@@ -59,8 +59,8 @@ fn listed(
     top: usize,
     name: usize,
 ) -> bool
-    requires { ⌜ Worded (now text) (now records) n × (Labelled (now records) (now labels) n top × ((base ≤ top) × ((name < n) × (kindByte (now records) name ≡ kindNo Name)))) ⌝ }
-    ensures { λ r. ⌜ ((v : Worded (now (text .entry)) (now (records .entry)) n)
+    requires { ⌜ Tabled (now text) (now records) n × (Labelled (now records) (now labels) n top × ((base ≤ top) × ((name < n) × (kindByte (now records) name ≡ kindNo Name)))) ⌝ }
+    ensures { λ r. ⌜ ((v : Tabled (now (text .entry)) (now (records .entry)) n)
         → r ≡ isKnown (wordAt (v .tokens) name) (namesFrom (v .tokens) (now (labels .entry)) base (top - base))) ⌝ }
 {
     let mut j = top;
@@ -84,8 +84,8 @@ fn among(
     top: usize,
     name: usize,
 ) -> bool
-    requires { ⌜ Worded (now text) (now records) n × (Labelled (now records) (now labels) n top × ((base ≤ top) × ((name < n) × (kindByte (now records) name ≡ kindNo Name)))) ⌝ }
-    ensures { λ r. ⌜ ((v : Worded (now (text .entry)) (now (records .entry)) n)
+    requires { ⌜ Tabled (now text) (now records) n × (Labelled (now records) (now labels) n top × ((base ≤ top) × ((name < n) × (kindByte (now records) name ≡ kindNo Name)))) ⌝ }
+    ensures { λ r. ⌜ ((v : Tabled (now (text .entry)) (now (records .entry)) n)
         → r ≡ isKnown (wordAt (v .tokens) name) (namesFrom (v .tokens) (now (labels .entry)) base (top - base))) ⌝ }
 {
     if hinted(text, records, labels, n, base, top, name) {
@@ -118,7 +118,7 @@ pub fn jump_key(
     top: usize,
     known: u32,
 ) -> u32
-    requires { ⌜ Worded (now text) (now records) n × (Labelled (now records) (now labels) n top × ((i < n) × (kind ≡ kindByte (now records) i))) ⌝ }
+    requires { ⌜ Tabled (now text) (now records) n × (Labelled (now records) (now labels) n top × ((i < n) × (kind ≡ kindByte (now records) i))) ⌝ }
     ensures { λ r. ⌜ JumpKey (now (text .entry)) (now (records .entry)) (now (labels .entry)) n i base top known r ⌝ }
 {
     if !jumps(kind) {
@@ -150,7 +150,7 @@ pub fn push_label(
     base: usize,
     top: usize,
 ) -> usize
-    requires { ⌜ Worded (now text) (now records) n × ((i < n) × ((1 ≤ i) × ((top < scopesEnd) × (2 * top + 2 ≤ length (now labels))))) ⌝ }
+    requires { ⌜ Tabled (now text) (now records) n × ((i < n) × ((1 ≤ i) × ((top < scopesEnd) × (2 * top + 2 ≤ length (now labels))))) ⌝ }
     ensures { λ r. ⌜ Pushed (now (text .entry)) (now (records .entry)) (now (labels .entry)) (now (labels .exit)) n i base top r ⌝ }
 {
     if top < base {

@@ -2,17 +2,18 @@
 use crate::labels::push_label;
 use cells::get16;
 use cells::put16;
+use room::whole::FIRST_SCOPE;
+use room::whole::SCOPES_END;
 use rules::kinds::BECOMES;
 use rules::kinds::BEGIN;
 use rules::kinds::COMMA;
 use rules::kinds::END;
 use rules::kinds::NEXT;
 use rules::kinds::SEMI;
-use table::room::FIRST_SCOPE;
-use table::room::SCOPES_END;
 ghost use mathlib.Core.Path.{_≡_};
 ghost use Prim.Native.Nat.{_<_, _≤_};
 ghost use lib.ListN.{length};
+ghost use Rattle.room.specs.Whole.{labelsSize};
 ghost use Rattle.scopes.specs.Frames.{FramePushed, Surrounding, Opened, Followed, Turning, Turned};
 
 // How many blocks are open, and where the labels of the scope begin and end; where they end before they begin there is no scope.
@@ -24,7 +25,7 @@ pub struct Nest {
 
 // Keeps the scope around a block that is opened with depth others around it.
 fn push_frame(labels: &mut [u8], depth: usize, base: usize, top: usize)
-    requires { ⌜ (32768 ≤ length (now labels)) × ((depth < 8192) × ((base < 65536) × (top < 65536))) ⌝ }
+    requires { ⌜ (labelsSize ≤ length (now labels)) × ((depth < 8192) × ((base < 65536) × (top < 65536))) ⌝ }
     ensures { λ _. ⌜ FramePushed (now (labels .entry)) (now (labels .exit)) depth base top ⌝ }
 {
     let at = FIRST_SCOPE - 2 * depth;
@@ -34,7 +35,7 @@ fn push_frame(labels: &mut [u8], depth: usize, base: usize, top: usize)
 
 // Behind a BEGIN.
 fn opened(labels: &mut [u8], several: bool, depth: usize, base: usize, top: usize) -> Nest
-    requires { ⌜ (32768 ≤ length (now labels)) × ((depth < 8192) × ((base < 65536) × (top < 65536))) ⌝ }
+    requires { ⌜ (labelsSize ≤ length (now labels)) × ((depth < 8192) × ((base < 65536) × (top < 65536))) ⌝ }
     ensures { λ r. ⌜ Opened several (now (labels .entry)) (now (labels .exit)) depth base top (r .depth) (r .base) (r .top) ⌝ }
 {
     push_frame(labels, depth, base, top);
@@ -54,7 +55,7 @@ fn opened(labels: &mut [u8], several: bool, depth: usize, base: usize, top: usiz
 
 // The scope around the innermost open block.
 fn surrounding(labels: &[u8], depth: usize, top: usize) -> Nest
-    requires { ⌜ (32768 ≤ length (now labels)) × ((depth < 8192) × (top < 65536)) ⌝ }
+    requires { ⌜ (labelsSize ≤ length (now labels)) × ((depth < 8192) × (top < 65536)) ⌝ }
     ensures { λ r. ⌜ (r .depth ≡ depth) × Surrounding (now (labels .entry)) depth top (r .base) (r .top) ⌝ }
 {
     if depth == 0 {
@@ -74,7 +75,7 @@ fn surrounding(labels: &[u8], depth: usize, top: usize) -> Nest
 
 // Behind a NEXT.
 fn next_group(labels: &[u8], several: bool, depth: usize, top: usize) -> Nest
-    requires { ⌜ (32768 ≤ length (now labels)) × ((depth < 8192) × (top < 65536)) ⌝ }
+    requires { ⌜ (labelsSize ≤ length (now labels)) × ((depth < 8192) × (top < 65536)) ⌝ }
     ensures { λ r. ⌜ Followed several (now (labels .entry)) depth top (r .depth) (r .base) (r .top) ⌝ }
 {
     if several {

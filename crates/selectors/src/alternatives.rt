@@ -2,13 +2,13 @@
 use crate::lists::past_length;
 use crate::lists::some_meet;
 use cells::get16;
+use records::fields::kind_at;
 use rules::kinds::LBRA;
 use rules::kinds::OTHERWISE;
 use summaries::Summary;
 use summaries::apart;
 use summaries::of_items;
 use summaries::open;
-use table::records::kind_at;
 ghost use mathlib.Core.Path.{_≡_};
 ghost use mathlib.Core.List.{List};
 ghost use Prim.Native.Nat.{ℕ, _≤_};

@@ -2,7 +2,7 @@
 use cells::get16;
 use gathering::memory::Touched;
 use reading::bits::has;
-use table::records::place_at;
+use records::fields::place_at;
 ghost use mathlib.Core.Path.{_≡_};
 ghost use mathlib.Core.Option.{some};
 ghost use Prim.Native.Nat.{_<_, _≤_};

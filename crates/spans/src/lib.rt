@@ -107,7 +107,7 @@ fn is_among(left: u64, right: u64, n: u64) -> bool
 }
 
 // Whether the bits from `first` to `last` lie inside others and run the same way.
-fn inside(left: u64, right: u64, first: u64, last: u64) -> bool
+pub fn inside(left: u64, right: u64, first: u64, last: u64) -> bool
     ensures { λ r. ⌜ r ≡ lies-inside (these (names left right)) (names first last) ⌝ }
 {
     if !is_among(left, right, first) {

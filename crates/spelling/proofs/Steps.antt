@@ -9,12 +9,13 @@ use Rattle.cells.specs.Cells.{cell, putCell}
 use Rattle.rules.specs.Text.Tokens.{Name, kindNo}
 use Rattle.laws_grammar.specs.Cited.Kinds.{kindAt}
 use Rattle.laws_grammar.specs.Grammar.Kinds.{kindAt-kindNo}
-use Rattle.table.specs.Holds.{kindByte, tokenAt}
-use Rattle.table.specs.Kept.{Kept, LinkPut}
-use Rattle.table.specs.Laws.Kept.{kept-none, kept-then, holds-kept}
+use Rattle.records.specs.Holds.{kindByte, tokenAt, Tabled}
+use Rattle.records.specs.Kept.{Kept, LinkPut}
+use Rattle.records.specs.Laws.Kept.{kept-none, kept-then, holds-kept}
 use Rattle.spelling.specs.Spelled.{Spelled}
-use Rattle.spelling.specs.Trees.{noNode, heads, roomSize}
-use Rattle.spelling.specs.Spelling.{SpelledTo, Spelling, Seeking, Ends, Cleared, Opened, Tabled}
+use Rattle.spelling.specs.Trees.{noNode}
+use Rattle.room.specs.Spelling.{heads, roomSize}
+use Rattle.spelling.specs.Spelling.{SpelledTo, Spelling, Seeking, Ends, Cleared, Opened}
 use Rattle.spelling.specs.Laws.Growing.{none-spelled, opened-still, no-name-spelled, node-spelled, new-spelled, all-spelled}
 
 -- what is promised for the name i, whose children are cleared

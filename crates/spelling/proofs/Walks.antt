@@ -12,10 +12,11 @@ use Rattle.cells.specs.Cells.{cell}
 use Rattle.rules.specs.Limits.{mostTokens}
 use Rattle.rules.specs.Text.Scan.{sameBytes}
 use Rattle.rules.specs.Grammar.Trees.{Tokens}
-use Rattle.table.specs.Holds.{sizeByte, placeCell, foldedAt}
-use Rattle.table.specs.Words.{wordAt, TwoNames, sameWords}
-use Rattle.table.specs.Laws.Words.{word-folded, word-inside}
-use Rattle.spelling.specs.Trees.{noNode, heads, roomSize, hashOf, bitOf, cellBehind, nodeBehind, Passes}
+use Rattle.records.specs.Holds.{sizeByte, placeCell, foldedAt}
+use Rattle.records.specs.Words.{wordAt, TwoNames, sameWords}
+use Rattle.records.specs.Laws.Words.{word-folded, word-inside}
+use Rattle.spelling.specs.Trees.{noNode, hashOf, bitOf, cellBehind, nodeBehind, Passes}
+use Rattle.room.specs.Spelling.{heads, roomSize}
 use Rattle.spelling.specs.Spelling.{Seeking, Ends}
 use Rattle.laws_accepted.specs.Accepted.Named.{same-equal, same-itself}
 

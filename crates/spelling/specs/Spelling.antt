@@ -5,9 +5,10 @@ use mathlib.Core.List.{List}
 use lib.ListN.{length}
 use Rattle.cells.specs.Cells.{cell}
 use Rattle.rules.specs.Grammar.Trees.{Tokens}
-use Rattle.table.specs.Holds.{linkCell, Holds}
-use Rattle.table.specs.Words.{NameAt, wordAt}
-use Rattle.spelling.specs.Trees.{noNode, heads, cellBehind, Passes, Finds, Grown}
+use Rattle.records.specs.Holds.{linkCell, Holds}
+use Rattle.records.specs.Words.{NameAt, wordAt}
+use Rattle.spelling.specs.Trees.{noNode, cellBehind, Passes, Finds, Grown}
+use Rattle.room.specs.Spelling.{heads}
 
 -- x is the first name with the word of the name j, and the search for that word finds it among the names before i
 pub record Spells (room : List ℕ) (ts : Tokens) (i j x : ℕ) : Type 0 where
@@ -49,10 +50,3 @@ pub record Cleared (room : List ℕ) (a b : ℕ) : Type 0 where
 pub record Opened (old now : List ℕ) (i : ℕ) : Type 0 where
   pub kept : (c : ℕ) → c < heads + 2 * i → cell 2 now c ≡ cell 2 old c
   pub cleared : Cleared now (heads + 2 * i) (heads + 2 * (i + 1))
-
--- a table of n tokens
-pub record Tabled (text records : List ℕ) (n : ℕ) : Type 0 where
-  pub values : List ℕ
-  pub tokens : Tokens
-  pub holds : Holds text records values tokens
-  pub count : n ≡ length tokens

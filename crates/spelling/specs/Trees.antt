@@ -5,24 +5,17 @@ use mathlib.Core.Path.{_≡_}
 use mathlib.Core.List.{List}
 use lib.ListN.{length, getD}
 use Rattle.cells.specs.Cells.{cell}
-use Rattle.rules.specs.Limits.{mostTokens}
+use Rattle.room.specs.Spelling.{heads}
 use Rattle.rules.specs.Grammar.Trees.{Tokens}
-use Rattle.table.specs.Words.{NameAt, wordAt}
+use Rattle.records.specs.Words.{NameAt, wordAt}
 
 -- in place of a node's number: there is none
 abbrev pub noNode : ℕ
 noNode = 65535
 
-abbrev pub heads : ℕ
-heads = 256
-
 -- the cell of two bytes that has the left child (b is 0) or the right one (b is 1) of the node n
 abbrev pub childCell : ℕ → ℕ → ℕ
 childCell n b = heads + 2 * n + b
-
--- the bytes of heads and children
-abbrev pub roomSize : ℕ
-roomSize = 2 * (heads + 2 * mostTokens)
 
 -- the hash of the first k letters
 unfoldable pub hashTo : List ℕ → ℕ → ℕ

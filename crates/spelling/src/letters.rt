@@ -1,13 +1,12 @@
 // The letters of a word where it stands in the text: its hash, and its bits.
-use table::words::upper;
+use classes::letters::upper;
+use room::spelling::HEADS;
 ghost use mathlib.Core.Path.{_≡_};
 ghost use Prim.Native.Nat.{_+_, _-_, _/_, _<_, _≤_};
 ghost use lib.ListN.{length, getD};
-ghost use Rattle.table.specs.Holds.{foldedAt};
-ghost use Rattle.spelling.specs.Trees.{heads, hashOf, bitOf};
-
-// The number of heads, and the first cell behind them: that of the children.
-pub const HEADS: usize = 256;
+ghost use Rattle.records.specs.Holds.{foldedAt};
+ghost use Rattle.spelling.specs.Trees.{hashOf, bitOf};
+ghost use Rattle.room.specs.Spelling.{heads};
 
 // The letter k of the n at p, in upper case; 0 behind them.
 fn letter(text: &[u8], p: usize, n: usize, k: usize) -> u8

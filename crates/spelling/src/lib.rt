@@ -10,15 +10,16 @@ use crate::nodes::clear_heads;
 use crate::searching::search;
 use cells::get16;
 use cells::put16;
+use records::fields::kind_at;
+use records::fields::put_link;
 use rules::kinds::NAME;
-use table::records::kind_at;
-use table::records::put_link;
 ghost use Prim.Native.Nat.{_+_, _*_, _≤_};
 ghost use lib.ListN.{length};
-ghost use Rattle.table.specs.Kept.{Kept};
+ghost use Rattle.records.specs.Kept.{Kept};
+ghost use Rattle.records.specs.Holds.{Tabled};
 ghost use Rattle.spelling.specs.Spelled.{Spelled};
-ghost use Rattle.spelling.specs.Trees.{heads, roomSize};
-ghost use Rattle.spelling.specs.Spelling.{SpelledTo, Spelling, Seeking, Cleared, Tabled};
+ghost use Rattle.room.specs.Spelling.{heads, roomSize};
+ghost use Rattle.spelling.specs.Spelling.{SpelledTo, Spelling, Seeking, Cleared};
 
 // Spells the name i, whose children are cleared: as the node that is found, or as a new one.
 fn spell_name(text: &[u8], records: &mut [u8], room: &mut [u8], i: usize)

@@ -1,9 +1,9 @@
 // Where no node stands yet: at the heads, and at the children of a token.
-use crate::letters::HEADS;
 use cells::put16;
+use room::spelling::HEADS;
 ghost use Prim.Native.Nat.{_+_, _*_, _≤_};
 ghost use lib.ListN.{length};
-ghost use Rattle.spelling.specs.Trees.{heads, roomSize};
+ghost use Rattle.room.specs.Spelling.{heads, roomSize};
 ghost use Rattle.spelling.specs.Spelling.{Cleared, Opened};
 
 // In place of a node's number: there is none.

@@ -1,15 +1,15 @@
 // The search for the word of a name among the names before it.
-use crate::letters::HEADS;
 use crate::letters::bit_of;
 use crate::letters::hash_of;
 use crate::nodes::NONE;
 use cells::get16;
-use table::records::place_at;
-use table::records::size_at;
-use table::words::same_word;
+use records::fields::place_at;
+use records::fields::size_at;
+use records::words::same_word;
+use room::spelling::HEADS;
 ghost use Prim.Native.Nat.{_≤_};
 ghost use lib.ListN.{length};
-ghost use Rattle.spelling.specs.Trees.{roomSize};
+ghost use Rattle.room.specs.Spelling.{roomSize};
 ghost use Rattle.spelling.specs.Spelling.{Seeking, Ends};
 
 // The cell at which the search for the word of the name i ends: it has a name of the same word, or none.

@@ -1,5 +1,5 @@
 // Words as numbers, once names are spelled.
-use table::records::link_at;
+use records::fields::link_at;
 ghost use mathlib.Core.Path.{_≡_};
 ghost use Rattle.spelling.specs.Spelled.{TwoSpelled, spelledAlike};
 

@@ -6,22 +6,16 @@ use lib.ListN.{length}
 use Rattle.cells.specs.Cells.{cell}
 use Rattle.rules.specs.Grammar.Trees.{Tokens}
 use Rattle.rules.specs.Limits.{mostTokens}
+use Rattle.room.specs.Bodies.{indexFrom, indexEnd}
 use Rattle.rules.specs.Declarations.{Word}
-use Rattle.table.specs.Holds.{linkCell}
-use Rattle.table.specs.Words.{NameAt, wordAt}
+use Rattle.records.specs.Holds.{linkCell}
+use Rattle.records.specs.Words.{NameAt, wordAt}
 use Rattle.spelling.specs.Spelled.{Spelled}
 
 -- the words of the first `count` names, the last first
 unfoldable pub stackedWords : Tokens → List ℕ → ℕ → List Word
 stackedWords ts room zero = []
 stackedWords ts room (suc k) = wordAt ts (cell 2 room k) ∷ stackedWords ts room k
-
--- the cells of the index, one for each token that may spell a name: the first, and what is behind the last
-abbrev pub indexFrom : ℕ
-indexFrom = 10240
-
-abbrev pub indexEnd : ℕ
-indexEnd = indexFrom + mostTokens
 
 -- the cell for the spelling of the name i, and the position of a stacked name that it has
 abbrev pub indexCell : List ℕ → ℕ → ℕ

@@ -2,15 +2,14 @@
 // looking a name up takes the same time however many are stacked.
 use cells::get16;
 use cells::put16;
-use table::records::link_at;
+use records::fields::link_at;
+use room::bodies::INDEX;
 ghost use mathlib.Core.Path.{_≡_};
 ghost use Prim.Native.Nat.{_<_};
 ghost use Rattle.rules.specs.Faults.Declared.{isKnown};
-ghost use Rattle.table.specs.Words.{wordAt};
-ghost use Rattle.stacks.specs.Stacks.{indexFrom, NameView, stackedWords, FoundAt, Pushed};
-
-// Cell of two bytes: the stack and what else a pass keeps stand before it, and from it on the index, a cell for each spelling.
-const INDEX: usize = 10240;
+ghost use Rattle.records.specs.Words.{wordAt};
+ghost use Rattle.stacks.specs.Stacks.{NameView, stackedWords, FoundAt, Pushed};
+ghost use Rattle.room.specs.Bodies.{indexFrom};
 
 // The position of a stacked name with the spelling of the name i, or `count`. The index has cells of names that are no longer stacked, or that no name
 // has written yet: so it is believed only where it leads to a stacked name with this spelling.

@@ -8,7 +8,7 @@ use Rattle.rules.specs.Declarations.{totalWords}
 use Rattle.rules.specs.Limits.{mostDeclarations}
 use Rattle.laws_orders.specs.Cited.Flat.{Instr, ifI, decodeI, goI, callI, stopI, moveI, Code, pc, halt, broken, return, put, stepM}
 use Rattle.laws_orders.specs.Cited.Flat as flat
-use Rattle.table.specs.Holds.{tokenAt}
+use Rattle.records.specs.Holds.{tokenAt}
 use Rattle.promise.specs.Instructions.{InstructionHolds}
 use Rattle.promise.specs.Reached.{Leads}
 use Rattle.operands.specs.Scene.{Scene, carrierWords, wordsOf}

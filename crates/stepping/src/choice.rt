@@ -1,15 +1,15 @@
 // The alternative of a DECODE that takes a value.
 use patterns::items::matches;
 use patterns::read::item_at;
+use records::fields::inside_at;
+use records::fields::kind_at;
+use records::fields::link_at;
 use rules::kinds::COMMA;
 use rules::kinds::END;
 use rules::kinds::LBRA;
 use rules::kinds::MASKED;
 use rules::kinds::NAME;
 use rules::kinds::OTHERWISE;
-use table::records::inside_at;
-use table::records::kind_at;
-use table::records::link_at;
 ghost use mathlib.Core.Path.{_≡_};
 ghost use Rattle.rules.specs.Selectors.{anyMatches, takes};
 ghost use Rattle.laws_orders.specs.Cited.Flat.{find};

@@ -5,21 +5,21 @@ use evaluation::test;
 use evaluation::transfers::Transferred;
 use evaluation::transfers::transfer;
 use operands::expressions::Evaluated;
+use records::fields::inside_at;
+use records::fields::kind_at;
+use records::fields::link_at;
+use records::fields::place16_at;
 use rules::kinds::DECODE;
 use rules::kinds::IF;
 use rules::kinds::LPAR;
 use rules::kinds::NAME;
 use rules::kinds::STOP;
-use table::records::inside_at;
-use table::records::kind_at;
-use table::records::link_at;
-use table::records::place16_at;
 ghost use mathlib.Core.Path.{_≡_};
 ghost use mathlib.Core.List.{List};
 ghost use Prim.Native.Nat.{ℕ, _+_, _≤_};
 ghost use lib.ListN.{length};
 ghost use Rattle.rules.specs.Text.Tokens.{IF, DECODE, Name, LPar, kindNo};
-ghost use Rattle.table.specs.Holds.{kindByte};
+ghost use Rattle.records.specs.Holds.{kindByte};
 ghost use Rattle.stepping.specs.Steps.{StepAt, StepAnswer};
 
 // Where a step leads: by a link (0 for out of the body), into a body with the link behind the activation, to a STOP, or to a fault.

@@ -5,7 +5,7 @@ use mathlib.Core.List.{List, [], _∷_}
 use lib.ListN.{length, drop}
 use Rattle.rules.specs.Text.Tokens.{Less, Token}
 use Rattle.rules.specs.Grammar.Trees.{Tokens, Bits, all-bits, bits, named, MainBits, bitless, main-bits, mainBitsTokens}
-use Rattle.table.specs.Holds.{Holds}
+use Rattle.records.specs.Holds.{Holds}
 
 abbrev pub bitsSize : MainBits → ℕ
 bitsSize b = length (mainBitsTokens b [])

@@ -9,7 +9,7 @@ use Rattle.rules.specs.Grammar.Trees.{Tokens, actionTokens, membersTokens}
 use Rattle.rules.specs.Grammar.Trees.{formTokens, mainBitsTokens, Declaration, plain, main}
 use Rattle.rules.specs.Grammar.Trees.{Declarations, declared-all, declared-also, declarationsTokens, Description, description}
 use Rattle.rules.specs.Declarations.{declaredOf, restOf, declarations}
-use Rattle.table.specs.Holds.{tokenAt}
+use Rattle.records.specs.Holds.{tokenAt}
 
 -- a declaration from its name on
 abbrev pub nameTokens : Declaration → Tokens → Tokens

@@ -1,11 +1,8 @@
 -- The laws of the token table.
-pub mod Kept
 pub mod Operators
 pub mod Kth
 pub mod Scans
 pub mod Positions
-pub mod Words
 pub mod Bits
 pub mod Views
 pub mod Lookups
-pub mod Keys

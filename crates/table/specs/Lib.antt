@@ -1,16 +1,11 @@
-pub mod Holds
-pub mod Words
 pub mod Bits
 pub mod Shown
 pub mod Declarations
 pub mod Views
 pub mod Lookups
-pub mod Keys
 pub mod Meaning
 pub mod Ready
-pub mod Kept
 pub mod Operators
 pub mod Scans
-pub mod Room
 pub mod Kth
 pub mod Laws

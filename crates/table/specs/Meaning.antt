@@ -9,7 +9,7 @@ use Rattle.rules.specs.Text.Tokens.{Name}
 use Rattle.rules.specs.Text.Scan.{sameBytes}
 use Rattle.rules.specs.Grammar.Trees.{Tokens}
 use Rattle.rules.specs.Declarations.{Word, Table, numberOf}
-use Rattle.table.specs.Holds.{insideCell, tokenAt}
+use Rattle.records.specs.Holds.{insideCell, tokenAt}
 
 -- a name that is not declared: the outer name, or unknown
 abbrev pub outerOnly : ℕ

@@ -4,11 +4,11 @@ use mathlib.Core.Path.{_≡_}
 use mathlib.Core.List.{List, []}
 use lib.ListN.{length}
 use Rattle.rules.specs.Grammar.Trees.{Tokens, Description, flatten}
-use Rattle.rules.specs.Declarations.{declarations, outerName}
+use Rattle.rules.specs.Declarations.{Word, Table, declarations, outerName}
 use Rattle.rules.specs.Faults.Declared.{faults30}
 use Rattle.rules.specs.Limits.{mostDeclarations, deepest}
 use Rattle.laws_grammar.specs.Cited.Nesting.{nest}
-use Rattle.table.specs.Holds.{Holds}
+use Rattle.records.specs.Holds.{Holds}
 use Rattle.table.specs.Declarations.{declarationList}
 use Rattle.table.specs.Lookups.{DeclsHold}
 use Rattle.table.specs.Meaning.{MeaningHolds}
@@ -22,3 +22,16 @@ pub record Ready (text records values decls : List ℕ) (ts : Tokens) (d : Descr
   pub few : m ≤ mostDeclarations
   pub means : MeaningHolds records ts (outerName d .word) (declarations d)
   pub lawful : faults30 (outerName d .word) (declarations d) ≡ []
+
+-- a description whose declarations are passed, in a table that has m of them
+pub record Scene (records values decls : List ℕ) (m : ℕ) : Type 0 where
+  pub text : List ℕ
+  pub tokens : Tokens
+  pub description : Description
+  pub ready : Ready text records values decls tokens description m
+
+abbrev pub outerOf : {records values decls : List ℕ} {m : ℕ} → Scene records values decls m → Word
+outerOf s = outerName (s .description) .word
+
+abbrev pub tableOf : {records values decls : List ℕ} {m : ℕ} → Scene records values decls m → Table
+tableOf s = declarations (s .description)

@@ -8,7 +8,7 @@ use Rattle.rules.specs.Text.Tokens.{Name, Const, LBra, RBra, Less, Colon, MAIN,
 use Rattle.rules.specs.Grammar.Trees.{Tokens, Action, body, meaningTokens, Given, carrier, given, words, with-bits, bare-body, MainBits, mainBitsTokens, Declaration, plain, main, declarationsTokens}
 use Rattle.rules.specs.Declarations.{these, Target, mainNames}
 use Rattle.laws_grammar.specs.Cited.Positions.{ActionAt}
-use Rattle.table.specs.Holds.{tokenAt, Holds}
+use Rattle.records.specs.Holds.{tokenAt, Holds}
 use Rattle.table.specs.Declarations.{DeclaredAt}
 
 -- a declaration's name is the token i of a table

@@ -1,9 +1,5 @@
-// The token table as the reader sees it: a record and a value for each token, the words of names, declarations, and keys of faults.
-pub mod keys;
+// The token table as the reader sees it: declarations, what names mean, operators, and walks over tokens.
 pub mod meanings;
 pub mod operators;
-pub mod records;
-pub mod room;
 pub mod scans;
 pub mod views;
-pub mod words;

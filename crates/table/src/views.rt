@@ -1,6 +1,6 @@
 // A declaration whose name is the token i, seen by tokens at fixed distances from it.
-use crate::records::kind_at;
-use crate::records::value_at;
+use records::fields::kind_at;
+use records::fields::value_at;
 use rules::kinds::BECOMES;
 use rules::kinds::BEGIN;
 use rules::kinds::COLON;

@@ -1,5 +1,5 @@
 -- Which way a step took shows in the flat machine's stack: in the same body the stack stays, out of the body it is shorter.
-use Prim.Native.Nat.{ℕ, zero, suc, _<_}
+use Prim.Native.Nat.{ℕ, zero, suc}
 use mathlib.Core.Path.{_≡_, refl, sym, _∙_, ap, subst}
 use mathlib.Core.Bool.{Bool, true, false}
 use mathlib.Core.List.{List, [], _∷_}
@@ -23,10 +23,6 @@ stays : (l : Link) (σ : List ℕ) (n : ℕ) (σ′ : List ℕ) → go l σ ≡ 
 stays (at g) σ n σ′ e q = let x : g ≡ n = cc in ap at x
 stays exit [] n σ′ e q = impossible (cc)
 stays exit (m ∷ σ) n σ′ e q = let x : σ ≡ σ′ = cc in impossible (omega (arith, q, ap length x))
-
-returns : (l : Link) (σ : List ℕ) (n : ℕ) (σ′ : List ℕ) → go l σ ≡ pc n σ′ → length σ′ < length σ → l ≡ exit
-returns (at g) σ n σ′ e q = let x : σ ≡ σ′ = cc in impossible (omega (arith, q, ap length x))
-returns exit σ n σ′ e q = refl
 
 leaves : (l : Link) (σ : List ℕ) → go l σ ≡ over → l ≡ exit
 leaves (at g) σ e = impossible (cc)

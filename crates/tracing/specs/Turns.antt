@@ -12,7 +12,8 @@ use Rattle.runner.specs.Runs.{stackOf}
 use Rattle.telling.specs.Cited.Passing.{Grouping}
 use Rattle.telling.specs.Cited.Tracing.{nextT, groupsOf, Stepped, stepT}
 use Rattle.matching.specs.Matching.{toldAll}
-use Rattle.matching.specs.Room.{mostGroups, matchingIn, Sound, Stands}
+use Rattle.matching.specs.Room.{matchingIn, Sound, Stands}
+use Rattle.room.specs.Trace.{mostGroups}
 use Rattle.passing.specs.Ways.{groupingIn}
 use Rattle.passing.specs.Depth.{depthAfter}
 use Rattle.turning.specs.declared.ways.Turned.{Turned}

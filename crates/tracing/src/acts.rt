@@ -1,12 +1,12 @@
 // The step of one instruction, whose stores are told.
 use evaluation::transfers::Transferred;
+use records::fields::kind_at;
+use records::fields::link_at;
 use rules::kinds::LPAR;
 use rules::kinds::NAME;
 use stepping::steps::Moved;
 use stepping::steps::step;
 use storing::transfers::transfer;
-use table::records::kind_at;
-use table::records::link_at;
 ghost use mathlib.Core.Path.{_≡_};
 ghost use mathlib.Core.List.{List};
 ghost use Prim.Native.Nat.{ℕ, _+_, _*_, _≤_};
@@ -14,7 +14,7 @@ ghost use lib.ListN.{length};
 ghost use Rattle.rules.specs.Text.Tokens.{Name, LPar, kindNo};
 ghost use Rattle.rules.specs.Limits.{mostWords};
 ghost use Rattle.rules.specs.Entries.{entriesIn};
-ghost use Rattle.table.specs.Holds.{kindByte};
+ghost use Rattle.records.specs.Holds.{kindByte};
 ghost use Rattle.stepping.specs.Steps.{StepAt};
 ghost use Rattle.matching.specs.Room.{Sound};
 ghost use Rattle.tracing.specs.Acts.{ActTold};

@@ -7,7 +7,7 @@ use lib.ListN.{length, getD}
 use Rattle.rules.specs.Stores.{Entry}
 use Rattle.laws_orders.specs.Cited.Flat.{Link, at, exit, Code, pc, over, halt, broken}
 use Rattle.laws_orders.specs.Cited.Flat as flat
-use Rattle.table.specs.Holds.{linkCell}
+use Rattle.records.specs.Holds.{linkCell}
 use Rattle.promise.specs.Instructions.{linkNo}
 use Rattle.stepping.specs.declared.steps.Moved.{Moved}
 use Rattle.stepping.specs.declared.steps.Moved.the-variants.{Go, Call, Stop, Fault}
@@ -15,7 +15,8 @@ use Rattle.runner.specs.Runs.{stackOf}
 use Rattle.telling.specs.Cited.Passing.{Grouping, groupEvent, passage}
 use Rattle.telling.specs.Cited.Tracing.{Told, told, linkOf, follow}
 use Rattle.matching.specs.Matching.{toldAll}
-use Rattle.matching.specs.Room.{mostGroups, matchingIn, Sound, Stands}
+use Rattle.matching.specs.Room.{matchingIn, Sound, Stands}
+use Rattle.room.specs.Trace.{mostGroups}
 use Rattle.passing.specs.Ways.{groupingIn}
 use Rattle.passing.specs.Depth.{depthAfter}
 use Rattle.turning.specs.declared.ways.Turned.{Turned}

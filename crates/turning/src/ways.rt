@@ -2,8 +2,8 @@
 use passing::enter;
 use passing::leave;
 use passing::pass;
+use records::fields::link_at;
 use stepping::steps::Moved;
-use table::records::link_at;
 ghost use Prim.Native.Nat.{_<_};
 ghost use lib.ListN.{length};
 ghost use Rattle.telling.specs.Cited.Tracing.{return};

@@ -5,9 +5,10 @@ use mathlib.Core.List.{List}
 use lib.ListN.{length, drop}
 use Rattle.cells.specs.Cells.{cell}
 use Rattle.rules.specs.Declarations.{Word}
+use Rattle.rules.specs.Limits.{mostDeclarations}
 use Rattle.bounds.specs.Cited.Counts.{endless}
-use Rattle.table.specs.Holds.{kindByte}
-use Rattle.table.specs.Words.{wordAt}
+use Rattle.records.specs.Holds.{kindByte}
+use Rattle.records.specs.Words.{wordAt}
 use Rattle.reading.specs.Kinds.{nextNo}
 use Rattle.reading.specs.Indexes.{indexOf}
 use Rattle.reading.specs.Reading.{Reading, tableOf}
@@ -17,7 +18,7 @@ use Rattle.counting.specs.declared.counts.Nest.{Nest}
 
 -- the bytes of a table of counts
 abbrev pub tableSize : ℕ
-tableSize = 2056
+tableSize = 8 * (mostDeclarations + 1)
 
 -- a description, and the count of each of its bodies
 pub record Scene (records table : List ℕ) (m n : ℕ) : Type 0 where

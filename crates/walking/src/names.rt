@@ -9,7 +9,7 @@ ghost use mathlib.Core.Path.{_≡_};
 ghost use mathlib.Core.List.{List};
 ghost use Prim.Native.Nat.{ℕ, _+_};
 ghost use Rattle.rules.specs.Text.Tokens.{Name, kindNo};
-ghost use Rattle.table.specs.Holds.{kindByte};
+ghost use Rattle.records.specs.Holds.{kindByte};
 ghost use Rattle.walking.specs.Walking.{Acting, Named, Activates};
 
 // The activation of the name i: its own step, and those of its body.

@@ -13,7 +13,7 @@ use rules::kinds::COMMA;
 use rules::kinds::END;
 use rules::kinds::NAME;
 ghost use mathlib.Core.Path.{_≡_};
-ghost use Rattle.table.specs.Holds.{kindByte};
+ghost use Rattle.records.specs.Holds.{kindByte};
 ghost use Rattle.walking.specs.Walking.{Acting, Acted};
 
 // The token i, of this kind.

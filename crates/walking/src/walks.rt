@@ -2,7 +2,7 @@
 use crate::steps::step;
 use counting::counts::Nest;
 use reading::kinds::mode;
-use table::records::kind_at;
+use records::fields::kind_at;
 ghost use Rattle.walking.specs.Going.{Beginning, Walked};
 
 // The count of the body at `from`.

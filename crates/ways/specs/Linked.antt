@@ -8,7 +8,7 @@ use Rattle.laws_orders.specs.Cited.Flat.{Link, at, Labels, bind, leaveTo, resta
 use Rattle.laws_code.specs.Cited.Code.{size, actionSize, selectorSize, firstOf, behind, target, behindTest}
 use Rattle.table.specs.Meaning.{meaningOf}
 use Rattle.promise.specs.Instructions.{linkNo}
-use Rattle.table.specs.Holds.{insideCell, linkCell}
+use Rattle.records.specs.Holds.{insideCell, linkCell}
 
 -- how many tokens stand between the first name of a destination and its `=`
 abbrev pub destinationSize : Subscript → Bits → Joined → ℕ

@@ -7,9 +7,9 @@ use lib.ListN.{drop}
 use Rattle.rules.specs.Text.Tokens.{Info}
 use Rattle.rules.specs.Grammar.Trees.{Tokens, Operand, Tail, Action, block, labelled, if-then, decode, repeat, leave, restart, activate, stop, no-op, transfer, actionTokens}
 use Rattle.laws_code.specs.Cited.Code.{actionSize, firstOf, behindTest}
-use Rattle.table.specs.Holds.{insideCell, linkCell}
+use Rattle.records.specs.Holds.{insideCell, linkCell}
 use Rattle.ways.specs.Seeking.{Ground, Stands}
-use Rattle.table.specs.Kept.{Kept}
+use Rattle.records.specs.Kept.{Kept}
 use Rattle.ways.specs.Linked.{Linked, Same}
 use Rattle.ways.specs.Stack.{LabelsKept}
 use Rattle.ways.specs.Standing.{ActionAt}

@@ -8,9 +8,9 @@ use Rattle.rules.specs.Text.Tokens.{Token}
 use Rattle.rules.specs.Text.Scan.{sameBytes}
 use Rattle.rules.specs.Grammar.Trees.{Tokens, Action, actionTokens}
 use Rattle.rules.specs.Declarations.{Word, Table}
-use Rattle.table.specs.Holds.{Holds}
+use Rattle.records.specs.Holds.{Holds}
 use Rattle.table.specs.Scans.{scan}
-use Rattle.table.specs.Words.{NameAt, wordAt}
+use Rattle.records.specs.Words.{NameAt, wordAt}
 
 -- what stays as it is while links are written; names with the same word have the same spelling
 pub record Ground : Type 0 where

@@ -1,6 +1,6 @@
 -- The labels around an action as they stand in a buffer, and what is found there for a jump. Behind the labels stand hints, one for each spelling: of the
 -- labels with a spelling none stands above the one that the hint leads to.
-use Prim.Native.Nat.{ℕ, suc, _+_, _*_, _%_, _<_, _≤_}
+use Prim.Native.Nat.{ℕ, suc, _+_, _*_, _<_, _≤_}
 use mathlib.Core.Path.{_≡_}
 use mathlib.Core.Bool.{true, false, cond}
 use mathlib.Core.List.{List}
@@ -8,26 +8,13 @@ use lib.Dec.{eqb}
 use lib.ListN.{length}
 use Rattle.cells.specs.Cells.{cell}
 use Rattle.rules.specs.Text.Scan.{sameBytes}
-use Rattle.rules.specs.Limits.{mostTokens}
+use Rattle.room.specs.Links.{hintsFrom, hintCell, mostLabels, hintsEnd}
 use Rattle.rules.specs.Declarations.{Word}
 use Rattle.laws_orders.specs.Cited.Flat.{Link, Labels, outer, bind}
-use Rattle.table.specs.Holds.{linkCell}
-use Rattle.table.specs.Words.{NameAt, wordAt}
+use Rattle.records.specs.Holds.{linkCell}
+use Rattle.records.specs.Words.{NameAt, wordAt}
 use Rattle.promise.specs.Instructions.{linkNo}
 use Rattle.ways.specs.Seeking.{Ground, Stands}
-
--- how many labels there may be, in three cells each; the first cell of the hints, and what is behind the last
-abbrev pub mostLabels : ℕ
-mostLabels = 4096
-
-abbrev pub hintsFrom : ℕ
-hintsFrom = 3 * mostLabels
-
-abbrev pub hintsEnd : ℕ
-hintsEnd = hintsFrom + mostTokens
-
-abbrev pub hintCell : ℕ → ℕ
-hintCell spelling = hintsFrom + spelling % mostTokens
 
 -- the label number j has this name, begins there and goes on there, and its hint leads to it or above it
 pub record Labelled (labels : List ℕ) (g : Ground) (j : ℕ) (l : Word) (f : ℕ) (k : Link) : Type 0 where

@@ -9,15 +9,16 @@ use Rattle.rules.specs.Grammar.Trees.{Tokens, Action, actionTokens}
 use Rattle.laws_grammar.specs.Cited.Nesting.{actionNest}
 use Rattle.laws_orders.specs.Cited.Flat.{Link, Labels}
 use Rattle.laws_code.specs.Cited.Code.{actionSize, firstOf}
-use Rattle.table.specs.Holds.{tokenAt, insideCell, linkCell}
-use Rattle.table.specs.Words.{wordAt}
+use Rattle.records.specs.Holds.{tokenAt, insideCell, linkCell}
+use Rattle.records.specs.Words.{wordAt}
 use Rattle.table.specs.Meaning.{meaningOf}
 use Rattle.promise.specs.Instructions.{linkNo}
 use Rattle.table.specs.Scans.{no, separates}
 use Rattle.ways.specs.Seeking.{Ground, Stands}
-use Rattle.table.specs.Kept.{Kept}
+use Rattle.records.specs.Kept.{Kept}
 use Rattle.ways.specs.Linked.{Linked}
-use Rattle.ways.specs.Stack.{hintsEnd, LabelsHold, LabelsKept}
+use Rattle.ways.specs.Stack.{LabelsHold, LabelsKept}
+use Rattle.room.specs.Links.{hintsEnd}
 
 -- the names from the token i on have their meanings and their spellings
 abbrev pub Meant : Ground → List ℕ → ℕ → Type 0

@@ -11,9 +11,9 @@ use Rattle.rules.specs.Declarations.{Word, Table}
 use Rattle.laws_grammar.specs.Cited.Nesting.{countedNest, selectedMoreNest}
 use Rattle.laws_orders.specs.Cited.Flat.{Link, Labels}
 use Rattle.laws_code.specs.Cited.Code.{actionSize, selectorSize, firstOf}
-use Rattle.table.specs.Holds.{insideCell, linkCell}
+use Rattle.records.specs.Holds.{insideCell, linkCell}
 use Rattle.ways.specs.Seeking.{Ground, Stands}
-use Rattle.table.specs.Kept.{Kept}
+use Rattle.records.specs.Kept.{Kept}
 use Rattle.ways.specs.Linked.{Linked, CountedLinked, MoreLinked, Separates}
 
 -- what stands before the action: nothing, a selector and `:=`, or OTHERWISE and `:=`

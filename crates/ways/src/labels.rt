@@ -3,25 +3,24 @@
 // have different words, so it finds its own at once.
 use cells::get16;
 use cells::put16;
+use records::fields::link_at;
+use records::words::same_word;
+use room::links::HINTS;
 use rules::limits::MOST_TOKENS;
-use table::records::link_at;
-use table::words::same_word;
 ghost use mathlib.Core.Path.{_≡_};
 ghost use mathlib.Core.List.{List};
 ghost use Prim.Native.Nat.{ℕ, _+_, _*_, _<_, _≤_};
 ghost use lib.ListN.{length};
-ghost use Rattle.table.specs.Holds.{linkCell};
-ghost use Rattle.table.specs.Words.{wordAt};
+ghost use Rattle.records.specs.Holds.{linkCell};
+ghost use Rattle.records.specs.Words.{wordAt};
 ghost use Rattle.ways.specs.Seeking.{Ground};
-ghost use Rattle.ways.specs.Stack.{mostLabels, hintsFrom, hintsEnd, hintCell, Entered, Pushed, JumpAt, Looking, aims};
+ghost use Rattle.ways.specs.Stack.{Entered, Pushed, JumpAt, Looking, aims};
+ghost use Rattle.room.specs.Links.{mostLabels, hintsFrom, hintsEnd, hintCell, roomSize};
 
 // Where a label begins, and where control goes behind it, in its entry.
 pub const START: usize = 1;
 
 pub const BEHIND: usize = 2;
-
-// Cell of two bytes: the labels' entries stand before it, and from it on the hints, a cell for each spelling.
-const HINTS: usize = 12288;
 
 // The cell of the hint for the name i.
 fn hint_cell(records: &[u8], i: usize) -> usize
@@ -44,7 +43,7 @@ fn enter(labels: &mut [u8], n: usize, p: usize, first: usize, link: usize)
 
 // The label number n: its name is the token p.
 pub fn push(records: &[u8], labels: &mut [u8], n: usize, p: usize, first: usize, link: usize)
-    requires { ⌜ (n < mostLabels) × (2 * hintsEnd ≤ length (now labels)) × (8 * p + 8 ≤ length (now records)) × (p < 65536) × (first < 65536) × (link < 65536) ⌝ }
+    requires { ⌜ (n < mostLabels) × (roomSize ≤ length (now labels)) × (8 * p + 8 ≤ length (now records)) × (p < 65536) × (first < 65536) × (link < 65536) ⌝ }
     ensures { λ _. ⌜ Pushed (now (records .entry)) (now (labels .entry)) (now (labels .exit)) n p first link ⌝ }
 {
     let hint = hint_cell(records, p);

@@ -2,14 +2,14 @@
 use crate::labels::push;
 use crate::scans::first_of;
 use crate::scans::seek;
+use records::fields::kind_at;
+use records::fields::put_inside;
+use records::fields::put_link;
 use rules::kinds::ARROW;
 use rules::kinds::BECOMES;
 use rules::kinds::IF;
 use rules::kinds::NAME;
 use rules::kinds::REPEAT;
-use table::records::kind_at;
-use table::records::put_inside;
-use table::records::put_link;
 ghost use mathlib.Core.Path.{_≡_};
 ghost use mathlib.Core.Bool.{true, false};
 ghost use Prim.Native.Nat.{ℕ, _+_, _<_};

@@ -1,8 +1,8 @@
 // Searches along the tokens: for the end of an action, for a mark at its own depth, for the first instruction of an action.
+use records::fields::kind_at;
 use rules::kinds::BECOMES;
 use rules::kinds::BEGIN;
 use rules::kinds::NAME;
-use table::records::kind_at;
 use table::scans::deeper;
 use table::scans::halts;
 ghost use mathlib.Core.Path.{_≡_};

@@ -1,14 +1,14 @@
 // The separators of the alternatives of a DECODE: its BEGIN and each `,` lead inside to the alternative, and behind to the next separator.
 use crate::scans::first_of;
 use crate::scans::seek;
+use records::fields::kind_at;
+use records::fields::put_inside;
+use records::fields::put_link;
 use rules::kinds::BECOMES;
 use rules::kinds::CONST;
 use rules::kinds::LBRA;
 use rules::kinds::MASKED;
 use rules::kinds::OTHERWISE;
-use table::records::kind_at;
-use table::records::put_inside;
-use table::records::put_link;
 use table::scans::SEPARATOR;
 ghost use mathlib.Core.Path.{_≡_};
 ghost use Rattle.ways.specs.Seeking.{Ground};

@@ -7,7 +7,7 @@ use Rattle.rules.specs.Text.Tokens.{tk, opKind}
 use Rattle.rules.specs.Grammar.Trees.{Tokens}
 use Rattle.rules.specs.Faults.Bodies.{Judged}
 use Rattle.laws_grammar.specs.Cited.Shunting.{Waiting}
-use Rattle.table.specs.Holds.{tokenAt}
+use Rattle.records.specs.Holds.{tokenAt}
 use Rattle.weighing.specs.Weights.{Weighs}
 
 -- an operator that waits: its token is `at`, and its left operand weighs so

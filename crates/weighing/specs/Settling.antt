@@ -7,7 +7,7 @@ use Rattle.rules.specs.Grammar.Trees.{Tokens}
 use Rattle.rules.specs.Grammar.Precedence.{Factor}
 use Rattle.rules.specs.Faults.Bodies.{Judged}
 use Rattle.laws_grammar.specs.Cited.Shunting.{Waiting, looser, settled}
-use Rattle.table.specs.Holds.{Holds}
+use Rattle.records.specs.Holds.{Holds}
 use Rattle.weighing.specs.Weights.{Weighs, operated}
 use Rattle.weighing.specs.Chains.{Wait}
 

@@ -6,7 +6,7 @@ use Rattle.rules.specs.Text.Tokens.{Info, Op}
 use Rattle.rules.specs.Values.{opBits}
 use Rattle.rules.specs.Limits.{mostBits}
 use Rattle.rules.specs.Faults.Bodies.{Judged, judgedAs, over}
-use Rattle.table.specs.Keys.{noKey, leastKey, Smalls}
+use Rattle.keys.specs.Keys.{noKey, leastKey, Smalls}
 
 -- its faults have keys, its length fits, and is 0 just where it has a fault
 pub record Fine (j : Judged) : Type 0 where

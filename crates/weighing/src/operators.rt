@@ -1,12 +1,12 @@
 // Operators: how tightly they bind, what they make of their operands, and those that wait.
 use crate::Weight;
+use keys::NO_KEY;
+use keys::earlier;
+use keys::fault_key;
+use records::fields::kind_at;
+use records::fields::place_at;
 use rules::limits::MOST_BITS;
-use table::keys::NO_KEY;
-use table::keys::earlier;
-use table::keys::fault_key;
 use table::operators::tightness_of;
-use table::records::kind_at;
-use table::records::place_at;
 use values::operate_bits;
 ghost use mathlib.Core.Path.{_≡_};
 ghost use Prim.Native.Nat.{_≤_};

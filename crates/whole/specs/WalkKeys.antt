@@ -4,11 +4,11 @@ use mathlib.Core.Path.{_≡_}
 use mathlib.Core.List.{List, []}
 use mathlib.Core.Option.{none, some}
 use lib.ListN.{length, getElem?, take, drop}
-use Rattle.table.specs.Room.{labelsFrom}
+use Rattle.room.specs.Whole.{labelsFrom, roomSize}
 use Rattle.rules.specs.Declarations.{Declared}
 use Rattle.rules.specs.Faults.Whole.{Scope, bodyGroups}
-use Rattle.table.specs.Holds.{kindByte, tokenAt}
-use Rattle.table.specs.Keys.{leastNumberKey}
+use Rattle.records.specs.Holds.{kindByte, tokenAt}
+use Rattle.keys.specs.Keys.{leastNumberKey}
 use Rattle.gathering.specs.Filling.{Complete}
 use Rattle.scopes.specs.Walks.{walk, faultsAt}
 use Rattle.scopes.specs.Labels.{Labelled, Scoped}
@@ -23,7 +23,7 @@ labelsOf room = drop labelsFrom room
 
 pub record Roomy (records decls room : List ℕ) (m n : ℕ) : Type 0 where
   pub complete : Complete records decls (memoOf room) m n
-  pub size : 51200 ≤ length room
+  pub size : roomSize ≤ length room
 
 -- what is gathered stays
 pub record SameMemo (old new : List ℕ) : Type 0 where

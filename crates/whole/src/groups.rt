@@ -3,22 +3,23 @@ use gathering::memory::Touched;
 use gathering::memory::nothing;
 use gathering::touches::joined;
 use gathering::touches::passed;
+use keys::NO_KEY;
+use keys::earlier;
+use keys::number_key;
 use reading::bits::meets;
 use reading::bits::union;
 use reading::kinds::end_of;
 use reading::kinds::kind_of;
+use records::fields::place_at;
 use rules::kinds::SEMI;
-use table::keys::NO_KEY;
-use table::keys::earlier;
-use table::keys::number_key;
-use table::records::place_at;
 ghost use mathlib.Core.Path.{_≡_};
 ghost use mathlib.Core.List.{_++_};
 ghost use Prim.Native.Nat.{_*_, _≤_};
 ghost use lib.ListN.{length, drop};
 ghost use Rattle.rules.specs.Whole.Sets.{Sets, race};
 ghost use Rattle.rules.specs.Faults.Fault.{when};
-ghost use Rattle.table.specs.Keys.{leastNumberKey};
+ghost use Rattle.rules.specs.Limits.{longestText};
+ghost use Rattle.keys.specs.Keys.{leastNumberKey};
 ghost use Rattle.reading.specs.Reading.{Reading, Kinded, tableOf};
 ghost use Rattle.gathering.specs.Filling.{Complete};
 ghost use Rattle.reading.specs.Groups.{placeOf, more, groupAt};
@@ -41,7 +42,7 @@ pub fn races(u: Touched, t: Touched) -> bool
 
 // The least key of 52 and 53 of a member at its place, behind others that touch u.
 fn member_key(u: Touched, own: Touched, place: usize) -> u32
-    requires { ⌜ place ≤ 32768 ⌝ }
+    requires { ⌜ place ≤ longestText ⌝ }
     ensures { λ r. ⌜ ((a b : Sets) → Holding (u .reads .w) (u .writes .w) a → Holding (own .reads .w) (own .writes .w) b
         → r ≡ leastNumberKey (when (own .stops) 52 place ++ when (race a b) 53 place)) ⌝ }
 {
@@ -57,7 +58,7 @@ fn member_key(u: Touched, own: Touched, place: usize) -> u32
 // The place of the token i, of n.
 pub fn place_of(records: &[u8], decls: &[u8], m: usize, n: usize, i: usize) -> usize
     requires { ⌜ Reading (now records) (now decls) m n ⌝ }
-    ensures { λ r. ⌜ (r ≤ 32768) × ((v : Reading (now (records .entry)) (now (decls .entry)) m n) → r ≡ placeOf (drop i (v .tokens))) ⌝ }
+    ensures { λ r. ⌜ (r ≤ longestText) × ((v : Reading (now (records .entry)) (now (decls .entry)) m n) → r ≡ placeOf (drop i (v .tokens))) ⌝ }
 {
     if i < n {
         return place_at(records, i);

@@ -1,22 +1,23 @@
 // The bodies, each from its first token to its last: the least key of its groups and of its jumps.
 use crate::groups::Group;
 use crate::groups::group_at;
+use keys::NO_KEY;
+use keys::earlier;
 use reading::bodies::body_at;
 use reading::kinds::closes;
+use records::fields::kind_at;
+use room::whole::LABELS_BYTE;
 use rules::kinds::BEGIN;
 use rules::kinds::NEXT;
 use scopes::labels::jump_key;
 use scopes::scopes::Nest;
 use scopes::scopes::turn;
-use table::keys::NO_KEY;
-use table::keys::earlier;
-use table::records::kind_at;
-use table::room::LABELS;
 ghost use mathlib.Core.Path.{_≡_};
 ghost use Prim.Native.Nat.{_<_, _≤_};
 ghost use lib.ListN.{length};
 ghost use Rattle.rules.specs.Faults.Whole.{groupsFaults};
-ghost use Rattle.table.specs.Keys.{leastNumberKey};
+ghost use Rattle.keys.specs.Keys.{leastNumberKey};
+ghost use Rattle.room.specs.Whole.{roomSize};
 ghost use Rattle.scopes.specs.Walks.{opens};
 ghost use Rattle.scopes.specs.Frames.{Told, Turning};
 ghost use Rattle.whole.specs.Written.{Written, whole};
@@ -52,10 +53,20 @@ fn fault_at(
         × Told (now (records .entry)) n i kind (r .several) ⌝ }
 {
     if opens(kind) {
-        return group_at(records, decls, &room[..LABELS], m, n, i + 1);
+        return group_at(records, decls, &room[..LABELS_BYTE], m, n, i + 1);
     }
     Group {
-        key: jump_key(text, records, &room[LABELS..], n, i, kind, base, top, known),
+        key: jump_key(
+            text,
+            records,
+            &room[LABELS_BYTE..],
+            n,
+            i,
+            kind,
+            base,
+            top,
+            known,
+        ),
         several: false,
     }
 }
@@ -73,13 +84,13 @@ fn turn_in(
     base: usize,
     top: usize,
 ) -> Nest
-    requires { ⌜ Turning (now text) (now records) (labelsOf (now room)) n i kind several depth base top × (51200 ≤ length (now room)) ⌝ }
+    requires { ⌜ Turning (now text) (now records) (labelsOf (now room)) n i kind several depth base top × (roomSize ≤ length (now room)) ⌝ }
     ensures { λ r. ⌜ TurnedIn (now (text .entry)) (now (records .entry)) (now (room .entry)) (now (room .exit)) n i depth base top (r .depth) (r .base) (r .top) ⌝ }
 {
     turn(
         text,
         records,
-        &mut room[LABELS..],
+        &mut room[LABELS_BYTE..],
         n,
         i,
         kind,

@@ -16,7 +16,7 @@ use Rattle.rules.specs.Faults.Fault.{Fault, when}
 use Rattle.rules.specs.Faults.Declared.{large, largeBits, largeWords, tooMany, twice, badMapping, mappings, faults30}
 use Rattle.table.specs.Kth.{map-found}
 use Rattle.table.specs.Laws.Kth.{table-length}
-use Rattle.table.specs.Holds.{tokenAt, insideCell}
+use Rattle.records.specs.Holds.{tokenAt, insideCell}
 use Rattle.table.specs.Declarations.{DeclaredAt, declarationList, all-declared}
 use Rattle.table.specs.Views.{View}
 use Rattle.table.specs.Meaning.{meaningBy, meaningOf, outerOnly, unknownName}

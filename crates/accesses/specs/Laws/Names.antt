@@ -16,8 +16,8 @@ use Rattle.rules.specs.Grammar.Precedence.{Index, no-index, index}
 use Rattle.rules.specs.Declarations.{Names as Span-of, BitNames, one-unnamed, these, mainNames, declaredOf, numberOf}
 use Rattle.rules.specs.Faults.Fault.{fault, when}
 use Rattle.rules.specs.Faults.Bodies.{Judged, judgedAs, soundBits, accessJudged, subscripted, judgeName, judgeAccess}
-use Rattle.table.specs.Holds.{tokenAt, placeCell, insideCell}
-use Rattle.table.specs.Keys.{key, noKey, leastBy, Small, none-small, also-small}
+use Rattle.records.specs.Holds.{tokenAt, placeCell, insideCell}
+use Rattle.keys.specs.Keys.{key, noKey, leastBy, Small, none-small, also-small}
 use Rattle.table.specs.Meaning.{meaningBy, outerOnly, unknownName}
 use Rattle.table.specs.Laws.Positions.{record-within, behind-far}
 use Rattle.table.specs.Bits.{BitsView, bitsSize, accessBits}

@@ -33,8 +33,8 @@ use Rattle.choices.proofs.selected_fault.Reads as selected-fault-reads
 use Rattle.plain.proofs.prefixes.prefixes.Reads as prefixes-reads
 use Rattle.plain.proofs.simple.simple.Reads as simple-reads
 use Rattle.expressions.proofs.judge.expression.Reads as expression-reads
-use Rattle.table.proofs.keys.earlier.Reads as earlier-reads
-use Rattle.table.proofs.records.kind_at.Reads as kind-at-reads
+use Rattle.keys.proofs.earlier.Reads as earlier-reads
+use Rattle.records.proofs.fields.kind_at.Reads as kind-at-reads
 use Rattle.actions.proofs.+action+block+counted+decode+selected.{statement}
 use Rattle.actions.proofs.+action+block+counted+decode+selected.Tie.{close}
 

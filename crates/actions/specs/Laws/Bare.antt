@@ -9,14 +9,14 @@ use Rattle.rules.specs.Grammar.Trees.{Action, block, labelled, if-then, decode,
 use Rattle.rules.specs.Text.Tokens.{kindNo, BEGIN, DECODE}
 use Rattle.laws_grammar.specs.Cited.Heads.{headKind}
 use Rattle.laws_grammar.specs.Grammar.Heads.{action-head}
-use Rattle.table.specs.Holds.{kindByte}
+use Rattle.records.specs.Holds.{kindByte}
 use Rattle.table.specs.Laws.Positions.{here, kind-here}
 use Rattle.stacks.specs.Stacks.{Kept}
 use Rattle.stacks.specs.Laws.Kept.{kept-then, kept-less}
 use Rattle.plain.specs.declared.Walked.{Walked}
 use Rattle.plain.specs.declared.prefixes.Prefixed.{Prefixed}
 use Rattle.plain.specs.Actions.{ActionView, ActionAnswer, Simple, IsBlock, IsDecode}
-use Rattle.choices.specs.Room.{labelCells, levelBase}
+use Rattle.room.specs.Bodies.{labelCells, levelBase}
 use Rattle.plain.specs.Prefixes.{Bare, PrefixAnswer}
 use Rattle.plain.specs.Laws.Forms.{first-room}
 

@@ -11,11 +11,11 @@ use Rattle.cells.specs.Cells.{cell, putCell}
 use Rattle.cells.specs.Laws.{le-put-same, le-put-below}
 use Rattle.rules.specs.Limits.{longestText, deepest}
 use Rattle.rules.specs.Grammar.Trees.{Tokens}
-use Rattle.table.specs.Holds.{tokenAt}
+use Rattle.records.specs.Holds.{tokenAt}
 use Rattle.stacks.specs.Stacks.{Kept}
 use Rattle.stacks.specs.Laws.Kept.{kept-put, kept-all}
 use Rattle.patterns.specs.Stands.{ItemsAt}
-use Rattle.choices.specs.Room.{levelBase}
+use Rattle.room.specs.Bodies.{levelBase}
 use Rattle.choices.specs.Choices.{startCell, withStart, compared}
 use Rattle.actions.specs.Laws.Choices.{Choice, itemsIn, placeIn}
 

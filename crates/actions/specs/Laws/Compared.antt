@@ -12,8 +12,8 @@ use Rattle.rules.specs.Limits.{longestText}
 use Rattle.rules.specs.Selectors.{Item}
 use Rattle.rules.specs.Faults.Fault.{Fault, fault, when}
 use Rattle.rules.specs.Faults.Bodies.{past, alternative}
-use Rattle.table.specs.Keys.{key, noKey, leastKey}
-use Rattle.table.specs.Laws.Keys.{fault-key, no-fault-key, least-bounded}
+use Rattle.keys.specs.Keys.{key, noKey, leastKey}
+use Rattle.keys.specs.Laws.Keys.{fault-key, no-fault-key, least-bounded}
 use Rattle.selectors.specs.Overlaps.{earlierItems, overlaps, FirstOverlap}
 use Rattle.actions.specs.Laws.Ranges.{rangeFaults, leastIn, least-at, least-both, least-bound, when-or}
 

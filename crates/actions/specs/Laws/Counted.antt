@@ -16,16 +16,16 @@ use Rattle.rules.specs.Faults.Fault.{Fault, when}
 use Rattle.rules.specs.Faults.Bodies.{firstPlace, past, someMeet, meetsAny, alternativesFaults, actionFaults, insideFaults}
 use Rattle.laws_grammar.specs.Grammar.Heads.{headInfo, action-head}
 use Rattle.laws_grammar.specs.Cited.Nesting.{actionNest, countedNest}
-use Rattle.table.specs.Holds.{kindByte, placeCell}
-use Rattle.table.specs.Keys.{key, noKey, leastKey}
-use Rattle.table.specs.Laws.Keys.{least-append, least-bounded}
+use Rattle.records.specs.Holds.{kindByte, placeCell}
+use Rattle.keys.specs.Keys.{key, noKey, leastKey}
+use Rattle.keys.specs.Laws.Keys.{least-append, least-bounded}
 use Rattle.table.specs.Laws.Positions.{here, kind-here, record-within}
 use Rattle.stacks.specs.Stacks.{stackedWords, Kept}
 use Rattle.stacks.specs.Laws.Kept.{kept-words, kept-stacked}
 use Rattle.plain.specs.declared.Walked.{Walked}
 use Rattle.plain.specs.Stage.{outerOf, tableOf}
 use Rattle.plain.specs.Actions.{EndsAction, by-end, by-comma, ActionView, ActionAnswer}
-use Rattle.choices.specs.Room.{levelBase}
+use Rattle.room.specs.Bodies.{levelBase}
 use Rattle.actions.specs.Alternatives.{IsCounted, ChoicesView, choicesFaults, ChoicesAnswer}
 use Rattle.plain.specs.Laws.Known.{token-room, token-place, place-small}
 use Rattle.actions.specs.Laws.Ranges.{rangeFaults, leastIn, next-of-both, last-of-both}

@@ -13,9 +13,9 @@ use Rattle.rules.specs.Grammar.Precedence.{exprOf}
 use Rattle.rules.specs.Faults.Bodies.{faultsIn, judge, alternativesFaults, actionFaults, insideFaults}
 use Rattle.laws_grammar.specs.Cited.Heads.{headKind}
 use Rattle.laws_grammar.specs.Grammar.Heads.{action-head}
-use Rattle.table.specs.Holds.{kindByte}
-use Rattle.table.specs.Keys.{key, leastKey}
-use Rattle.table.specs.Laws.Keys.{least-append}
+use Rattle.records.specs.Holds.{kindByte}
+use Rattle.keys.specs.Keys.{key, leastKey}
+use Rattle.keys.specs.Laws.Keys.{least-append}
 use Rattle.table.specs.Laws.Positions.{Here, here, behind-far, kind-here}
 use Rattle.stacks.specs.Stacks.{stackedWords}
 use Rattle.expressions.specs.Expressions.{ExpressionAt, ExpressionAnswer}

@@ -10,16 +10,16 @@ use Rattle.rules.specs.Grammar.Trees.{Tokens, Action, actionTokens, Members, en
 use Rattle.rules.specs.Faults.Fault.{Fault}
 use Rattle.rules.specs.Faults.Bodies.{actionFaults, membersFaults}
 use Rattle.laws_grammar.specs.Cited.Nesting.{actionNest, membersNest}
-use Rattle.table.specs.Holds.{kindByte}
-use Rattle.table.specs.Keys.{key, noKey, leastBy, leastKey}
-use Rattle.table.specs.Laws.Keys.{least-append, least-bounded}
+use Rattle.records.specs.Holds.{kindByte}
+use Rattle.keys.specs.Keys.{key, noKey, leastBy, leastKey}
+use Rattle.keys.specs.Laws.Keys.{least-append, least-bounded}
 use Rattle.table.specs.Laws.Positions.{here, kind-here, record-within}
 use Rattle.stacks.specs.Stacks.{stackedWords, Kept}
 use Rattle.stacks.specs.Laws.Kept.{kept-words, kept-stacked}
 use Rattle.plain.specs.declared.Walked.{Walked}
 use Rattle.plain.specs.Stage.{Stage, outerOf, tableOf}
 use Rattle.plain.specs.Actions.{EndsAction, by-semi, by-next, by-end, ActionView, faultsUnder, ActionAnswer, IsBlock}
-use Rattle.choices.specs.Room.{levelBase}
+use Rattle.room.specs.Bodies.{levelBase}
 
 module _ {text records values decls : List ℕ} (s : Stage text records values decls) (ws : List (List ℕ)) where
   -- the faults of members, the first of which is an action

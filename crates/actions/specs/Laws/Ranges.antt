@@ -7,8 +7,8 @@ use mathlib.Core.List.{List, [], _++_}
 use native.Mathlib.Omega.{arith}
 use native.Mathlib.Decide.{decLt}
 use Rattle.rules.specs.Faults.Fault.{Fault, when}
-use Rattle.table.specs.Keys.{key, noKey, leastBy, leastKey}
-use Rattle.table.specs.Laws.Keys.{least-append, least-bounded}
+use Rattle.keys.specs.Keys.{key, noKey, leastBy, leastKey}
+use Rattle.keys.specs.Laws.Keys.{least-append, least-bounded}
 
 -- those of n things from k on
 unfoldable pub rangeFaults : (ℕ → List Fault) → ℕ → ℕ → List Fault

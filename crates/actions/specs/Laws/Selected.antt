@@ -14,9 +14,9 @@ use Rattle.rules.specs.Grammar.Trees.{Tokens, actionTokens, selected, Selected,
 use Rattle.rules.specs.Faults.Fault.{Fault, fault, when}
 use Rattle.rules.specs.Faults.Bodies.{past, alternativesFaults, actionFaults, insideFaults}
 use Rattle.laws_grammar.specs.Cited.Nesting.{selectedNest}
-use Rattle.table.specs.Holds.{kindByte, placeCell, tokenAt}
-use Rattle.table.specs.Keys.{key, noKey, leastKey}
-use Rattle.table.specs.Laws.Keys.{least-append, least-bounded}
+use Rattle.records.specs.Holds.{kindByte, placeCell, tokenAt}
+use Rattle.keys.specs.Keys.{key, noKey, leastKey}
+use Rattle.keys.specs.Laws.Keys.{least-append, least-bounded}
 use Rattle.table.specs.Laws.Positions.{here, kind-here, record-within}
 use Rattle.stacks.specs.Stacks.{stackedWords, Kept}
 use Rattle.stacks.specs.Laws.Kept.{kept-words, kept-stacked, kept-then, kept-less}
@@ -27,7 +27,7 @@ use Rattle.plain.specs.declared.Walked.{Walked}
 use Rattle.plain.specs.Stage.{outerOf, tableOf}
 use Rattle.plain.specs.Laws.Stage.{heldOf}
 use Rattle.plain.specs.Actions.{ActionView, ActionAnswer}
-use Rattle.choices.specs.Room.{levelBase}
+use Rattle.room.specs.Bodies.{levelBase}
 use Rattle.choices.specs.Choices.{startCell, withStart, compared, StartsView, OverlapAnswer, BehindView, BehindAnswer}
 use Rattle.actions.specs.Alternatives.{IsSelected, ChoicesView, choicesFaults, ChoicesAnswer}
 use Rattle.plain.specs.Laws.Known.{token-room, token-place, place-small}

@@ -15,8 +15,8 @@ use Rattle.rules.specs.Faults.Fault.{Fault}
 use Rattle.rules.specs.Faults.Bodies.{faults40}
 use Rattle.laws_grammar.specs.Cited.Nesting.{declarationNest, declarationsNest, nest}
 use Rattle.table.specs.Declarations.{followingList, declarationList, all-declared}
-use Rattle.table.specs.Keys.{key, noKey, leastBy, leastKey}
-use Rattle.table.specs.Laws.Keys.{least-append, least-bounded}
+use Rattle.keys.specs.Keys.{key, noKey, leastBy, leastKey}
+use Rattle.keys.specs.Laws.Keys.{least-append, least-bounded}
 use Rattle.table.specs.Lookups.{Nth, nth}
 use Rattle.plain.specs.Stage.{outerOf, tableOf}
 use Rattle.bodies.specs.Bodies.{BodyView, faultsOfBody, BodiesView, faultsOfBodies}

@@ -19,15 +19,16 @@ use Rattle.rules.specs.Faults.Bodies.{labels, labelFaults, actionFaults, bodyFa
 use Rattle.laws_grammar.specs.Grammar.Heads.{action-head}
 use Rattle.laws_grammar.specs.Cited.Nesting.{actionNest, declarationNest}
 use Rattle.laws_grammar.specs.Grammar.Positions.{main-bits-writes}
-use Rattle.table.specs.Holds.{tokenAt}
-use Rattle.table.specs.Keys.{key, noKey, leastBy, leastKey}
-use Rattle.table.specs.Laws.Keys.{least-append}
+use Rattle.records.specs.Holds.{tokenAt}
+use Rattle.keys.specs.Keys.{key, noKey, leastBy, leastKey}
+use Rattle.keys.specs.Laws.Keys.{least-append}
 use Rattle.table.specs.Laws.Positions.{here, behind-far}
-use Rattle.table.specs.Words.{NameAt}
+use Rattle.records.specs.Words.{NameAt}
 use Rattle.table.specs.Views.{View, behind, givenPart, wordsSize, BodyAt}
 use Rattle.table.specs.Laws.Views.{bitsPart}
 use Rattle.table.specs.Laws.Views.{name-token, bits-reads}
-use Rattle.stacks.specs.Stacks.{stackedWords, indexFrom, Stacked, NameView, Pushed}
+use Rattle.stacks.specs.Stacks.{stackedWords, Stacked, NameView, Pushed}
+use Rattle.room.specs.Bodies.{indexFrom}
 use Rattle.stacks.specs.Laws.Kept.{none-stacked}
 use Rattle.stacks.specs.Laws.Pushed.{push-words, push-stacked}
 use Rattle.plain.specs.declared.Walked.{Walked}

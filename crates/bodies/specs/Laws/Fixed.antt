@@ -10,7 +10,7 @@ use Rattle.rules.specs.Grammar.Trees.{Description}
 use Rattle.laws_accepted.specs.Accepted.Scanned.{scanned-each}
 use Rattle.table.specs.Ready.{Ready}
 use Rattle.spelling.specs.Spelled.{Spelled}
-use Rattle.stacks.specs.Stacks.{indexEnd}
+use Rattle.room.specs.Bodies.{indexEnd}
 use Rattle.bodies.specs.Bodies.{BodiesView}
 
 abbrev pub ready-bodies : {text records values decls room : List ℕ} {d : Description} {m : ℕ} → Ready text records values decls (scan text .tokens) d m → Spelled records (scan text .tokens)

@@ -22,8 +22,8 @@ use Rattle.rules.specs.Faults.Bodies.{Judged, judgedAs, isSound, over, subscrip
 use Rattle.rules.specs.Faults.Bodies.{judgeDestination, judgeJoined, ownedTwice, storedTwice}
 use Rattle.rules.specs.Whole.Sets.{ownerIn}
 use Rattle.laws_grammar.specs.Grammar.Positions.{Writes, bits-writes, operand-writes, subscript-writes}
-use Rattle.table.specs.Keys.{Smalls, none-small, also-small}
-use Rattle.table.specs.Laws.Keys.{smalls-append}
+use Rattle.keys.specs.Keys.{Smalls, none-small, also-small}
+use Rattle.keys.specs.Laws.Keys.{smalls-append}
 
 abbrev pub Inside : Info → Type 0
 Inside i = i .place ≤ longestText

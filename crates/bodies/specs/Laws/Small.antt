@@ -28,9 +28,9 @@ use Rattle.rules.specs.Faults.Bodies.{declaredNames, bodyFaults, faults40}
 use Rattle.laws_grammar.specs.Grammar.Heads.{action-head}
 use Rattle.laws_grammar.specs.Grammar.Positions.{bits-writes, operand-writes, tail-writes, subscript-writes, joined-writes, selector-writes, action-writes, own-bits-writes, main-bits-writes}
 use Rattle.table.specs.Declarations.{nameTokens, declarationList, all-declared}
-use Rattle.table.specs.Holds.{tokenAt, Holds}
-use Rattle.table.specs.Keys.{Smalls, none-small}
-use Rattle.table.specs.Laws.Keys.{smalls-append}
+use Rattle.records.specs.Holds.{tokenAt, Holds}
+use Rattle.keys.specs.Keys.{Smalls, none-small}
+use Rattle.keys.specs.Laws.Keys.{smalls-append}
 use Rattle.table.specs.Laws.Positions.{far, token-far}
 use Rattle.table.specs.Ready.{Ready}
 use Rattle.actions.specs.Laws.Counted.{first-place}

@@ -9,6 +9,8 @@ use native.Mathlib.Decide.{decLt}
 use borrow.Author.Tests.{ne-eqb}
 use lib.ListN.{length, drop, getElem?}
 use Rattle.cells.specs.Cells.{cell, putCell}
+use Rattle.cells.specs.Laws.{put-size, put-same}
+use Rattle.rules.specs.Text.Tokens.{kindNo, Name}
 use Rattle.rules.specs.Grammar.Trees.{Action, Declaration, actionTokens}
 use Rattle.rules.specs.Limits.{deepest, longestChain}
 use Rattle.rules.specs.Declarations.{Word, Table, Declared, declaredOf, numberOf, bodyOf, bodyNumber}
@@ -19,8 +21,8 @@ use Rattle.laws_orders.specs.Orders.Tests.{or-neither}
 use Rattle.bounds.specs.Cited.Counts.{endless, countDown}
 use Rattle.bounds.specs.Walk.{walk}
 use Rattle.bounds.specs.WalkLaws.{count-none}
-use Rattle.table.specs.Holds.{kindByte}
-use Rattle.table.specs.Words.{wordAt}
+use Rattle.records.specs.Holds.{kindByte}
+use Rattle.records.specs.Words.{wordAt}
 use Rattle.table.specs.Declarations.{declarationList, all-declared}
 use Rattle.links.specs.Laws.Layout.{body-shallow}
 use Rattle.reading.specs.Reading.{Reading, tableOf}
@@ -38,7 +40,7 @@ use Rattle.walking.specs.Walking.{tableSize, Scene}
 use Rattle.walking.specs.Going.{Beginning, Walked}
 use Rattle.bounding.specs.Filling.{Ready, countIn, unknown, Known, Right, ShortFrom, callsFrom, Blank, Fillable, Grows, Fills, Descends}
 use Rattle.bounding.specs.Laws.Machine.{body-read}
-use Rattle.counting.specs.Laws.Holding.{put-size, put-same, put-here}
+use Rattle.counting.specs.Laws.Holding.{count-here}
 use Rattle.bounding.specs.Laws.Knowing.{no-chains, count-some, low-counts, body-known}
 
 -- the first k counts are taken away
@@ -53,7 +55,7 @@ none-blank h = record { size = refl; few = omega arith; room = h; clear = λ j l
 
 pub one-blank : {first old new : List ℕ} {k : ℕ} → Blanking first old k → k < 256 → new ≡ putCell 8 old k 0 → Blanking first new (k + 1)
 one-blank {first} {old} {new} {k} b h p =
-    let size = put-size old new k 0 p in
+    let size = put-size 8 old new k 0 p in
     record {
       size = size ∙ b .size;
       few = omega arith;
@@ -62,17 +64,17 @@ one-blank {first} {old} {new} {k} b h p =
     }
   where
     by : (j : ℕ) → j < k + 1 → Dec (j < k) → cell 8 new j ≡ 0
-    by j l (yes a) = put-same old new k 0 p j (λ e. omega arith) ∙ b .clear j a
-    by j l (no a) = let e : j ≡ k = omega arith in ap (cell 8 new) e ∙ put-here old new k 0 p (omega (arith, b .room)) (omega arith)
+    by j l (yes a) = put-same 8 old new k 0 p j (λ e. omega arith) ∙ b .clear j a
+    by j l (no a) = let e : j ≡ k = omega arith in ap (cell 8 new) e ∙ count-here old new k 0 p (omega (arith, b .room)) (omega arith)
 
 pub last-room : {first table : List ℕ} {k : ℕ} → Blanking first table k → 8 * 256 + 8 ≤ length table
 last-room b = omega (arith, b .room)
 
 pub all-blank : {first old new : List ℕ} {k : ℕ} → Blanking first old k → 256 ≤ k → new ≡ putCell 8 old 256 1 → Blank first new
 all-blank {old = old} {new} b h p = record {
-  size = put-size old new 256 1 p ∙ b .size;
-  clear = λ j l. put-same old new 256 1 p j (λ e. omega arith) ∙ b .clear j (omega arith);
-  last = put-here old new 256 1 p (last-room b) (omega arith);
+  size = put-size 8 old new 256 1 p ∙ b .size;
+  clear = λ j l. put-same 8 old new 256 1 p j (λ e. omega arith) ∙ b .clear j (omega arith);
+  last = count-here old new 256 1 p (last-room b) (omega arith);
 }
 
 -- a declaration of the table is one of the list
@@ -163,9 +165,9 @@ module _ {records decls table room : List ℕ} {m n i : ℕ} (f : Fillable recor
   pub to-index : (8 * i + 8 ≤ length records) × (m ≤ 256)
   to-index = let v = f .ready .reading in (omega (arith, kinded v .room), v .ready .few)
 
-  module _ (e : kindByte records i ≡ 0) {k : ℕ}
+  module _ (e : kindByte records i ≡ kindNo Name) {k : ℕ}
       (low : k ≤ 256)
-      (index : (decls : List ℕ) (n : ℕ) (v : Reading records decls m n) → i < n → kindByte records i ≡ 0 → k ≡ indexOf (tableOf v) (wordAt (v .tokens) i)) where
+      (index : (decls : List ℕ) (n : ℕ) (v : Reading records decls m n) → i < n → kindByte records i ≡ kindNo Name → k ≡ indexOf (tableOf v) (wordAt (v .tokens) i)) where
     own : (v : Ready records decls m n) → k ≡ indexOf (tableOf (v .reading)) (wordAt (v .reading .tokens) i)
     own v = index decls n (v .reading) h e
 
@@ -193,8 +195,8 @@ module _ {records decls table room : List ℕ} {m n i : ℕ} (f : Fillable recor
           → ((v : Ready records decls m n) (w : Word) → numberOf (tableOf (v .reading)) w ≡ some k → x ≡ countDown (tableOf (v .reading)) longestChain w)
           → Fills records decls table new m n i
       fill-put {below} {new} {x} g size low-x p is =
-          let here : cell 8 new k ≡ x = put-here below new k x p (omega (arith, index-room)) low-x in
-          let same = put-same below new k x p in
+          let here : cell 8 new k ≡ x = count-here below new k x p (omega (arith, index-room)) low-x in
+          let same = put-same 8 below new k x p in
           let some-there : x ≡ 0 → ⊥ = λ z. count-some (tableOf (f .ready .reading)) _ (sym (is (f .ready) _ (number (f .ready))) ∙ z) in
           record {
             grows = record {
@@ -301,7 +303,7 @@ module _ {records decls old table first room : List ℕ} {m n from left at depth
     pub call-short : (v : Ready records decls m n) → ShortFrom v name left
     call-short v = parts v .0
 
-    pub call-name : kindByte records name ≡ 0
+    pub call-name : kindByte records name ≡ kindNo Name
     call-name = c .found h .is-name
 
     pub call-fewer : n - next < n - at

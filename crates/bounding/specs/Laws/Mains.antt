@@ -6,15 +6,15 @@ use mathlib.Core.Option.{Option, none, some, Option·none-ne-some, Option·some-
 use native.Mathlib.Omega.{arith}
 use lib.ListN.{length, getElem?}
 use Rattle.cells.specs.Cells.{cell}
-use Rattle.rules.specs.Text.Tokens.{Info, Token, kindNo}
+use Rattle.rules.specs.Text.Tokens.{Info, Token, kindNo, Name}
 use Rattle.rules.specs.Grammar.Trees.{Declaration}
 use Rattle.rules.specs.Limits.{longestChain}
 use Rattle.rules.specs.Declarations.{Word, declaredOf, numberOf, bodyOf, bodyNumber}
 use Rattle.rules.specs.Faults.Whole.{mainName}
 use Rattle.bounds.specs.Cited.Counts.{endless, countDown}
 use Rattle.bounds.specs.WalkLaws.{cut-low, count-none}
-use Rattle.table.specs.Holds.{kindByte}
-use Rattle.table.specs.Words.{wordAt}
+use Rattle.records.specs.Holds.{kindByte}
+use Rattle.records.specs.Words.{wordAt}
 use Rattle.table.specs.Declarations.{declarationList, all-declared}
 use Rattle.table.specs.Lookups.{nth}
 use Rattle.table.specs.Views.{MainAt}
@@ -103,14 +103,14 @@ module _ {records decls table room : List ℕ} {m n name : ℕ} (x : Fillable re
   pub main-within : name < n
   main-within = omega (arith, found (main-in (x .ready)) .within, x .ready .reading .count)
 
-  pub main-kind : kindByte records name ≡ 0
+  pub main-kind : kindByte records name ≡ kindNo Name
   main-kind = found (main-in (x .ready)) .kind
 
   pub main-short : (v : Ready records decls m n) → ShortFrom v name 16
   main-short v = no-chains (tableOf (v .reading)) (v .whole) (wordAt (v .reading .tokens) name)
 
   module _ {new : List ℕ} {k c : ℕ} (f : Fills records decls table new m n name)
-      (index : (decls : List ℕ) (n : ℕ) (v : Reading records decls m n) → name < n → kindByte records name ≡ 0 → k ≡ indexOf (tableOf v) (wordAt (v .tokens) name))
+      (index : (decls : List ℕ) (n : ℕ) (v : Reading records decls m n) → name < n → kindByte records name ≡ kindNo Name → k ≡ indexOf (tableOf v) (wordAt (v .tokens) name))
       (at : c ≡ cell 8 new k) where
     counted : (v : Ready records decls m n) → c ≡ countDown (tableOf (v .reading)) longestChain (mainName (tableOf (v .reading)))
     counted v =

@@ -2,12 +2,13 @@
 use Prim.Native.Nat.{ℕ, _+_, min}
 use mathlib.Core.Bool.{Bool, true, false}
 use lib.Dec.{eqb}
+use Rattle.rules.specs.Limits.{mostSteps}
 use Rattle.rules.specs.Declarations.{Word, Table}
 use Rattle.rules.specs.Bound.{costDown, turnsDown, Bound, bound, no-bound}
 
 -- one more than a budget can hold
 abbrev pub endless : ℕ
-endless = 4294967296
+endless = mostSteps + 1
 
 unfoldable pub up : ℕ → ℕ → ℕ
 up x k = min (x + k) endless

@@ -15,8 +15,8 @@ use Rattle.rules.specs.Declarations.{Word, Declared, Table, declaredOf, numberO
 use Rattle.rules.specs.Whole.Sets.{callsIn}
 use Rattle.rules.specs.Faults.Whole.{beginsChain}
 use Rattle.rules.specs.Reasons.{firstOver, refusedBody}
-use Rattle.table.specs.Holds.{kindByte, insideCell}
-use Rattle.table.specs.Words.{wordAt}
+use Rattle.records.specs.Holds.{kindByte, insideCell}
+use Rattle.records.specs.Words.{wordAt}
 use Rattle.reading.specs.Reading.{Reading, tableOf}
 use Rattle.reading.specs.Meanings.{declares}
 use Rattle.reading.specs.Laws.Reading.{kinded}

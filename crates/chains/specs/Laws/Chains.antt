@@ -14,8 +14,8 @@ use Rattle.rules.specs.Text.Tokens.{Name, kindNo}
 use Rattle.rules.specs.Declarations.{Word, Table, numberOf, bodyNumber, bodyOf}
 use Rattle.rules.specs.Steps.Runs.{bodyAct, actOr}
 use Rattle.rules.specs.Whole.Sets.{callsIn, anyName, chainOver}
-use Rattle.table.specs.Holds.{kindByte, insideCell}
-use Rattle.table.specs.Words.{wordAt}
+use Rattle.records.specs.Holds.{kindByte, insideCell}
+use Rattle.records.specs.Words.{wordAt}
 use Rattle.reading.specs.Reading.{Reading, tableOf}
 use Rattle.reading.specs.Laws.Reading.{kinded}
 use Rattle.reading.specs.Laws.Names.{number-bound}

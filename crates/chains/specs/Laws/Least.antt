@@ -20,9 +20,9 @@ use Rattle.rules.specs.Limits.{longestChain}
 use Rattle.rules.specs.Faults.Fault.{Fault, fault, when}
 use Rattle.rules.specs.Faults.Declared.{isKnown, twice, faults30}
 use Rattle.rules.specs.Faults.Whole.{beginsChain, chains}
-use Rattle.table.specs.Holds.{tokenAt, placeCell}
-use Rattle.table.specs.Keys.{noKey, numberKey, leastNumberKey}
-use Rattle.table.specs.Laws.Keys.{by-number, least-one, least-none, least-bounded, least-append}
+use Rattle.records.specs.Holds.{tokenAt, placeCell}
+use Rattle.keys.specs.Keys.{noKey, numberKey, leastNumberKey}
+use Rattle.keys.specs.Laws.Keys.{by-number, least-one, least-none, least-bounded, least-append}
 use Rattle.table.specs.Laws.Views.{name-token}
 use Rattle.laws_accepted.specs.Accepted.Faultless.{both-empty, when-empty}
 use Rattle.laws_accepted.specs.Accepted.Named.{same-itself}

@@ -13,10 +13,10 @@ use Rattle.rules.specs.Text.Tokens.{Info, Token}
 use Rattle.rules.specs.Declarations.{Declared, Table, declaredOf}
 use Rattle.rules.specs.Faults.Fault.{fault, when}
 use Rattle.rules.specs.Faults.Whole.{mains}
-use Rattle.table.specs.Holds.{placeCell}
+use Rattle.records.specs.Holds.{placeCell}
 use Rattle.table.specs.Views.{View, MainAt}
-use Rattle.table.specs.Keys.{noKey, numberKey, leastNumberKey}
-use Rattle.table.specs.Laws.Keys.{least-append, least-bounded, least-none}
+use Rattle.keys.specs.Keys.{noKey, numberKey, leastNumberKey}
+use Rattle.keys.specs.Laws.Keys.{least-append, least-bounded, least-none}
 use Rattle.reading.specs.Reading.{Reading, tableOf}
 use Rattle.reading.specs.Meanings.{declares}
 use Rattle.reading.specs.Laws.Meanings.{view, table-size}

@@ -6,8 +6,8 @@ use mathlib.Core.Path.{_≡_, sym, ap, _∙_}
 use mathlib.Core.Bool.{Bool, true, false}
 use Prim.Native.Nat.{ℕ, _≤_}
 use Rattle.rules.specs.Faults.Fault.{fault, when}
-use Rattle.table.specs.Laws.Keys.{fault-key, no-fault-key}
-use Rattle.table.specs.Keys.{key, noKey, leastKey}
+use Rattle.keys.specs.Laws.Keys.{fault-key, no-fault-key}
+use Rattle.keys.specs.Keys.{key, noKey, leastKey}
 use Rattle.choices.proofs.choice_fault.Statement.{statement}
 use Rattle.choices.proofs.choice_fault.Tie as tie
 

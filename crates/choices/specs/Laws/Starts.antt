@@ -13,12 +13,12 @@ use Rattle.rules.specs.Grammar.Trees.{Tokens}
 use Rattle.rules.specs.Faults.Fault.{fault}
 use Rattle.laws_grammar.specs.Cited.Kinds.{kindAt}
 use Rattle.laws_grammar.specs.Grammar.Kinds.{kindAt-kindNo}
-use Rattle.table.specs.Holds.{kindByte, placeCell}
-use Rattle.table.specs.Keys.{key, noKey}
+use Rattle.records.specs.Holds.{kindByte, placeCell}
+use Rattle.keys.specs.Keys.{key, noKey}
 use Rattle.table.specs.Laws.Positions.{here, kind-here, record-within}
 use Rattle.selectors.specs.Overlaps.{AlternativesView, FirstOverlap}
 use Rattle.selectors.specs.Laws.Alternatives.{items-within}
-use Rattle.choices.specs.Room.{levelBase}
+use Rattle.room.specs.Bodies.{levelBase}
 use Rattle.choices.specs.Choices.{startCell, compared, StartsView, OverlapAnswer, NoBecomes, BehindView, BehindAnswer}
 
 -- A PART OF THE ROOM

@@ -3,12 +3,11 @@ use Prim.Native.Nat.{ℕ, suc, _+_, _*_, _-_, _<_, _≤_, max}
 use mathlib.Core.Path.{_≡_, refl, sym, ap, _∙_, subst}
 use mathlib.Core.List.{List, [], _∷_}
 use native.Mathlib.Omega.{arith}
-use native.Mathlib.Decide.{decLt}
 use borrow.Author.Tests.{lt-ltb, le-ltb}
 use lib.Dec.{ltb}
 use lib.ListN.{length}
 use Rattle.cells.specs.Cells.{cell, putCell}
-use Rattle.cells.specs.Laws.{length-put, le-put-same, le-put-below, le-put-above}
+use Rattle.cells.specs.Laws.{put-size, put-same, put-here}
 use Rattle.rules.specs.Limits.{deepest}
 use Rattle.bounds.specs.Cited.Counts.{endless, up}
 use Rattle.bounds.specs.WalkLaws.{up-low}
@@ -19,20 +18,9 @@ use Rattle.counting.specs.declared.counts.Nest.{Nest}
 abbrev pub nest : ℕ → ℕ → Nest
 nest d x = record { depth = d; count = x }
 
--- the cell k is put
-module _ (old new : List ℕ) (k v : ℕ) (put : new ≡ putCell 8 old k v) where
-  pub put-size : length new ≡ length old
-  put-size = ap length put ∙ length-put 8 old (8 * k) v
-
-  pub put-same : (j : ℕ) → (j ≡ k → ⊥) → cell 8 new j ≡ cell 8 old j
-  put-same j n = ap (λ l. cell 8 l j) put ∙ by (decLt j k)
-    where
-      by : Dec (j < k) → cell 8 (putCell 8 old k v) j ≡ cell 8 old j
-      by (yes l) = le-put-below 8 8 old (8 * k) v (8 * j) (omega arith)
-      by (no l) = le-put-above 8 8 old (8 * k) v (8 * j) (omega arith)
-
-  pub put-here : 8 * k + 8 ≤ length old → v ≤ endless → cell 8 new k ≡ v
-  put-here h l = ap (λ b. cell 8 b k) put ∙ le-put-same 8 old (8 * k) v (omega arith) (omega arith)
+-- a count that is put
+pub count-here : (old new : List ℕ) (k v : ℕ) → new ≡ putCell 8 old k v → 8 * k + 8 ≤ length old → v ≤ endless → cell 8 new k ≡ v
+count-here old new k v put room low = put-here 8 old new k v put room (omega arith)
 
 frames-kept : {old new : List ℕ} {fs : List Frame} → ((q : ℕ) → q < 2 * length fs → cell 8 new q ≡ cell 8 old q) → Frames old fs → Frames new fs
 frames-kept s no-frames = no-frames
@@ -72,12 +60,12 @@ pub open-shown : {old mid new : List ℕ} {x : Nest} → x .depth < 32 → mid �
 open-shown {old} {mid} {new} {x} h p q z s =
     let d = x .depth in
     let c = x .count in
-    let size = put-size old mid (2 * d) c p in
-    let size-now = put-size mid new (2 * d + 1) c q in
+    let size = put-size 8 old mid (2 * d) c p in
+    let size-now = put-size 8 mid new (2 * d + 1) c q in
     let deep : length (z .frames) ≡ d = sym (s .depth-is) in
     let base : cell 8 new (2 * d) ≡ z .count =
-    put-same mid new (2 * d + 1) c q (2 * d) (λ e. omega arith) ∙ (put-here old mid (2 * d) c p (omega (arith, s .space)) (s .low) ∙ s .count-is) in
-    let best : cell 8 new (2 * d + 1) ≡ z .count = put-here mid new (2 * d + 1) c q (omega (arith, s .space, size)) (s .low) ∙ s .count-is in
+    put-same 8 mid new (2 * d + 1) c q (2 * d) (λ e. omega arith) ∙ (count-here old mid (2 * d) c p (omega (arith, s .space)) (s .low) ∙ s .count-is) in
+    let best : cell 8 new (2 * d + 1) ≡ z .count = count-here mid new (2 * d + 1) c q (omega (arith, s .space, size)) (s .low) ∙ s .count-is in
     let low : z .count ≤ endless = omega (arith, s .count-is, s .low) in
     subst (λ b. Shows new (nest (d + 1) c) (opened b z)) (sym (lt-ltb (length (z .frames)) deepest (omega arith)))
     (record {
@@ -93,7 +81,7 @@ open-shown {old} {mid} {new} {x} h p q z s =
             best = ap (λ j. cell 8 new (2 * j + 1)) deep ∙ best;
             best-low = low;
           })
-          (frames-kept (λ j l. put-same mid new (2 * d + 1) c q j (λ e. omega arith) ∙ put-same old mid (2 * d) c p j (λ e. omega arith)) (s .frames));
+          (frames-kept (λ j l. put-same 8 mid new (2 * d + 1) c q j (λ e. omega arith) ∙ put-same 8 old mid (2 * d) c p j (λ e. omega arith)) (s .frames));
     })
 
 -- the innermost frame, as it is read
@@ -150,7 +138,7 @@ another-shown {old} {new} {x} {base} {best} {c} n a b e p z s =
     let base-is : base ≡ y .frame-is .base = a ∙ (ap (cell 8 old) at-base ∙ y .there .base) in
     let best-is : best ≡ y .frame-is .best = b ∙ (ap (cell 8 old) at ∙ y .there .best) in
     let put : new ≡ putCell 8 old (2 * k + 1) c = p ∙ ap (λ j. putCell 8 old j c) at in
-    let size = put-size old new (2 * k + 1) c put in
+    let size = put-size 8 old new (2 * k + 1) c put in
     let low : c ≤ endless = omega (arith, s .low, y .there .best-low) in
     let dearest : c ≡ max (y .frame-is .best) (z .count) = omega (arith, s .count-is) in
     subst (λ fs. Shows new (nest (x .depth) base) (another fs z)) (sym (y .is))
@@ -162,9 +150,9 @@ another-shown {old} {new} {x} {base} {best} {c} n a b e p z s =
       low = omega (arith, y .there .base-low);
       frames =
           frames (record {
-            base = put-same old new (2 * k + 1) c put (2 * k) (λ e. omega arith) ∙ y .there .base;
+            base = put-same 8 old new (2 * k + 1) c put (2 * k) (λ e. omega arith) ∙ y .there .base;
             base-low = y .there .base-low;
-            best = put-here old new (2 * k + 1) c put (omega (arith, s .space, s .shallow, y .size)) low ∙ dearest;
+            best = count-here old new (2 * k + 1) c put (omega (arith, s .space, s .shallow, y .size)) low ∙ dearest;
             best-low = omega arith;
-          }) (frames-kept (λ j l. put-same old new (2 * k + 1) c put j (λ e. omega arith)) (y .rest));
+          }) (frames-kept (λ j l. put-same 8 old new (2 * k + 1) c put j (λ e. omega arith)) (y .rest));
     })

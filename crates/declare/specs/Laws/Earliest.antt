@@ -10,8 +10,8 @@ use Rattle.rules.specs.Limits.{longestText}
 use Rattle.rules.specs.Declarations.{Word, Declared, Table, wordsOf}
 use Rattle.rules.specs.Faults.Fault.{Fault, fault, when}
 use Rattle.rules.specs.Faults.Declared.{isKnown, twice, large, tooMany, badMapping, mappings, faults30}
-use Rattle.table.specs.Keys.{key, leastBy, leastKey, Smalls, none-small, also-small}
-use Rattle.table.specs.Laws.Keys.{smalls-append, least-append}
+use Rattle.keys.specs.Keys.{key, leastBy, leastKey, Smalls, none-small, also-small}
+use Rattle.keys.specs.Laws.Keys.{smalls-append, least-append}
 use Rattle.declare.specs.Faults.{isLarge, isTooMany, numberOr, ownNumber}
 use Rattle.declare.specs.Laws.Faults.{faultsFrom}
 

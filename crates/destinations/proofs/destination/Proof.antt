@@ -10,8 +10,8 @@ use lib.ListN.{length, replicate}
 use Rattle.rules.specs.Text.Tokens.{At, kindNo, Info, Op, opKind, join}
 use Rattle.rules.specs.Faults.Fault.{when}
 use Rattle.rules.specs.Faults.Bodies.{Judged}
-use Rattle.table.specs.Holds.{kindByte, placeCell}
-use Rattle.table.specs.Keys.{noKey, leastKey}
+use Rattle.records.specs.Holds.{kindByte, placeCell}
+use Rattle.keys.specs.Keys.{noKey, leastKey}
 use Rattle.accesses.specs.declared.Judged.{Judged as Answer}
 use Rattle.weighing.specs.declared.Weight.{Weight}
 use Rattle.destinations.specs.declared.carriers.Carriers.{Carriers}

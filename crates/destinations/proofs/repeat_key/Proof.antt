@@ -8,7 +8,7 @@ use mathlib.Core.Bool.{Bool, true, false, not}
 use mathlib.Core.List.{List}
 use Prim.Native.Nat.{ℕ, _≤_}
 use Rattle.rules.specs.Faults.Fault.{fault, when}
-use Rattle.table.specs.Keys.{key, noKey, leastBy, leastKey}
+use Rattle.keys.specs.Keys.{key, noKey, leastBy, leastKey}
 use Rattle.destinations.specs.declared.owners.Storage.{Storage}
 use Rattle.destinations.specs.declared.owners.Storage.the-variants.{Carrier, Nothing}
 use Rattle.destinations.specs.Carriers.{holds}

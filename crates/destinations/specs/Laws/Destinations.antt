@@ -16,9 +16,9 @@ use Rattle.rules.specs.Faults.Fault.{Fault, when}
 use Rattle.rules.specs.Faults.Bodies.{Judged, judgeDestination, judgeJoined, ownedTwice, storedTwice}
 use Rattle.rules.specs.Whole.Sets.{ownerIn, member}
 use Rattle.laws_grammar.specs.Cited.Nesting.{subscriptNest, joinedNest}
-use Rattle.table.specs.Holds.{kindByte, placeCell}
-use Rattle.table.specs.Keys.{key, noKey, leastKey, Smalls, none-small, also-small}
-use Rattle.table.specs.Laws.Keys.{smalls-append, least-append, least-none}
+use Rattle.records.specs.Holds.{kindByte, placeCell}
+use Rattle.keys.specs.Keys.{key, noKey, leastKey, Smalls, none-small, also-small}
+use Rattle.keys.specs.Laws.Keys.{smalls-append, least-append, least-none}
 use Rattle.table.specs.Laws.Positions.{Here, here, kind-here, record-within}
 use Rattle.accesses.specs.declared.Judged.{Judged as Answer}
 use Rattle.destinations.specs.declared.owners.Storage.{Storage}

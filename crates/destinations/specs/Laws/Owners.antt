@@ -12,7 +12,7 @@ use Rattle.rules.specs.Text.Scan.{sameBytes}
 use Rattle.rules.specs.Declarations.{Names as Span-of, BitNames, Target, Declared, Table, Word, declaredOf, numberOf, reach, reachNumber, reachOf, reachStorage, reachUnder, reachOn}
 use Rattle.rules.specs.Faults.Declared.{declaredAt, goodTarget, fits, badMapping}
 use Rattle.rules.specs.Whole.Sets.{ownerIn}
-use Rattle.table.specs.Holds.{insideCell}
+use Rattle.records.specs.Holds.{insideCell}
 use Rattle.table.specs.Meaning.{outerOnly}
 use Rattle.accesses.specs.Laws.Tests.{either-false}
 use Rattle.accesses.specs.Scene.{outerOf, tableOf}

@@ -17,13 +17,13 @@ use Rattle.laws_accepted.specs.Cited.Lengths.{Sized}
 use Rattle.laws_accepted.specs.Accepted.Lengths.{sized}
 use Rattle.laws_accepted.specs.Accepted.Destinations.{subscripts-ok, destination-sized}
 use Rattle.laws_accepted.specs.Cited.Destinations.{SizedDestination}
-use Rattle.table.specs.Holds.{tokenAt}
+use Rattle.records.specs.Holds.{tokenAt}
 use Rattle.table.specs.Laws.Positions.{here}
 use Rattle.promise.specs.Instructions.{ExpressionStands}
 use Rattle.operands.specs.declared.expressions.Evaluated.{Evaluated}
 use Rattle.operands.specs.declared.expressions.Evaluated.the-variants.{Value as worked, Fault as faulted}
 use Rattle.evaluation.specs.Laws.Kinds.{ends-here}
-use Rattle.operands.specs.Laws.Nots.{operand-first}
+use Rattle.nots.specs.Laws.Nots.{operand-first}
 use Rattle.operands.specs.Scene.{Scene, wordsOf, ExpressionAt, ExpressionAnswer}
 use Rattle.evaluation.specs.Standing.{Stood}
 

@@ -32,7 +32,7 @@ use Rattle.evaluation.specs.Stores.{sizes, Put, StoresAt, StoresAnswer}
 use Rattle.evaluation.specs.Laws.Stores.{put-length, put-writes, single-store}
 use Rattle.evaluation.specs.Gathering.{fieldAt, GatherAt, Gathers, GatherAnswer}
 use Rattle.evaluation.specs.Laws.Gathering.{behind}
-use Rattle.table.specs.Holds.{insideCell}
+use Rattle.records.specs.Holds.{insideCell}
 use Rattle.evaluation.specs.Transfers.{Becomes, JoinedAnswer, AssignAt, AssignAnswer, assigned, TransferAt, TransferAnswer}
 
 becomes-by : {records values carriers : List ℕ} (s : Scene records values carriers) {o o′ : Outcome Carriers} → o ≡ o′ → (after : List ℕ) (r : Transferred)

@@ -22,8 +22,8 @@ use Rattle.laws_orders.specs.Orders.Tests.{impossible}
 use Rattle.text.specs.Table.{recordCells, valueCells, writeCells, endedAt, scannedOf}
 use Rattle.text.specs.declared.Scanned.{Scanned}
 use Rattle.text.specs.declared.Scanned.the-variants.{Fine as ScannedFine, Refused as ScannedRefused}
-use Rattle.table.specs.Keys.{noKey, numberKey, leastNumberKey}
-use Rattle.table.specs.Laws.Keys.{by-number, least-key, least-bounded}
+use Rattle.keys.specs.Keys.{noKey, numberKey, leastNumberKey}
+use Rattle.keys.specs.Laws.Keys.{by-number, least-key, least-bounded}
 use Rattle.declare.specs.Finding.{Described}
 use Rattle.declare.specs.Told.{Told}
 use Rattle.declare.specs.declared.Declared.{Declared}

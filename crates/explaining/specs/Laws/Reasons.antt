@@ -9,7 +9,7 @@ use Rattle.rules.specs.Grammar.Trees.{Description, flatten}
 use Rattle.rules.specs.Declarations.{declarations}
 use Rattle.rules.specs.Answers.{Verdict, accepted, refused, Checks}
 use Rattle.rules.specs.Calls.Check.{verdictNumber}
-use Rattle.rules.specs.Reasons.{no-reason, racing, reason53, reason51, plain, by-race, by-chain}
+use Rattle.rules.specs.Reasons.{no-reason, racing, reason53, reason51, unexplained, by-race, by-chain}
 use Rattle.rules.specs.Reasons.{Reason as Said}
 use Rattle.rules.specs.Calls.Why.{padded, reasonNumbers}
 use Rattle.racing.specs.Told.{reasonIn}
@@ -56,5 +56,5 @@ module _ {text : List ℕ} {number place : ℕ} where
 
   pub without : {ns : List ℕ} → (number ≡ 53 → ⊥) → (number ≡ 51 → ⊥) → ns ≡ reasonNumbers no-reason → Explained text number place ns
   without a b n = record {
-    gives = λ j. record { reason = no-reason; explains = plain (λ e. a (j .number-is ∙ e)) (λ e. b (j .number-is ∙ e)); numbers = n };
+    gives = λ j. record { reason = no-reason; explains = unexplained (λ e. a (j .number-is ∙ e)) (λ e. b (j .number-is ∙ e)); numbers = n };
   }

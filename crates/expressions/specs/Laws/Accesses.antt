@@ -11,8 +11,8 @@ use Rattle.rules.specs.Grammar.Trees.{Tokens, Bits, all-bits, bits, bitsTokens,
 use Rattle.rules.specs.Grammar.Precedence.{no-index, index, indexOf, exprOf}
 use Rattle.rules.specs.Faults.Bodies.{judgeFactor, judgeIndex}
 use Rattle.laws_grammar.specs.Cited.Nesting.{subscriptNest}
-use Rattle.table.specs.Holds.{kindByte}
-use Rattle.table.specs.Keys.{noKey}
+use Rattle.records.specs.Holds.{kindByte}
+use Rattle.keys.specs.Keys.{noKey}
 use Rattle.table.specs.Laws.Positions.{Here, here, behind-far, kind-here, record-within}
 use Rattle.accesses.specs.declared.Judged.{Judged as Answer}
 use Rattle.table.specs.Laws.Operators as kinds

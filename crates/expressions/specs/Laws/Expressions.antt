@@ -13,7 +13,7 @@ use Rattle.rules.specs.Faults.Bodies.{Judged, judge, judgeFactor}
 use Rattle.laws_grammar.specs.Cited.Nesting.{operandNest, tailNest}
 use Rattle.laws_grammar.specs.Cited.Shunting.{Waiting, looser, settled}
 use Rattle.laws_grammar.specs.Grammar.Shunting.{waiting, chain}
-use Rattle.table.specs.Holds.{kindByte}
+use Rattle.records.specs.Holds.{kindByte}
 use Rattle.table.specs.Laws.Positions.{Here, here, kind-here, record-within}
 use Rattle.accesses.specs.declared.Judged.{Judged as Answer}
 use Rattle.table.specs.Operators.{tightnessAt, endsAccess, endsExpression}

@@ -14,8 +14,8 @@ use Rattle.rules.specs.Declarations.{Word, declaredOf, numberOf, reach, reachNu
 use Rattle.rules.specs.Steps.Runs.{bodyAct, actOr}
 use Rattle.rules.specs.Limits.{longestChain}
 use Rattle.rules.specs.Whole.Sets.{Sets, owner, ownerIn, setsOf, bodySets, stopsIn, bodyStops, callsIn, anyName, chainOver, member}
-use Rattle.table.specs.Holds.{kindByte, tokenAt, insideCell}
-use Rattle.table.specs.Words.{wordAt}
+use Rattle.records.specs.Holds.{kindByte, tokenAt, insideCell}
+use Rattle.records.specs.Words.{wordAt}
 use Rattle.laws_orders.specs.Orders.Chains.{sets-closed, stops-closed}
 use Rattle.laws_orders.specs.Orders.Tests.{or-neither}
 use Rattle.reading.specs.Reading.{Reading, tableOf}

@@ -4,25 +4,17 @@ use mathlib.Core.Path.{_≡_, sym, ap, _∙_}
 use mathlib.Core.Bool.{Bool, true, false}
 use mathlib.Core.List.{List}
 use native.Mathlib.Omega.{arith}
-use native.Mathlib.Decide.{decLt}
 use lib.Dec.{eqb}
 use lib.ListN.{length, getD}
 use Rattle.cells.specs.Cells.{cell, putCell}
-use Rattle.cells.specs.Laws.{le-put-same, le-put-below, le-put-above}
+use Rattle.cells.specs.Laws.{cell-same, cell-other}
 use Rattle.rules.specs.Whole.Sets.{Sets}
 use Rattle.reading.specs.Bits.{holds}
 use Rattle.reading.specs.Laws.Bits.{same-words}
 use Rattle.gathering.specs.Memory.{Put, PutWords, wordsAt, markFor, Stored, Entry}
 
 pub put-cell : (b : List ℕ) (i v : ℕ) → 8 * i + 8 ≤ length b → v < 2 ^ 64 → Put b (putCell 8 b i v) i v
-put-cell b i v h l = record { here = le-put-same 8 b (8 * i) v h l; elsewhere = λ j n. by j n (decLt j i) }
-  where
-    by : (j : ℕ) → (j ≡ i → ⊥) → Dec (j < i) → cell 8 (putCell 8 b i v) j ≡ cell 8 b j
-    by j n (yes q) = le-put-below 8 8 b (8 * i) v (8 * j) (omega arith)
-    by j n (no q) = le-put-above 8 8 b (8 * i) v (8 * j) (let p : i < j = other (λ e. n e) (λ e. q e) in omega arith)
-      where
-        other : (j ≡ i → ⊥) → (j < i → ⊥) → i < j
-        other a b = omega arith
+put-cell b i v h l = record { here = cell-same 8 b i v h l; elsewhere = cell-other 8 b i v }
 
 pub put-words : {a₀ a₁ a₂ a₃ a₄ : List ℕ} {c : ℕ} (w : List ℕ) → Put a₀ a₁ c (getD w 0 0) → Put a₁ a₂ (c + 1) (getD w 1 0) → Put a₂ a₃ (c + 2) (getD w 2 0)
     → Put a₃ a₄ (c + 3) (getD w 3 0) → PutWords a₀ a₄ c w

@@ -12,8 +12,8 @@ use Rattle.rules.specs.Text.Tokens.{Name, STOP, kindNo}
 use Rattle.rules.specs.Declarations.{Word, bodyNumber, bodyOf}
 use Rattle.rules.specs.Steps.Runs.{bodyAct, actOr}
 use Rattle.rules.specs.Whole.Sets.{owner, setsOf, bodySets, stopsIn, bodyStops, member}
-use Rattle.table.specs.Holds.{kindByte, tokenAt, insideCell}
-use Rattle.table.specs.Words.{wordAt}
+use Rattle.records.specs.Holds.{kindByte, tokenAt, insideCell}
+use Rattle.records.specs.Words.{wordAt}
 use Rattle.reading.specs.Kinds.{nextNo, stores, ends, closes, mode as turned}
 use Rattle.reading.specs.Reading.{Reading, tableOf, Kinded}
 use Rattle.reading.specs.Laws.Reading.{kinded, next-token, no-more}
@@ -61,7 +61,7 @@ with-none s h xs x k = sym (or-false (holds s k)) ∙ ap (λ (y : Bool). holds s
 kind-is : {records decls : List ℕ} {m n i k : ℕ} → i < n → k ≡ kindByte records i → (v : Reading records decls m n) → number (tokenAt (v .tokens) i) ≡ k
 kind-is {i = i} h q v = sym (q ∙ kinded v .kind i h)
 
-named : {records decls : List ℕ} {m n i k : ℕ} (mode : ℕ) → i < n → k ≡ kindByte records i → k ≡ 0 → (v : Reading records decls m n)
+named : {records decls : List ℕ} {m n i k : ℕ} (mode : ℕ) → i < n → k ≡ kindByte records i → k ≡ kindNo Name → (v : Reading records decls m n)
     → eventAt v mode i ≡ nameEvent mode (wordAt (v .tokens) i) (nextNo (drop (i + 1) (v .tokens)))
 unfolding event
 named {i = i} mode h q e v = let z : number (tokenAt (v .tokens) i) ≡ 0 = kind-is h q v ∙ e in rw (z, event)
@@ -71,7 +71,7 @@ unfolding nameEvent
 read-event zero n u t = absurd (n refl)
 read-event (suc y) n u t = refl
 
-acts : {records decls : List ℕ} {m n mode i k next : ℕ} → i < n → k ≡ kindByte records i → k ≡ 0 → mode ≡ 0
+acts : {records decls : List ℕ} {m n mode i k next : ℕ} → i < n → k ≡ kindByte records i → k ≡ kindNo Name → mode ≡ 0
     → ((v : Kinded records n) → next ≡ nextNo (drop (i + 1) (v .tokens)))
     → (v : Reading records decls m n) → eventAt v mode i ≡ actingEvent (wordAt (v .tokens) i) next
 unfolding nameEvent
@@ -108,7 +108,7 @@ module _ {records decls memo : List ℕ} {m n mode i : ℕ} where
         loud (λ v. halts) (λ v. let t = number (tokenAt (v .tokens) i) in let z : t ≡ 29 = kind-is h q v ∙ e in rw (ne-eqb t 0 (λ y. omega arith), eq-eqb t 29 z, event))
         (λ v x j. same r _ a j) (λ v x j. same w _ b j) (λ v x. c ∙ sym (or-true s))
 
-    pub marking : {r w : List ℕ} {s : Bool} → (k ≡ kindNo STOP → ⊥) → (k ≡ 0 → ⊥) → Hears records decls memo m n mode i r w s r w s
+    pub marking : {r w : List ℕ} {s : Bool} → (k ≡ kindNo STOP → ⊥) → (k ≡ kindNo Name → ⊥) → Hears records decls memo m n mode i r w s r w s
     unfolding event
     marking a b =
         quiet (λ v. rw (
@@ -118,7 +118,7 @@ module _ {records decls memo : List ℕ} {m n mode i : ℕ} where
           event,
         ))
 
-    module _ (name : k ≡ 0) where
+    module _ (name : k ≡ kindNo Name) where
       pub reading-carrier : {r w r₁ w₁ : List ℕ} {s s₁ : Bool} {c : ℕ} → (mode ≡ 0 → ⊥)
           → ((v : Reading records decls m n) → Owned (owner (tableOf v) (wordAt (v .tokens) i)) c)
           → ((xs : List ℕ) → Owned xs c → (j : ℕ) → holds r₁ j ≡ (holds r j || member j xs)) → w₁ ≡ w → s₁ ≡ s

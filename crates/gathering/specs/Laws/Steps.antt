@@ -1,32 +1,30 @@
 -- Laws of steps: what a token does to what is heard so far and to the search for the end.
-use Prim.Native.Nat.{ℕ, _+_, _<_, _≤_}
+use Prim.Native.Nat.{ℕ, _+_, _<_}
 use mathlib.Core.Path.{_≡_, refl, sym, _∙_, subst}
 use mathlib.Core.Bool.{Bool, true, false}
 use mathlib.Core.List.{List}
 use native.Mathlib.Omega.{arith}
+use Rattle.rules.specs.Text.Tokens.{kindNo, Name, STOP}
 use Rattle.rules.specs.Whole.Sets.{member}
-use Rattle.table.specs.Holds.{kindByte}
+use Rattle.records.specs.Holds.{kindByte}
 use Rattle.table.specs.Scans.{separates, stops, halts, deeper}
-use Rattle.reading.specs.Kinds.{ends, closes, tests, begins, mode}
+use Rattle.reading.specs.Kinds.{closes, tests, begins, mode}
 use Rattle.reading.specs.Behind.{ComesTo}
 use Rattle.reading.specs.Laws.Ends.{Seeking, seek-on, comes-here, comes-behind}
 use Rattle.gathering.specs.Shown.{Hears, Gathers}
 use Rattle.gathering.specs.Steps.{Stepped}
 use Rattle.gathering.specs.Laws.Shown.{Listening, halting, marking, heard-end, heard-last, hear-on}
 
-pub stepped : {d m k : ℕ} {b c : Bool} {e f : ℕ} → b ≡ ends d k → c ≡ closes d k → e ≡ deeper d k → e ≤ d + 1 → f ≡ mode m k → f ≤ m + 1 → Stepped d m k b c e f
-stepped a b c d e f = record { ending = a; closing = b; depth-is = c; depth-most = d; mode-is = e; mode-most = f }
-
 -- of a kind that is known
 pub of-kind : {d m k : ℕ} (known : ℕ) {b c : Bool} {e f : ℕ} → k ≡ known → Stepped d m known b c e f → Stepped d m k b c e f
 of-kind {d} {m} known {b} {c} {e} {f} q x = subst (λ (k : ℕ). Stepped d m k b c e f) (sym q) x
 
 -- names and STOP are inside of an action, and change neither depth nor mode
-pub name-step : (d m : ℕ) → Stepped d m 0 false false d m
+pub name-step : (d m : ℕ) → Stepped d m (kindNo Name) false false d m
 unfolding halts stops separates member closes deeper mode tests begins
 name-step d m = record { ending = refl; closing = refl; depth-is = refl; depth-most = omega arith; mode-is = refl; mode-most = omega arith }
 
-pub stop-step : (d m : ℕ) → Stepped d m 29 false false d m
+pub stop-step : (d m : ℕ) → Stepped d m (kindNo STOP) false false d m
 unfolding halts stops separates member closes deeper mode tests begins
 stop-step d m = record { ending = refl; closing = refl; depth-is = refl; depth-most = omega arith; mode-is = refl; mode-most = omega arith }
 
@@ -36,7 +34,7 @@ Passing records decls memo m n from r w s d mode i = Listening records decls mem
 
 module _ {records decls memo : List ℕ} {m n from : ℕ} {r w : List ℕ} {s : Bool} {d now i k : ℕ} (inv : Passing records decls memo m n from r w s d now i)
     (h : i < n) (q : k ≡ kindByte records i) where
-  pub is-name : k ≡ 0 → kindByte records i ≡ 0
+  pub is-name : k ≡ kindNo Name → kindByte records i ≡ kindNo Name
   is-name e = sym q ∙ e
 
   pass-on : {b c : Bool} {e f : ℕ} {r₁ w₁ : List ℕ} {s₁ : Bool} → Stepped d now k b c e f → b ≡ false → c ≡ false
@@ -46,13 +44,13 @@ module _ {records decls memo : List ℕ} {m n from : ℕ} {r w : List ℕ} {s : 
     seek-on (inv .1) h q (x .ending) b (x .depth-is) (x .depth-most),
   )
 
-  pub pass-name : {r₁ w₁ : List ℕ} {s₁ : Bool} → k ≡ 0 → Hears records decls memo m n now i r w s r₁ w₁ s₁ → Passing records decls memo m n from r₁ w₁ s₁ d now (i + 1)
+  pub pass-name : {r₁ w₁ : List ℕ} {s₁ : Bool} → k ≡ kindNo Name → Hears records decls memo m n now i r w s r₁ w₁ s₁ → Passing records decls memo m n from r₁ w₁ s₁ d now (i + 1)
   pass-name e heard = pass-on (of-kind 0 e (name-step d now)) refl refl heard
 
-  pub pass-stop : {r₁ w₁ : List ℕ} {s₁ : Bool} → k ≡ 29 → r₁ ≡ r → w₁ ≡ w → s₁ ≡ true → Passing records decls memo m n from r₁ w₁ s₁ d now (i + 1)
+  pub pass-stop : {r₁ w₁ : List ℕ} {s₁ : Bool} → k ≡ kindNo STOP → r₁ ≡ r → w₁ ≡ w → s₁ ≡ true → Passing records decls memo m n from r₁ w₁ s₁ d now (i + 1)
   pass-stop e a b c = pass-on (of-kind 29 e (stop-step d now)) refl refl (halting h q e a b c)
 
-  module _ (stop : k ≡ 29 → ⊥) (name : k ≡ 0 → ⊥) {b c : Bool} {e f : ℕ} (x : Stepped d now k b c e f) where
+  module _ (stop : k ≡ kindNo STOP → ⊥) (name : k ≡ kindNo Name → ⊥) {b c : Bool} {e f : ℕ} (x : Stepped d now k b c e f) where
     pub pass-mark : b ≡ false → c ≡ false → Passing records decls memo m n from r w s e f (i + 1)
     pass-mark p o = pass-on x p o (marking h q stop name)
 

@@ -9,7 +9,7 @@ use Rattle.grammar.proofs.walk.Statement.{statement}
 use Rattle.grammar.proofs.walk.Tie as tie
 use Rattle.grammar.proofs.walk.Reads as reads
 use Rattle.grammar.proofs.walk.Lts as lts
-use Rattle.grammar.proofs.kind_at.Reads as kind-at-reads
+use Rattle.grammar.proofs.kind_of.Reads as kind-of-reads
 use Rattle.grammar.proofs.moved.Reads as moved-reads
 
 abbrev Inv-loop : tie.InvT-loop
@@ -19,13 +19,13 @@ abbrev μ-loop : tie.MeasureT-loop
 μ-loop table records n stack₀ states₀ at₀ stack states at = n - at
 
 abbrev Behind-move : Type 0
-Behind-move = lts.After-moved (kind-at-reads.Asked, kind-at-reads.Learnt, moved-reads.Asked, moved-reads.Learnt) reads.Pre reads.Post Inv-loop μ-loop
+Behind-move = lts.After-moved (kind-of-reads.Asked, kind-of-reads.Learnt, moved-reads.Asked, moved-reads.Learnt) reads.Pre reads.Post Inv-loop μ-loop
 
 abbrev Here : Behind-move → Next → Type 0
 Here c next =
     let loop = c .before .before .before .before in
     let start = loop .before .before in
-    Turn (start .args .records .now) (start .args .n) (loop .loop .stack) (loop .loop .states) (loop .loop .at) (c .before .kind-at .result) next
+    Turn (start .args .records .now) (start .args .n) (loop .loop .stack) (loop .loop .states) (loop .loop .at) (c .before .kind-of .result) next
 
 turn : (c : Behind-move) {next : Next} → c .moved .result ≡ next → Here c next
 turn c is =
@@ -34,7 +34,7 @@ turn c is =
       reached = c .before .before .before .before .loop .inv;
       more = search needs;
       some-state = search needs;
-      byte = c .before .kind-at .ensures;
+      byte = c .before .kind-of .ensures;
       moves = c .moved .ensures;
     })
 

@@ -7,11 +7,13 @@ use native.Mathlib.Omega.{arith}
 use Rattle.rules.specs.Text.Scan.{scan}
 use Rattle.rules.specs.Declarations.{Table, declarations}
 use Rattle.rules.specs.Keeping.{Kept, declined, not-accepted, kept-by}
+use Rattle.table.specs.Ready.{Scene}
 use Rattle.reader.specs.Parsed.{Refuses}
-use Rattle.reader.specs.Judged.{Judges, refuses, accepts, Accepts}
+use Rattle.reader.specs.Judged.{Judges, refuses, accepts}
+use Rattle.accepted.specs.Accepted.{Accepts}
 use Rattle.reader.specs.declared.judging.Verdict.{Verdict}
 use Rattle.reader.specs.declared.judging.Verdict.the-variants.{Accepted}
-use Rattle.kept.specs.Kept.{Stands, Keeping, Answered}
+use Rattle.kept.specs.Kept.{Keeping, Answered}
 use Rattle.kept.specs.declared.endings.Ending.{Ending}
 use Rattle.kept.specs.declared.endings.Ending.the-variants.{Refused}
 
@@ -26,7 +28,7 @@ pub kept-answer : {text records values decls : List ℕ} {m words n : ℕ} {call
     → Keeping (call (declarations (v .lawful .declares .description))) target left r → Answered text call target left r
 kept-answer {call = call} v k = record { result = call (declarations (v .lawful .declares .description)); keeps = kept-by _ (v .lawful .declares .reads) (v .verdict); keeping = k }
 
-abbrev pub standing : {text records values decls : List ℕ} {m words n : ℕ} → Accepts text records values decls m words n → Stands records values decls m
+abbrev pub standing : {text records values decls : List ℕ} {m words n : ℕ} → Accepts text records values decls m words n → Scene records values decls m
 standing {text} v = record { text = text; tokens = scan text .tokens; description = v .lawful .declares .description; ready = v .lawful .declares .ready }
 
 pub accepted-by : {text records values decls : List ℕ} {r : Verdict} {m w n : ℕ} → Judges text records values decls r → r ≡ Accepted m w n → Accepts text records values decls m w n

@@ -19,12 +19,13 @@ use Rattle.rules.specs.Images.{imageSize, imageOf, blocksFor, imageFault, heldI
 use Rattle.rules.specs.Keeping.{Kept, declined, kept, refusedOr, faultUnless, at61, carriersSize, fault60, fault61, fault62, storing, loading, keptIn}
 use Rattle.starts.specs.Starts.{Starts, Begins, Declines}
 use Rattle.laws_accepted.specs.Accepted.Declared.{declares, few-words}
+use Rattle.table.specs.Ready.{Scene, tableOf}
 use Rattle.starts.specs.declared.Started.{Started}
 use Rattle.images.specs.Judged.{faultOf}
 use Rattle.images.specs.declared.images.Judged.{Judged}
 use Rattle.images.specs.declared.images.Judged.the-variants.{Fine, Refused as Bad}
 use Rattle.images.specs.Laws.Images.{length-held-in, blocks-near}
-use Rattle.kept.specs.Kept.{Stands, tableOf, Keeping, Written, wrong-length, written, Taken}
+use Rattle.kept.specs.Kept.{Keeping, Written, wrong-length, written, Taken}
 use Rattle.kept.specs.declared.endings.Ending.{Ending}
 use Rattle.kept.specs.declared.endings.Ending.the-variants.{Refused, Done}
 
@@ -164,7 +165,7 @@ module _ (ds : Table) (image carriers : List ℕ) where
         let words = heldIn (length carriers) image in
         record { taken = done-as _ carriers left (ap (λ x. refusedOr x (kept words)) (run-begun ds words b .1) ∙ ap kept (sym e)) }
 
-pub small-carriers : {records values decls carriers : List ℕ} {m : ℕ} (v : Stands records values decls m) → Begins (tableOf v) carriers → length carriers ≤ 32768
+pub small-carriers : {records values decls carriers : List ℕ} {m : ℕ} (v : Scene records values decls m) → Begins (tableOf v) carriers → length carriers ≤ 32768
 small-carriers v b = omega (arith, b .long, few-words (declares (v .description) (v .ready .lawful)))
 
 pub same-held : {ds : Table} (image : List ℕ) {k n : ℕ} {r : Started} → Starts ds (heldIn k image) r → k ≡ n → Starts ds (heldIn n image) r

@@ -21,7 +21,7 @@ use Rattle.lent.specs.Settled.{Settled}
 use Rattle.lent.specs.Laws.Settled.{settled-same}
 use Rattle.lent.specs.declared.answers.Answer.{Answer}
 use Rattle.reader.specs.Parsed.{Refuses}
-use Rattle.reader.specs.Judged.{Accepts, described-by, table-by}
+use Rattle.accepted.specs.Accepted.{Accepts, described-by, table-by}
 use Rattle.lasting.specs.Bounded.{Told}
 
 -- the numbers of a count

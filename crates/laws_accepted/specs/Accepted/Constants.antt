@@ -5,7 +5,7 @@ use Rattle.rules.specs.Text.Tokens.{Info, tk, Const, RPar, RBra}
 use Rattle.rules.specs.Grammar.Trees.{Tokens, bitsTokens, Operand, constant, access, parens, negated, operandTokens, Tail, no-more, with-op, tailTokens, Subscript, no-subscript, subscript, subscriptTokens}
 use Rattle.rules.specs.Grammar.Precedence.{Expr, leaf, node, Factor, number, cell, group, inverse, Index, no-index, index, Link, insert-by, insert, inserts, arrange, tightness, factorOf, linksOf, indexOf, exprOf}
 use native.Mathlib.Decide.{decLt}
-use Rattle.laws_grammar.specs.Grammar.Positions.{Writes, operand-writes, tail-writes}
+use Rattle.laws_grammar.specs.Grammar.Positions.{Writes, operand-writes}
 use Rattle.laws_accepted.specs.Cited.Constants.{InBits}
 
 abbrev pub ConstantOk : Info → Type 0
@@ -59,13 +59,6 @@ rest-ok {f} w ts h = by (f []) (subst ConstantsOk (w .grows [] ts) h)
     by [] q = q
     by (x ∷ xs) q = by xs (q .1)
 
-pub front-ok : {f : Tokens → Tokens} → Writes f → (ts : Tokens) → ConstantsOk (f ts) → ConstantsOk (f [])
-front-ok {f} w ts h = by (f []) (subst ConstantsOk (w .grows [] ts) h)
-  where
-    by : (xs : Tokens) → ConstantsOk (xs ++ ts) → ConstantsOk xs
-    by [] q = tt
-    by (x ∷ xs) q = (q .0, by xs (q .1))
-
 mutual
   unfolding factorOf linksOf indexOf arrange
 
@@ -92,6 +85,3 @@ pub expression-ok : (o : Operand) (t : Tail) (ts : Tokens) → ConstantsOk (oper
 unfolding exprOf arrange
 expression-ok o t ts h =
     inserts-ok (leaf (factorOf o)) (linksOf t) (operand-ok o (tailTokens t ts) h) (tail-ok t ts (rest-ok (operand-writes o) (tailTokens t ts) h))
-
-pub behind-expression : (o : Operand) (t : Tail) (ts : Tokens) → ConstantsOk (operandTokens o (tailTokens t ts)) → ConstantsOk ts
-behind-expression o t ts h = rest-ok (tail-writes t) ts (rest-ok (operand-writes o) (tailTokens t ts) h)

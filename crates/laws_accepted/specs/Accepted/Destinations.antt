@@ -12,7 +12,7 @@ use Rattle.rules.specs.Declarations.{Word, Table}
 use Rattle.rules.specs.Steps.Actions.{Access, access, joinedAccesses}
 use Rattle.rules.specs.Steps.Evaluation.{Carriers, gives, then, Field, fieldOf, evaluateIndex, evaluateAccess, evaluateAccesses}
 use Rattle.rules.specs.Faults.Bodies.{Judged, judgedAs, over, judgeDestination, judgeJoined}
-use Rattle.laws_grammar.specs.Grammar.Positions.{bits-writes, subscript-writes, joined-writes}
+use Rattle.laws_grammar.specs.Grammar.Positions.{bits-writes, subscript-writes}
 use Rattle.laws_accepted.specs.Accepted.Faultless.{both-empty}
 use Rattle.laws_accepted.specs.Cited.Declared.{Declares}
 use Rattle.laws_accepted.specs.Accepted.Constants.{ConstantsOk, IndexOk, rest-ok, subscript-ok}
@@ -39,9 +39,6 @@ module _ (n : Info) (s : Subscript) (b : Bits) (j : Joined) (ts : Tokens) (c : C
   pub subscripts-ok : SubscriptsOk (access n s b ∷ joinedAccesses j)
   unfolding access
   subscripts-ok = (subscript-ok s (bitsTokens b (joinedTokens j ts)) c, joined-ok j ts (behind-access s b (joinedTokens j ts) c))
-
-  pub behind-destination : ConstantsOk ts
-  behind-destination = rest-ok (joined-writes j) ts (behind-access s b (joinedTokens j ts) c)
 
 module _ (outer : Word) (ds : Table) where
   -- fields inside words that are there

@@ -1,16 +1,12 @@
 -- Trees write their tokens and nothing else, so they stand at positions of a token list.
 use mathlib.Core.Path.{_≡_, refl, ap, _∙_}
 use mathlib.Core.List.{_∷_, _++_}
-use Prim.Native.Nat.{ℕ, suc, _+_, _<_}
-use native.Mathlib.Omega.{arith}
-use lib.ListN.{length, drop, getD}
-use lib.Seq.{drop-cons}
-use Rattle.rules.specs.Text.Tokens.{Kind, Info, Token, tk, Name, Const, LPar, RPar, LBra, RBra, Less, Comma, Semi, Colon, Becomes, Equals, Arrow, Stars, BEGIN, END, NEXT, IF, DECODE, OTHERWISE, REPEAT, LEAVE, RESTART, MAIN, STOP, NO-OP}
-use Rattle.rules.specs.Grammar.Trees.{Tokens, Bits, bitsTokens, Operand, operandTokens, Tail, tailTokens, Subscript, subscriptTokens, Joined, joinedTokens, Selector, selectorTokens, Action, block, labelled, if-then, decode, repeat, leave, restart, activate, stop, no-op, transfer, actionTokens, Members, end, also, next, membersTokens, Alternatives, counted, selected, alternativesTokens, Counted, counted-end, counted-more, countedTokens, Selected, select, otherwise, selectedTokens, SelectedMore, selected-end, selected-more, selectedMoreTokens, OwnBits, ownBitsTokens, Meaning, body, mapped, meaningTokens, Given, carrier, given, givenTokens, Form, words, with-bits, bare-body, formTokens, MainBits, mainBitsTokens, Declaration, plain, main, declarationTokens, Heading, no-heading, heading, headingTokens, Declarations, declared-all, declared-also, declarationsTokens, Description, descriptionTokens}
+use Prim.Native.Nat.{ℕ, _+_}
+use Rattle.rules.specs.Text.Tokens.{Kind, Info, tk, Name, Const, LPar, RPar, LBra, RBra, Less, Comma, Semi, Colon, Becomes, Equals, Arrow, Stars, BEGIN, END, NEXT, IF, DECODE, OTHERWISE, REPEAT, LEAVE, RESTART, MAIN, STOP, NO-OP}
+use Rattle.rules.specs.Grammar.Trees.{Tokens, Bits, bitsTokens, Operand, operandTokens, Tail, tailTokens, Subscript, subscriptTokens, Joined, joinedTokens, Selector, selectorTokens, Action, block, labelled, if-then, decode, repeat, leave, restart, activate, stop, no-op, transfer, actionTokens, Members, end, also, next, membersTokens, Alternatives, counted, selected, alternativesTokens, Counted, counted-end, counted-more, countedTokens, Selected, select, otherwise, selectedTokens, SelectedMore, selected-end, selected-more, selectedMoreTokens, OwnBits, ownBitsTokens, Meaning, body, mapped, meaningTokens, Given, carrier, given, givenTokens, Form, words, with-bits, bare-body, formTokens, MainBits, mainBitsTokens, Declaration, plain, main, declarationTokens, Heading, no-heading, heading, headingTokens}
 use Rattle.trees.specs.Written.{level, nothing as empty, token as step}
 use Rattle.trees.specs.Expressions.{Expressed, bits-end-written, bits-written, operand-written, tail-written, subscript-written, joined-written, own-bits-written, main-bits-written}
 use Rattle.trees.specs.Selectors.{Chosen, selector-written}
-use Rattle.laws_grammar.specs.Cited.Positions.{Stands}
 
 -- what follows stands untouched behind what f writes
 pub record Writes (f : Tokens → Tokens) : Type 0 where
@@ -116,22 +112,3 @@ declaration-writes (main i n o e b a m) =
 pub heading-writes : (h : Heading) → Writes (headingTokens h)
 heading-writes no-heading = nothing
 heading-writes (heading l n r) = token Stars l (token Name n (token Stars r nothing))
-
-pub declarations-writes : (d : Declarations) → Writes (declarationsTokens d)
-declarations-writes (declared-all e) = token END e nothing
-declarations-writes (declared-also c h d ds) = token Comma c (then (heading-writes h) (then (declaration-writes d) (declarations-writes ds)))
-
-pub token-stands : (k : Kind) (x : Info) (g : Tokens → Tokens) (T : Tokens) (i j : ℕ) (d : Token) → i < length T → getD T i d ≡ tk k x → Stands g T (suc i) j
-    → Stands (λ ts. tk k x ∷ g ts) T i j
-token-stands k x g T i j d b e p =
-    record {
-      size = let s = p .size in omega arith;
-      ends = p .ends;
-      reads = drop-cons T i d b ∙ ap (λ (t : Token). t ∷ drop (suc i) T) e ∙ ap (λ (l : Tokens). tk k x ∷ l) (p .reads);
-    }
-
-abbrev pub ExpressionAt : Tokens → ℕ → Operand → Tail → ℕ → Type 0
-ExpressionAt T i o t j = Stands (λ ts. operandTokens o (tailTokens t ts)) T i j
-
-abbrev pub DescriptionAt : Tokens → ℕ → Description → ℕ → Type 0
-DescriptionAt T i d j = Stands (descriptionTokens d) T i j

@@ -6,35 +6,17 @@ use mathlib.Core.List.{List, []}
 use native.Mathlib.Omega.{arith}
 use lib.ListN.{length}
 use Rattle.rules.specs.Declarations.{Word, Table}
-use Rattle.rules.specs.Steps.Actions.{ins, Ins}
-use Rattle.rules.specs.Steps.Control.{Live, one, seqL, both, left, right, labL, loopL, callL, start, leftmost}
+use Rattle.rules.specs.Steps.Control.{Live, callL, start, leftmost}
 use Rattle.rules.specs.Steps.Control.{Sig, ends, goes, leaves, restarts, stops, faults, next}
 use Rattle.rules.specs.Steps.Runs.{bodyAct}
 use Rattle.rules.specs.Whole.Sets.{chainOver}
 use Rattle.rules.specs.Limits.{longestChain}
 use Rattle.laws_orders.specs.Orders.Tests.{impossible}
-use Rattle.laws_orders.specs.Cited.Flat.{Link, at, exit, Code, At, pc, push, nextM, Labels, outer, bind, leaveTo, restartTo, HoldsI, ownLabel, HoldsBodies}
+use Rattle.laws_orders.specs.Cited.Flat.{exit, Code, At, pc, nextM, outer, leaveTo, restartTo, HoldsBodies}
 use Rattle.laws_orders.specs.Orders.Stands.{Stands, Says, next-says, call-stands}
 use Rattle.laws_orders.specs.Orders.Depth.{Chained, ChainedS, call-chained, next-chained, stack-short}
 
 module _ (ds : Table) (C : Code) where
-  -- an instruction of the description, with the labels around it and the link behind it
-  pub record Instruction (n : ℕ) : Type 0 where
-    pub labels : Labels
-    pub behind : Link
-    pub ins : Ins
-    pub held : HoldsI C labels n behind ins
-
-  instruction : (r : Live) (ρ : Labels) (k : Link) (τ : List ℕ) (n : ℕ) (σ : List ℕ) → Stands C ρ k τ r n σ → Instruction n
-  instruction (one i) ρ k τ n σ q = record { labels = ρ; behind = k; ins = i; held = q .1 }
-  instruction (seqL r a) ρ k τ n σ q = instruction r ρ (at (q .0)) τ n σ (q .1)
-  instruction (both r t) ρ k τ n σ q = instruction r ρ (at (q .0)) τ n σ (q .2)
-  instruction (left r) ρ k τ n σ q = absurd q
-  instruction (right r) ρ k τ n σ q = instruction r ρ k τ n σ q
-  instruction (labL l a r) ρ k τ n σ q = instruction r (bind l (q .0) k ρ) k τ n σ (q .2)
-  instruction (loopL a r) ρ k τ n σ q = instruction r ρ (at (q .0)) τ n σ (q .2)
-  instruction (callL p r) ρ k τ n σ q = instruction r (ownLabel C p) exit (push k τ) n σ q
-
   -- a place that the machine can come to: there something of a run from left to right is left
   pub record Place (n : ℕ) (σ : List ℕ) : Type 0 where
     rest : Live

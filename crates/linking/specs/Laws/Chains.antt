@@ -11,14 +11,16 @@ use native.Mathlib.Numerals.{add-one}
 use lib.Dec.{eqb}
 use lib.ListN.{length, getD}
 use Rattle.cells.specs.Cells.{cell, putCell}
+use Rattle.cells.specs.Laws.{cell-same, cell-other, long-put}
 use Rattle.rules.specs.Limits.{mostWords}
 use Rattle.rules.specs.Stores.{Entry, entry}
 use Rattle.traces.specs.Cited.Marking.{Cells}
 use Rattle.rules.specs.Entries.{mostEntries}
-use Rattle.matching.specs.Room.{roomSize, nextCell, floorCell, badCell, depthCell, firstCell, endless, posOf, leftFrom, groupsIn, matchingIn, wordAt, Next, Reached, Sound, Stands, Linked, Filled}
+use Rattle.matching.specs.Room.{endless, posOf, leftFrom, groupsIn, matchingIn, wordAt, Next, Reached, Sound, Stands, Linked, Filled}
+use Rattle.room.specs.Trace.{roomSize, nextCell, floorCell, badCell, depthCell, firstCell}
 use Rattle.matching.specs.Matching.{untold}
 use Rattle.linking.specs.Seeking.{OfWord, Sought, Reaches, Seeks}
-use Rattle.matching.specs.Laws.Room.{cell-same, cell-other, long-put, pos-at, pos-never, left-frame, groups-frame, cells-long, taken-there, left-there}
+use Rattle.matching.specs.Laws.Room.{pos-at, pos-never, left-frame, groups-frame, cells-long, taken-there, left-there}
 use Rattle.linking.specs.Laws.Puts.{same-matching, reached-frame}
 
 -- where the search of a word begins
@@ -72,11 +74,11 @@ module _ {l : List Entry} {b : List ℕ} {w r : ℕ} (s : Sound l b) (v : Reache
   first-put k =
       let a = putCell 2 b (firstCell + w) r in
       let few = s .few in
-      let low : (j : ℕ) → j < firstCell → cell 2 a j ≡ cell 2 b j = λ j h. cell-other b (firstCell + w) r j (λ q. omega arith) in
+      let low : (j : ℕ) → j < firstCell → cell 2 a j ≡ cell 2 b j = λ j h. cell-other 2 b (firstCell + w) r j (λ q. omega arith) in
       record {
         sound = record {
           few = s .few;
-          long = omega (arith, long-put b (firstCell + w) r, s .long);
+          long = omega (arith, long-put 2 b (firstCell + w) r, s .long);
           shallow = rw (low depthCell (omega arith)) (s .shallow);
           next = λ i m n. rw (low (nextCell + i) (omega arith)) (s .next i m n);
           first = λ u m. first u m (decLt u w) (decLt w u);
@@ -89,17 +91,17 @@ module _ {l : List Entry} {b : List ℕ} {w r : ℕ} (s : Sound l b) (v : Reache
       }
     where
       kept : {u q : ℕ} → Reached l b u q → Reached l (putCell 2 b (firstCell + w) r) u q
-      kept x = reached-frame (s .few) (λ j h. cell-other b (firstCell + w) r j (λ q. omega arith)) x
+      kept x = reached-frame (s .few) (λ j h. cell-other 2 b (firstCell + w) r j (λ q. omega arith)) x
 
       other : (u : ℕ) → u < mostWords → (u ≡ w → ⊥) → Reached l (putCell 2 b (firstCell + w) r) u (cell 2 (putCell 2 b (firstCell + w) r) (firstCell + u))
-      other u m n = rw (cell-other b (firstCell + w) r (firstCell + u) (λ q. n (omega arith))) (kept (s .first u m))
+      other u m n = rw (cell-other 2 b (firstCell + w) r (firstCell + u) (λ q. n (omega arith))) (kept (s .first u m))
 
       first : (u : ℕ) → u < mostWords → Dec (u < w) → Dec (w < u) → Reached l (putCell 2 b (firstCell + w) r) u (cell 2 (putCell 2 b (firstCell + w) r) (firstCell + u))
       first u m (yes p) q = other u m (λ e. omega arith)
       first u m (no p) (yes q) = other u m (λ e. omega arith)
       first u m (no p) (no q) =
           let e : u ≡ w = omega arith in
-          rw (e, cell-same b (firstCell + w) r (omega (arith, s .long)) (omega (arith, v .reached .most, s .few))) (kept (v .reached))
+          rw (e, cell-same 2 b (firstCell + w) r (omega (arith, s .long)) (omega (arith, v .reached .most, s .few))) (kept (v .reached))
 
   pub seeks-there : {a : List ℕ} → w < mostWords → a ≡ putCell 2 b (firstCell + w) r → Seeks l b a w r
   seeks-there k e = rw e (record { stands = first-put k; sought = reached-sought })
@@ -109,13 +111,13 @@ pub none-filled : (b : List ℕ) (v : ℕ) → Filled b b v 0
 none-filled b v = record { long = refl; each = λ w h. absurd (omega arith) }
 
 pub more-filled : {b now a : List ℕ} {v w : ℕ} → Filled b now v w → roomSize ≤ length b → w < mostWords → v < 65536 → a ≡ putCell 2 now (firstCell + w) v → Filled b a v (w + 1)
-more-filled {b} {now} {a} {v} {w} f room h k e = rw e (record { long = long-put now (firstCell + w) v ∙ f .long; each = λ u m. by u m (decLt u w) })
+more-filled {b} {now} {a} {v} {w} f room h k e = rw e (record { long = long-put 2 now (firstCell + w) v ∙ f .long; each = λ u m. by u m (decLt u w) })
   where
     by : (u : ℕ) → u < w + 1 → Dec (u < w) → cell 2 (putCell 2 now (firstCell + w) v) (firstCell + u) ≡ v
-    by u m (yes p) = cell-other now (firstCell + w) v (firstCell + u) (λ q. omega arith) ∙ f .each u p
+    by u m (yes p) = cell-other 2 now (firstCell + w) v (firstCell + u) (λ q. omega arith) ∙ f .each u p
     by u m (no p) =
         let q : u ≡ w = omega arith in
-        ap (λ n. cell 2 (putCell 2 now (firstCell + w) v) (firstCell + n)) q ∙ cell-same now (firstCell + w) v (omega (arith, f .long)) k
+        ap (λ n. cell 2 (putCell 2 now (firstCell + w) v) (firstCell + n)) q ∙ cell-same 2 now (firstCell + w) v (omega (arith, f .long)) k
 
 pub all-filled : {b a : List ℕ} {v w : ℕ} → Filled b a v w → mostWords ≤ w → Filled b a v mostWords
 all-filled f h = record { long = f .long; each = λ u m. f .each u (omega arith) }
@@ -142,19 +144,19 @@ next-passed {l} {w} {i} {r} n h = record { least = omega (arith, n .least); most
 module _ {l : List Entry} {b : List ℕ} (i : ℕ) (v : Linked l b (i + 1)) where
   module _ {a : List ℕ} (e : a ≡ putCell 2 b i 0) where
     cleared-other : (j : ℕ) → mostEntries ≤ j → cell 2 a j ≡ cell 2 b j
-    cleared-other j h = ap (λ (n : List ℕ). cell 2 n j) e ∙ cell-other b i 0 j (λ q. omega (arith, v .few, v .within))
+    cleared-other j h = ap (λ (n : List ℕ). cell 2 n j) e ∙ cell-other 2 b i 0 j (λ q. omega (arith, v .few, v .within))
 
     cleared-long : length a ≡ length b
-    cleared-long = ap length e ∙ long-put b i 0
+    cleared-long = ap length e ∙ long-put 2 b i 0
 
     cleared : (k : ℕ) → i ≤ k → k < length l → cell 2 a k ≡ 0
     cleared k m n = by (decLt i k)
       where
         by : Dec (i < k) → cell 2 a k ≡ 0
-        by (yes p) = ap (λ (n : List ℕ). cell 2 n k) e ∙ cell-other b i 0 k (λ q. omega arith) ∙ v .clear k (omega arith) n
+        by (yes p) = ap (λ (n : List ℕ). cell 2 n k) e ∙ cell-other 2 b i 0 k (λ q. omega arith) ∙ v .clear k (omega arith) n
         by (no p) =
             let u : k ≡ i = omega arith in
-            ap (cell 2 a) u ∙ ap (λ (n : List ℕ). cell 2 n i) e ∙ cell-same b i 0 (omega (arith, v .long, v .few, v .within)) (omega arith)
+            ap (cell 2 a) u ∙ ap (λ (n : List ℕ). cell 2 n i) e ∙ cell-same 2 b i 0 (omega (arith, v .long, v .few, v .within)) (omega arith)
 
     pub unlinked : {x : Entry} → x ≡ getD l i (entry 0 0 0) → mostWords ≤ x .word → Linked l a i
     unlinked {x} is-x h = record {
@@ -191,16 +193,16 @@ module _ {l : List Entry} {b : List ℕ} (i : ℕ) (v : Linked l b (i + 1)) wher
         is-w = sym (ap (λ (y : Entry). y .word) is-x)
 
         long-two : length a₂ ≡ length b
-        long-two = ap length e₂ ∙ long-put a₁ (firstCell + w) i ∙ ap length e₁ ∙ long-put a (nextCell + i) g ∙ cleared-long
+        long-two = ap length e₂ ∙ long-put 2 a₁ (firstCell + w) i ∙ ap length e₁ ∙ long-put 2 a (nextCell + i) g ∙ cleared-long
 
         two-other : (j : ℕ) → (j ≡ nextCell + i → ⊥) → (j ≡ firstCell + w → ⊥) → cell 2 a₂ j ≡ cell 2 a j
         two-other j m n =
-            ap (λ (y : List ℕ). cell 2 y j) e₂ ∙ cell-other a₁ (firstCell + w) i j n ∙ ap (λ (y : List ℕ). cell 2 y j) e₁ ∙ cell-other a (nextCell + i) g j m
+            ap (λ (y : List ℕ). cell 2 y j) e₂ ∙ cell-other 2 a₁ (firstCell + w) i j n ∙ ap (λ (y : List ℕ). cell 2 y j) e₁ ∙ cell-other 2 a (nextCell + i) g j m
 
         there : cell 2 a₂ (nextCell + i) ≡ cell 2 b (firstCell + w)
         there =
-            ap (λ (y : List ℕ). cell 2 y (nextCell + i)) e₂ ∙ cell-other a₁ (firstCell + w) i (nextCell + i) (λ q. omega (arith, v .few, v .within))
-            ∙ ap (λ (y : List ℕ). cell 2 y (nextCell + i)) e₁ ∙ cell-same a (nextCell + i) g (omega (arith, v .long, cleared-long, v .few, v .within)) k
+            ap (λ (y : List ℕ). cell 2 y (nextCell + i)) e₂ ∙ cell-other 2 a₁ (firstCell + w) i (nextCell + i) (λ q. omega (arith, v .few, v .within))
+            ∙ ap (λ (y : List ℕ). cell 2 y (nextCell + i)) e₁ ∙ cell-same 2 a (nextCell + i) g (omega (arith, v .long, cleared-long, v .few, v .within)) k
             ∙ is-g ∙ cleared-other (firstCell + w) (omega arith)
 
         next : (j : ℕ) → i ≤ j → j < length l → wordAt l j < mostWords → Dec (i < j) → Next l (wordAt l j) (suc j) (cell 2 a₂ (nextCell + j))
@@ -216,7 +218,7 @@ module _ {l : List Entry} {b : List ℕ} (i : ℕ) (v : Linked l b (i + 1)) wher
             (next-passed (v .first u m) (λ q. n (sym q ∙ is-w)))
 
         here : cell 2 a₂ (firstCell + w) ≡ i
-        here = ap (λ (y : List ℕ). cell 2 y (firstCell + w)) e₂ ∙ cell-same a₁ (firstCell + w) i (omega (arith, v .long, ap length e₁, long-put a (nextCell + i) g, cleared-long)) (omega (arith, v .few, v .within))
+        here = ap (λ (y : List ℕ). cell 2 y (firstCell + w)) e₂ ∙ cell-same 2 a₁ (firstCell + w) i (omega (arith, v .long, ap length e₁, long-put 2 a (nextCell + i) g, cleared-long)) (omega (arith, v .few, v .within))
 
         first : (u : ℕ) → u < mostWords → Dec (u < w) → Dec (w < u) → Next l u i (cell 2 a₂ (firstCell + u))
         first u m (yes p) q = other u m (λ e. omega arith)
@@ -254,31 +256,31 @@ begun {l} {b} {a₁} {a₂} {a} v e₁ e₂ e₃ = record {
 }
   where
     long₁ : length a₁ ≡ length b
-    long₁ = ap length e₁ ∙ long-put b floorCell 0
+    long₁ = ap length e₁ ∙ long-put 2 b floorCell 0
 
     long₂ : length a₂ ≡ length a₁
-    long₂ = ap length e₂ ∙ long-put a₁ badCell endless
+    long₂ = ap length e₂ ∙ long-put 2 a₁ badCell endless
 
     same-long : length a ≡ length b
-    same-long = ap length e₃ ∙ long-put a₂ depthCell 0 ∙ long₂ ∙ long₁
+    same-long = ap length e₃ ∙ long-put 2 a₂ depthCell 0 ∙ long₂ ∙ long₁
 
     other : (j : ℕ) → (j ≡ floorCell → ⊥) → (j ≡ badCell → ⊥) → (j ≡ depthCell → ⊥) → cell 2 a j ≡ cell 2 b j
     other j m n o =
-        ap (λ (y : List ℕ). cell 2 y j) e₃ ∙ cell-other a₂ depthCell 0 j o ∙ ap (λ (y : List ℕ). cell 2 y j) e₂ ∙ cell-other a₁ badCell endless j n
-        ∙ ap (λ (y : List ℕ). cell 2 y j) e₁ ∙ cell-other b floorCell 0 j m
+        ap (λ (y : List ℕ). cell 2 y j) e₃ ∙ cell-other 2 a₂ depthCell 0 j o ∙ ap (λ (y : List ℕ). cell 2 y j) e₂ ∙ cell-other 2 a₁ badCell endless j n
+        ∙ ap (λ (y : List ℕ). cell 2 y j) e₁ ∙ cell-other 2 b floorCell 0 j m
 
     depth : cell 2 a depthCell ≡ 0
-    depth = ap (λ (y : List ℕ). cell 2 y depthCell) e₃ ∙ cell-same a₂ depthCell 0 (omega (arith, v .long, long₁, long₂)) (omega arith)
+    depth = ap (λ (y : List ℕ). cell 2 y depthCell) e₃ ∙ cell-same 2 a₂ depthCell 0 (omega (arith, v .long, long₁, long₂)) (omega arith)
 
     bad : cell 2 a badCell ≡ endless
     bad =
-        ap (λ (y : List ℕ). cell 2 y badCell) e₃ ∙ cell-other a₂ depthCell 0 badCell (λ q. omega arith) ∙ ap (λ (y : List ℕ). cell 2 y badCell) e₂
-        ∙ cell-same a₁ badCell endless (omega (arith, v .long, long₁)) (omega arith)
+        ap (λ (y : List ℕ). cell 2 y badCell) e₃ ∙ cell-other 2 a₂ depthCell 0 badCell (λ q. omega arith) ∙ ap (λ (y : List ℕ). cell 2 y badCell) e₂
+        ∙ cell-same 2 a₁ badCell endless (omega (arith, v .long, long₁)) (omega arith)
 
     floor : cell 2 a floorCell ≡ 0
     floor =
-        ap (λ (y : List ℕ). cell 2 y floorCell) e₃ ∙ cell-other a₂ depthCell 0 floorCell (λ q. omega arith) ∙ ap (λ (y : List ℕ). cell 2 y floorCell) e₂
-        ∙ cell-other a₁ badCell endless floorCell (λ q. omega arith) ∙ ap (λ (y : List ℕ). cell 2 y floorCell) e₁ ∙ cell-same b floorCell 0 (omega (arith, v .long)) (omega arith)
+        ap (λ (y : List ℕ). cell 2 y floorCell) e₃ ∙ cell-other 2 a₂ depthCell 0 floorCell (λ q. omega arith) ∙ ap (λ (y : List ℕ). cell 2 y floorCell) e₂
+        ∙ cell-other 2 a₁ badCell endless floorCell (λ q. omega arith) ∙ ap (λ (y : List ℕ). cell 2 y floorCell) e₁ ∙ cell-same 2 b floorCell 0 (omega (arith, v .long)) (omega arith)
 
     reached : {w r : ℕ} → Next l w 0 r → Reached l a w r
     reached n = record { most = n .most; passed = λ k m e z. n .passed k (omega arith) m e; found = n .found }

@@ -10,12 +10,14 @@ use native.Mathlib.Nat.{zero-add}
 use native.Mathlib.Numerals.{add-one}
 use lib.ListN.{length, set}
 use Rattle.cells.specs.Cells.{cell, putCell}
+use Rattle.cells.specs.Laws.{cell-same, cell-other, long-put}
 use Rattle.rules.specs.Stores.{Entry}
 use Rattle.traces.specs.Cited.Marking.{Pos, Cells}
 use Rattle.rules.specs.Entries.{mostEntries}
 use Rattle.matching.specs.Matching.{Group, group, matching}
-use Rattle.matching.specs.Room.{nextCell, groupsCell, floorCell, badCell, depthCell, firstCell, mostGroups, posOf, leftFrom, groupsIn, matchingIn, wordAt, Reached, Sound, Stands}
-use Rattle.matching.specs.Laws.Room.{cell-same, cell-other, long-put, left-frame, left-take, length-groups, groups-frame}
+use Rattle.matching.specs.Room.{posOf, leftFrom, groupsIn, matchingIn, wordAt, Reached, Sound, Stands}
+use Rattle.room.specs.Trace.{mostGroups, nextCell, groupsCell, floorCell, badCell, depthCell, firstCell}
+use Rattle.matching.specs.Laws.Room.{left-frame, left-take, length-groups, groups-frame}
 
 pub same-matching : {c c′ : Cells} {f f′ b b′ : Pos} {g g′ : List Group} → c ≡ c′ → f ≡ f′ → b ≡ b′ → g ≡ g′ → matching c f b g ≡ matching c′ f′ b′ g′
 same-matching p q r t = rw (p, q, r, t) refl
@@ -41,26 +43,26 @@ module _ {l : List Entry} {b : List ℕ} (s : Sound l b) where
   }
 
   low-kept : (i v : ℕ) → groupsCell ≤ i → (j : ℕ) → j < groupsCell → cell 2 (putCell 2 b i v) j ≡ cell 2 b j
-  low-kept i v h j m = cell-other b i v j (λ e. omega arith)
+  low-kept i v h j m = cell-other 2 b i v j (λ e. omega arith)
 
   high-kept : (i v : ℕ) → i < firstCell → (j : ℕ) → firstCell ≤ j → cell 2 (putCell 2 b i v) j ≡ cell 2 b j
-  high-kept i v h j m = cell-other b i v j (λ e. omega arith)
+  high-kept i v h j m = cell-other 2 b i v j (λ e. omega arith)
 
   left-kept : (i v : ℕ) → mostEntries ≤ i → leftFrom (putCell 2 b i v) 0 l ≡ leftFrom b 0 l
-  left-kept i v h = left-frame (putCell 2 b i v) b 0 l (λ j m. cell-other b i v j (λ e. omega (arith, s .few)))
+  left-kept i v h = left-frame (putCell 2 b i v) b 0 l (λ j m. cell-other 2 b i v j (λ e. omega (arith, s .few)))
 
   groups-kept : (d i v : ℕ) → ((j : ℕ) → groupsCell ≤ j → j < groupsCell + 2 * d → j ≡ i → ⊥) → groupsIn (putCell 2 b i v) d ≡ groupsIn b d
-  groups-kept d i v h = groups-frame (putCell 2 b i v) b d (λ j m n. cell-other b i v j (h j m n))
+  groups-kept d i v h = groups-frame (putCell 2 b i v) b d (λ j m n. cell-other 2 b i v j (h j m n))
 
   -- a number among those behind the groups, or a group that is not open
   all-groups-kept : (i v : ℕ) → (i ≡ depthCell → ⊥) → ((j : ℕ) → groupsCell ≤ j → j < groupsCell + 2 * cell 2 b depthCell → j ≡ i → ⊥)
       → groupsIn (putCell 2 b i v) (cell 2 (putCell 2 b i v) depthCell) ≡ groupsIn b (cell 2 b depthCell)
   all-groups-kept i v n h =
-      ap (groupsIn (putCell 2 b i v)) (cell-other b i v depthCell (λ e. n (sym e))) ∙ groups-kept (cell 2 b depthCell) i v h
+      ap (groupsIn (putCell 2 b i v)) (cell-other 2 b i v depthCell (λ e. n (sym e))) ∙ groups-kept (cell 2 b depthCell) i v h
 
   sound-put : (i v : ℕ) → groupsCell ≤ i → i < firstCell → (i ≡ depthCell → ⊥) → Sound l (putCell 2 b i v)
   sound-put i v h k n =
-      sound-frame (long-put b i v) (low-kept i v h) (high-kept i v k) (rw (cell-other b i v depthCell (λ e. n (sym e))) (s .shallow))
+      sound-frame (long-put 2 b i v) (low-kept i v h) (high-kept i v k) (rw (cell-other 2 b i v depthCell (λ e. n (sym e))) (s .shallow))
 
   pub floor-put : (v : ℕ) → v < 65536 → Stands l (putCell 2 b floorCell v) (let z = matchingIn l b in matching (z .cells) (posOf v) (z .bad) (z .groups))
   unfolding matchingIn
@@ -68,8 +70,8 @@ module _ {l : List Entry} {b : List ℕ} (s : Sound l b) where
     sound = sound-put floorCell v (omega arith) (omega arith) (λ e. omega arith);
     is = same-matching
         (left-kept floorCell v (omega arith))
-        (ap posOf (cell-same b floorCell v (omega (arith, s .long)) h))
-        (ap posOf (cell-other b floorCell v badCell (λ e. omega arith)))
+        (ap posOf (cell-same 2 b floorCell v (omega (arith, s .long)) h))
+        (ap posOf (cell-other 2 b floorCell v badCell (λ e. omega arith)))
         (all-groups-kept floorCell v (λ e. omega arith) (λ j m n e. omega (arith, s .shallow)));
   }
 
@@ -79,8 +81,8 @@ module _ {l : List Entry} {b : List ℕ} (s : Sound l b) where
     sound = sound-put badCell v (omega arith) (omega arith) (λ e. omega arith);
     is = same-matching
         (left-kept badCell v (omega arith))
-        (ap posOf (cell-other b badCell v floorCell (λ e. omega arith)))
-        (ap posOf (cell-same b badCell v (omega (arith, s .long)) h))
+        (ap posOf (cell-other 2 b badCell v floorCell (λ e. omega arith)))
+        (ap posOf (cell-same 2 b badCell v (omega (arith, s .long)) h))
         (all-groups-kept badCell v (λ e. omega arith) (λ j m n e. omega (arith, s .shallow)));
   }
 
@@ -91,8 +93,8 @@ module _ {l : List Entry} {b : List ℕ} (s : Sound l b) where
     sound = sound-put i v (omega arith) (omega arith) (λ e. omega arith);
     is = same-matching
         (left-kept i v (omega arith))
-        (ap posOf (cell-other b i v floorCell (λ e. omega arith)))
-        (ap posOf (cell-other b i v badCell (λ e. omega arith)))
+        (ap posOf (cell-other 2 b i v floorCell (λ e. omega arith)))
+        (ap posOf (cell-other 2 b i v badCell (λ e. omega arith)))
         (all-groups-kept i v (λ e. omega arith) (λ j m n e. omega arith));
   }
 
@@ -101,13 +103,13 @@ module _ {l : List Entry} {b : List ℕ} (s : Sound l b) where
       → Stands l (putCell 2 b depthCell d) (let z = matchingIn l b in matching (z .cells) (z .floor) (z .bad) (groupsIn b d))
   unfolding matchingIn
   depth-put d h =
-      let e : cell 2 (putCell 2 b depthCell d) depthCell ≡ d = cell-same b depthCell d (omega (arith, s .long)) (omega arith) in
+      let e : cell 2 (putCell 2 b depthCell d) depthCell ≡ d = cell-same 2 b depthCell d (omega (arith, s .long)) (omega arith) in
       record {
-        sound = sound-frame (long-put b depthCell d) (low-kept depthCell d (omega arith)) (high-kept depthCell d (omega arith)) (omega arith);
+        sound = sound-frame (long-put 2 b depthCell d) (low-kept depthCell d (omega arith)) (high-kept depthCell d (omega arith)) (omega arith);
         is = same-matching
             (left-kept depthCell d (omega arith))
-            (ap posOf (cell-other b depthCell d floorCell (λ e. omega arith)))
-            (ap posOf (cell-other b depthCell d badCell (λ e. omega arith)))
+            (ap posOf (cell-other 2 b depthCell d floorCell (λ e. omega arith)))
+            (ap posOf (cell-other 2 b depthCell d badCell (λ e. omega arith)))
             (ap (groupsIn (putCell 2 b depthCell d)) e ∙ groups-kept d depthCell d (λ j m n e. omega arith));
       }
 
@@ -147,11 +149,11 @@ module _ {l : List Entry} {b : List ℕ} (s : Sound l b) where
           sound = sound-put i v (omega arith) (omega arith) (λ q. omega arith);
           is = same-matching
               (left-kept i v (omega arith))
-              (ap posOf (cell-other b i v floorCell (λ q. omega arith)))
-              (ap posOf (cell-other b i v badCell (λ q. omega arith)))
-              (ap (groupsIn (putCell 2 b i v)) (cell-other b i v depthCell (λ q. omega arith) ∙ sym e ∙ add-one d)
+              (ap posOf (cell-other 2 b i v floorCell (λ q. omega arith)))
+              (ap posOf (cell-other 2 b i v badCell (λ q. omega arith)))
+              (ap (groupsIn (putCell 2 b i v)) (cell-other 2 b i v depthCell (λ q. omega arith) ∙ sym e ∙ add-one d)
               ∙ ap₂ (λ (g : Group) (t : List Group). g ∷ t)
-              (ap₂ (λ m n. group (posOf m) (posOf n)) (cell-other b i v (groupsCell + 2 * d) (λ q. omega arith)) (cell-same b i v (omega (arith, s .long)) h))
+              (ap₂ (λ m n. group (posOf m) (posOf n)) (cell-other 2 b i v (groupsCell + 2 * d) (λ q. omega arith)) (cell-same 2 b i v (omega (arith, s .long)) h))
               (groups-kept d i v (λ j m n q. omega arith)));
         }
 
@@ -164,9 +166,9 @@ module _ {l : List Entry} {b : List ℕ} (s : Sound l b) where
   }
     where
       by : (k : ℕ) → k < r → wordAt l k ≡ w → cell 2 (putCell 2 b i 1) k ≡ 0 → Dec (k < i) → Dec (i < k) → ⊥
-      by k m e z (yes p) q = v .passed k m e (sym (cell-other b i 1 k (λ u. omega arith)) ∙ z)
-      by k m e z (no p) (yes q) = v .passed k m e (sym (cell-other b i 1 k (λ u. omega arith)) ∙ z)
-      by k m e z (no p) (no q) = let u : k ≡ i = omega arith in omega (arith, cell-same b i 1 long (omega arith), ap (cell 2 (putCell 2 b i 1)) u)
+      by k m e z (yes p) q = v .passed k m e (sym (cell-other 2 b i 1 k (λ u. omega arith)) ∙ z)
+      by k m e z (no p) (yes q) = v .passed k m e (sym (cell-other 2 b i 1 k (λ u. omega arith)) ∙ z)
+      by k m e z (no p) (no q) = let u : k ≡ i = omega arith in omega (arith, cell-same 2 b i 1 long (omega arith), ap (cell 2 (putCell 2 b i 1)) u)
 
   -- an entry is taken
   pub taken-put : (i : ℕ) → i < length l → Stands l (putCell 2 b i 1) (let z = matchingIn l b in matching (set (z .cells) i none) (z .floor) (z .bad) (z .groups))
@@ -177,14 +179,14 @@ module _ {l : List Entry} {b : List ℕ} (s : Sound l b) where
       record {
         sound = record {
           few = few;
-          long = omega (arith, long-put b i 1);
-          shallow = rw (cell-other b i 1 depthCell (λ e. omega arith)) (s .shallow);
-          next = λ j m k. rw (cell-other b i 1 (nextCell + j) (λ e. omega arith)) (s .next j m k);
-          first = λ w m. rw (cell-other b i 1 (firstCell + w) (λ e. omega arith)) (still-reached i (omega arith) (s .first w m));
+          long = omega (arith, long-put 2 b i 1);
+          shallow = rw (cell-other 2 b i 1 depthCell (λ e. omega arith)) (s .shallow);
+          next = λ j m k. rw (cell-other 2 b i 1 (nextCell + j) (λ e. omega arith)) (s .next j m k);
+          first = λ w m. rw (cell-other 2 b i 1 (firstCell + w) (λ e. omega arith)) (still-reached i (omega arith) (s .first w m));
         };
         is = same-matching
             (ap (λ n. leftFrom (putCell 2 b n 1) 0 l) (sym (zero-add i)) ∙ left-take b 0 l i h (omega arith))
-            (ap posOf (cell-other b i 1 floorCell (λ e. omega arith)))
-            (ap posOf (cell-other b i 1 badCell (λ e. omega arith)))
+            (ap posOf (cell-other 2 b i 1 floorCell (λ e. omega arith)))
+            (ap posOf (cell-other 2 b i 1 badCell (λ e. omega arith)))
             (all-groups-kept i 1 (λ e. omega arith) (λ j m n e. omega arith));
       }

@@ -7,13 +7,13 @@ use native.Mathlib.Omega.{arith}
 use Rattle.rules.specs.Text.Tokens.{BEGIN, DECODE, kindNo}
 use Rattle.laws_code.specs.Cited.Code.{actionSize}
 use Rattle.ways.specs.Seeking.{Ground}
-use Rattle.table.specs.Laws.Kept.{kept-then}
+use Rattle.records.specs.Laws.Kept.{kept-then}
 use Rattle.ways.specs.Laws.Stack.{labels-then}
 use Rattle.ways.specs.Standing.{ActionAt, Done}
 use Rattle.ways.specs.Prefixes.{Prefixed, Bared}
 use Rattle.ways.specs.Laws.Prefixes.{heads, heads-not}
 use Rattle.links.specs.Leaves.{LeafAt}
-use Rattle.table.specs.Holds.{kindByte}
+use Rattle.records.specs.Holds.{kindByte}
 use Rattle.links.specs.Actions.{BlockAt, ChoiceAt}
 
 -- an action is done when what stands behind its prefixes is

@@ -17,21 +17,22 @@ use Rattle.laws_grammar.specs.Grammar.Heads.{action-head}
 use Rattle.laws_orders.specs.Cited.Flat.{exit, outer, bind}
 use Rattle.laws_code.specs.Cited.Code.{actionSize, firstOf}
 use Rattle.laws_code.specs.Cited.Placed.{bodyStarts}
-use Rattle.table.specs.Holds.{linkCell, Holds}
+use Rattle.records.specs.Holds.{linkCell, Holds}
 use Rattle.table.specs.Laws.Positions.{here}
-use Rattle.table.specs.Words.{NameAt, wordAt}
+use Rattle.records.specs.Words.{NameAt, wordAt}
 use Rattle.table.specs.Declarations.{DeclaredAt, declarationList}
 use Rattle.table.specs.Lookups.{Nth, nth}
 use Rattle.table.specs.Views.{View, BodyAt}
 use Rattle.table.specs.Laws.Views.{name-token}
 use Rattle.table.specs.Ready.{Ready}
 use Rattle.ways.specs.Seeking.{Ground, Starts}
-use Rattle.table.specs.Kept.{Kept, LinkPut}
-use Rattle.table.specs.Laws.Kept.{kept-none, kept-then, kept-wide, holds-kept}
+use Rattle.records.specs.Kept.{Kept, LinkPut}
+use Rattle.records.specs.Laws.Kept.{kept-none, kept-then, kept-wide, holds-kept}
 use Rattle.ways.specs.Linked.{Linked, Same}
 use Rattle.links.specs.Laws.Linked.{linked-same}
 use Rattle.spelling.specs.Spelled.{Spelled}
-use Rattle.ways.specs.Stack.{hintsEnd, Pushed}
+use Rattle.ways.specs.Stack.{Pushed}
+use Rattle.room.specs.Links.{hintsEnd}
 use Rattle.ways.specs.Laws.Stack.{labelled-more}
 use Rattle.ways.specs.Standing.{ActionAt, Done}
 use Rattle.ways.specs.Laws.Standing.{meant-later}

@@ -12,15 +12,15 @@ use Rattle.laws_grammar.specs.Cited.Heads.{headKind}
 use Rattle.laws_grammar.specs.Cited.Nesting.{actionNest}
 use Rattle.laws_code.specs.Cited.Code.{actionSize, firstOf, behindTest}
 use Rattle.laws_code.specs.Links.Numbers.{size-before}
-use Rattle.table.specs.Holds.{kindByte}
+use Rattle.records.specs.Holds.{kindByte}
 use Rattle.table.specs.Laws.Positions.{here, kind-here}
 use Rattle.table.specs.Scans.{no, scan, halts, stops}
 use Rattle.table.specs.Laws.Scans.{arrow, past-expression}
 use Rattle.ways.specs.Seeking.{Ground, Stands, Seeks}
 use Rattle.ways.specs.Laws.Seeking.{found-at}
 use Rattle.ways.specs.Laws.Forms.{choice-is}
-use Rattle.table.specs.Kept.{Kept}
-use Rattle.table.specs.Laws.Kept.{kept-none, kept-then, kept-wide, holds-kept}
+use Rattle.records.specs.Kept.{Kept}
+use Rattle.records.specs.Laws.Kept.{kept-none, kept-then, kept-wide, holds-kept}
 use Rattle.ways.specs.Linked.{Linked, Separates, Same}
 use Rattle.links.specs.Laws.Linked.{linked-same}
 use Rattle.ways.specs.Laws.Stack.{labels-none, labels-then}

@@ -20,11 +20,11 @@ use Rattle.laws_code.specs.Cited.Code.{Numbered, firstOf, codeAt}
 use Rattle.laws_code.specs.Links.Numbers.{Ascends, Has, fetched}
 use Rattle.laws_code.specs.Cited.Bodies.{bodyCode, tableCode, firstIn, firstAt, firstNumber}
 use Rattle.laws_code.specs.Cited.Placed.{bodyStarts, descriptionCode}
-use Rattle.table.specs.Holds.{Holds, linkCell}
+use Rattle.records.specs.Holds.{Holds, linkCell}
 use Rattle.table.specs.Declarations.{declarationList, all-declared}
 use Rattle.table.specs.Ready.{Ready}
 use Rattle.promise.specs.Reached.{Reached, first, onward}
-use Rattle.table.specs.Laws.Kept.{holds-kept}
+use Rattle.records.specs.Laws.Kept.{holds-kept}
 use Rattle.links.specs.Laws.Layout.{number-below, BodyStands, BodyLaid, ends-rise, body-shallow}
 use Rattle.links.specs.Layout.{ends}
 use Rattle.links.specs.Links.{BodyLinked, Links}

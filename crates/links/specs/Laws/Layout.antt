@@ -19,7 +19,7 @@ use Rattle.laws_orders.specs.Orders.Tests.{impossible}
 use Rattle.laws_code.specs.Cited.Code.{size, actionSize}
 use Rattle.laws_code.specs.Links.Numbers.{size-before}
 use Rattle.laws_code.specs.Cited.Placed.{bodyStart, restStarts, bodyStarts}
-use Rattle.table.specs.Holds.{tokenAt, Holds}
+use Rattle.records.specs.Holds.{tokenAt, Holds}
 use Rattle.table.specs.Laws.Positions.{here, behind-far}
 use Rattle.table.specs.Declarations.{followingList, declarationList}
 use Rattle.table.specs.Scans.{no as kindOf, separates}

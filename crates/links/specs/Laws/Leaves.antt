@@ -12,19 +12,20 @@ use Rattle.laws_grammar.specs.Grammar.Positions.{Writes, subscript-writes, bits
 use Rattle.laws_grammar.specs.Cited.Heads.{headKind}
 use Rattle.laws_grammar.specs.Grammar.Heads.{secondKind}
 use Rattle.laws_code.specs.Cited.Code.{actionSize}
-use Rattle.table.specs.Holds.{kindByte, linkCell}
+use Rattle.records.specs.Holds.{kindByte, linkCell}
 use Rattle.table.specs.Laws.Positions.{here}
-use Rattle.table.specs.Words.{NameAt, wordAt}
+use Rattle.records.specs.Words.{NameAt, wordAt}
 use Rattle.table.specs.Laws.Scans.{equals, past-subscript, past-bits, past-joined}
 use Rattle.table.specs.Scans.{scan, halts, stops}
 use Rattle.ways.specs.Seeking.{Ground, Seeks}
 use Rattle.ways.specs.Laws.Seeking.{found-at}
 use Rattle.ways.specs.Laws.Forms.{leave-is, restart-is, stop-is, no-op-is, activation-is, transfer-is, second-within, second-byte, second-is}
-use Rattle.table.specs.Kept.{Kept, LinkPut, InsidePut}
-use Rattle.table.specs.Laws.Kept.{kept-none, kept-then, kept-wide}
+use Rattle.records.specs.Kept.{Kept, LinkPut, InsidePut}
+use Rattle.records.specs.Laws.Kept.{kept-none, kept-then, kept-wide}
 use Rattle.ways.specs.Linked.{Linked}
 use Rattle.ways.specs.Laws.Stack.{labels-none, aims-behind, aims-start}
-use Rattle.ways.specs.Stack.{mostLabels, JumpAt, aims}
+use Rattle.ways.specs.Stack.{JumpAt, aims}
+use Rattle.room.specs.Links.{mostLabels}
 use Rattle.ways.specs.Standing.{ActionAt, Done}
 use Rattle.ways.specs.Laws.Standing.{within}
 use Rattle.ways.specs.Prefixes.{prefixed}

@@ -16,7 +16,7 @@ use Rattle.rules.specs.Faults.Fault.{Fault, when}
 use Rattle.rules.specs.Faults.Whole.{mains, mainName, chains, groupsFaults, faults50}
 use Rattle.laws_orders.specs.Orders.Tests.{impossible}
 use Rattle.laws_accepted.specs.Accepted.Faultless.{both-empty}
-use Rattle.table.specs.Holds.{linkCell}
+use Rattle.records.specs.Holds.{linkCell}
 use Rattle.table.specs.Laws.Positions.{record-within}
 use Rattle.table.specs.Declarations.{DeclaredAt, declarationList, all-declared}
 use Rattle.table.specs.Lookups.{Nth, nth}

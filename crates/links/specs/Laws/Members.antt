@@ -17,14 +17,14 @@ use Rattle.laws_orders.specs.Cited.Flat.{Link, at, Labels}
 use Rattle.laws_code.specs.Cited.Code.{actionSize, firstOf, behind}
 use Rattle.laws_code.specs.Links.Numbers.{size-before}
 use Rattle.laws_grammar.specs.Grammar.Positions.{members-writes}
-use Rattle.table.specs.Holds.{kindByte}
+use Rattle.records.specs.Holds.{kindByte}
 use Rattle.table.specs.Laws.Positions.{here, kind-here}
 use Rattle.table.specs.Scans.{no, separates}
 use Rattle.ways.specs.Seeking.{Ground, Seeks, Starts}
 use Rattle.ways.specs.Laws.Ends.{end-sought, end-place, end-within}
 use Rattle.ways.specs.Laws.Forms.{block-is, action-within}
 use Rattle.ways.specs.Laws.Firsts.{first-fits, action-ends}
-use Rattle.table.specs.Laws.Kept.{kept-none, kept-then, kept-wide}
+use Rattle.records.specs.Laws.Kept.{kept-none, kept-then, kept-wide}
 use Rattle.ways.specs.Linked.{Linked, MembersLinked}
 use Rattle.links.specs.Laws.Linked.{linked-same, block-size}
 use Rattle.ways.specs.Laws.Stack.{labels-none, labels-then}

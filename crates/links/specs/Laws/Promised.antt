@@ -21,7 +21,7 @@ use Rattle.laws_accepted.specs.Accepted.Orderly.{orderly}
 use Rattle.laws_accepted.specs.Accepted.Scanned.{TokenOk, scanned-each}
 use Rattle.laws_code.specs.Cited.Placed.{descriptionCode}
 use Rattle.laws_code.specs.Links.Placed.{accepted-assembled}
-use Rattle.table.specs.Holds.{tokenAt}
+use Rattle.records.specs.Holds.{tokenAt}
 use Rattle.table.specs.Ready.{Ready}
 use Rattle.promise.specs.Accesses.{AccessesHold}
 use Rattle.promise.specs.Promise.{Promise}

@@ -14,8 +14,8 @@ use Rattle.laws_code.specs.Cited.Code.{firstOf}
 use Rattle.promise.specs.Instructions.{linkNo}
 use Rattle.table.specs.Scans.{no, separates}
 use Rattle.ways.specs.Seeking.{Ground}
-use Rattle.table.specs.Kept.{Kept}
-use Rattle.table.specs.Laws.Kept.{holds-kept}
+use Rattle.records.specs.Kept.{Kept}
+use Rattle.records.specs.Laws.Kept.{holds-kept}
 use Rattle.ways.specs.Stack.{LabelsKept}
 use Rattle.ways.specs.Laws.Stack.{labels-kept}
 use Rattle.ways.specs.Standing.{ActionAt}

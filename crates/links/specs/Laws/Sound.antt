@@ -31,7 +31,7 @@ use Rattle.laws_orders.specs.Cited.Flat.{Link, at, exit, Entries, no-entry, ent
 use Rattle.laws_accepted.specs.Accepted.Faultless.{both-empty}
 use Rattle.laws_code.specs.Cited.Code.{Numbered, actionSize, exprSize, selectorSize, firstOf, behind, target, behindTest, entries, countedEntries, selectedEntries, moreEntries, codeAt, membersCode, alternativesCode, countedCode, selectedCode, moreCode}
 use Rattle.laws_code.specs.Links.Held.{labelNames}
-use Rattle.table.specs.Holds.{tokenAt, Holds, insideCell, linkCell}
+use Rattle.records.specs.Holds.{tokenAt, Holds, insideCell, linkCell}
 use Rattle.table.specs.Laws.Positions.{here}
 use Rattle.table.specs.Meaning.{meaningBy, meaningOf}
 use Rattle.promise.specs.Instructions.{linkNo, ExpressionStands, DestinationStands, CaseStands, Counted as CountedBy, EntriesStand, Jump, a-repeat, a-leave, a-restart, a-no-op, InstructionHolds}

@@ -7,8 +7,9 @@ use native.Mathlib.Omega.{arith}
 use borrow.Author.Tests.{ne-eqb}
 use lib.Dec.{ltb}
 use lib.ListN.{length, drop}
+use Rattle.rules.specs.Text.Tokens.{kindNo, Semi, BEGIN, END, NEXT}
 use Rattle.rules.specs.Limits.{deepest, mostTokens}
-use Rattle.table.specs.Holds.{kindByte}
+use Rattle.records.specs.Holds.{kindByte}
 use Rattle.reading.specs.Groups.{more}
 use Rattle.reading.specs.Reading.{Kinded}
 use Rattle.marking.specs.Machine.{State, inside, opened, closed, also, next, acted}
@@ -40,24 +41,24 @@ module _ {records old : List ℕ} {n i kind : ℕ} {x : Nest} (is : kind ≡ kin
   by-more {new} {r} k e m d = by-kind k e (λ v z s. subst (λ c. Shows new (i + 1) r (acted (i + 1) k c z)) (m v) (d z s))
 
   module _ {new : List ℕ} {r : Nest} where
-    pub begin-acts : {b : Bool} → kind ≡ 19 → MoreAt records n i b → Does i (λ z. opened (ltb (length (z .frames)) deepest) (i + 1) b z) old x new r
+    pub begin-acts : {b : Bool} → kind ≡ kindNo BEGIN → MoreAt records n i b → Does i (λ z. opened (ltb (length (z .frames)) deepest) (i + 1) b z) old x new r
         → Acted records old new n i x r
     unfolding acted
     begin-acts e m d = by-more 19 e m d
 
-    pub semi-acts : {b : Bool} → kind ≡ 10 → MoreAt records n i b → Does i (λ z. also (z .frames) (i + 1) b z) old x new r → Acted records old new n i x r
+    pub semi-acts : {b : Bool} → kind ≡ kindNo Semi → MoreAt records n i b → Does i (λ z. also (z .frames) (i + 1) b z) old x new r → Acted records old new n i x r
     unfolding acted
     semi-acts e m d = by-more 10 e m d
 
-    pub next-acts : {b : Bool} → kind ≡ 21 → MoreAt records n i b → Does i (λ z. next (z .frames) (i + 1) b z) old x new r → Acted records old new n i x r
+    pub next-acts : {b : Bool} → kind ≡ kindNo NEXT → MoreAt records n i b → Does i (λ z. next (z .frames) (i + 1) b z) old x new r → Acted records old new n i x r
     unfolding acted
     next-acts e m d = by-more 21 e m d
 
-    pub end-acts : kind ≡ 20 → Does i (λ z. closed (z .frames) z) old x new r → Acted records old new n i x r
+    pub end-acts : kind ≡ kindNo END → Does i (λ z. closed (z .frames) z) old x new r → Acted records old new n i x r
     unfolding acted
     end-acts e d = by-kind 20 e (λ v. d)
 
-  pub other-acts : {r : Nest} → (kind ≡ 19 → ⊥) → (kind ≡ 20 → ⊥) → (kind ≡ 10 → ⊥) → (kind ≡ 21 → ⊥) → r ≡ within (x .depth) (x .around)
+  pub other-acts : {r : Nest} → (kind ≡ kindNo BEGIN → ⊥) → (kind ≡ kindNo END → ⊥) → (kind ≡ kindNo Semi → ⊥) → (kind ≡ kindNo NEXT → ⊥) → r ≡ within (x .depth) (x .around)
       → Acted records old old n i x r
   unfolding acted
   other-acts {r} a b c d e v z s =

@@ -6,7 +6,7 @@ use native.Mathlib.Omega.{arith}
 use lib.ListN.{length, drop, length-drop}
 use Rattle.cells.specs.Cells.{cell}
 use Rattle.rules.specs.Grammar.Trees.{Tokens}
-use Rattle.table.specs.Holds.{kindByte, tokenAt}
+use Rattle.records.specs.Holds.{kindByte, tokenAt}
 use Rattle.table.specs.Scans.{no as kindOf}
 use Rattle.reading.specs.Groups.{more}
 use Rattle.reading.specs.Reading.{Kinded}

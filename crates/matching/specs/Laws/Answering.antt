@@ -15,7 +15,8 @@ use Rattle.cells.specs.Cells.{cell}
 use Rattle.rules.specs.Stores.{Entry, just-so, upTo}
 use Rattle.traces.specs.Cited.Marking.{at, never, raise, lesser, Cells, untaken, verdict}
 use Rattle.matching.specs.Matching.{answerIn}
-use Rattle.matching.specs.Room.{endless, floorCell, badCell, posOf, leftFrom, matchingIn, Sound}
+use Rattle.matching.specs.Room.{endless, posOf, leftFrom, matchingIn, Sound}
+use Rattle.room.specs.Trace.{floorCell, badCell}
 use Rattle.matching.specs.Laws.Room.{pos-at, pos-never}
 
 untaken-behind : (o : Option Entry) (cs : Cells) → o ≡ none → untaken (o ∷ cs) ≡ raise (untaken cs)

@@ -12,25 +12,12 @@ use lib.Dec.{eqb}
 use lib.ListN.{length, getD, set}
 use borrow.Author.Tests.{lt-ltb, le-ltb, eq-eqb, ne-eqb}
 use Rattle.cells.specs.Cells.{cell, putCell}
-use Rattle.cells.specs.Laws.{length-put, le-put-same, le-put-below, le-put-above}
+use Rattle.cells.specs.Laws.{cell-same, cell-other}
 use Rattle.rules.specs.Stores.{Entry, entry}
 use Rattle.traces.specs.Cited.Marking.{at, never, lesserN, lesser, greaterN, greater, Cells}
 use Rattle.matching.specs.Matching.{Group, group}
-use Rattle.matching.specs.Room.{endless, groupsCell, posOf, leftFrom, groupsIn, matchingIn, Sound}
-
--- a cell that was put is read back, every other is unchanged
-pub cell-same : (b : List ℕ) (i v : ℕ) → 2 * i + 2 ≤ length b → v < 65536 → cell 2 (putCell 2 b i v) i ≡ v
-cell-same b i v h s = le-put-same 2 b (2 * i) v h s
-
-pub cell-other : (b : List ℕ) (i v j : ℕ) → (j ≡ i → ⊥) → cell 2 (putCell 2 b i v) j ≡ cell 2 b j
-cell-other b i v j h = by (decLt j i)
-  where
-    by : Dec (j < i) → cell 2 (putCell 2 b i v) j ≡ cell 2 b j
-    by (yes l) = le-put-below 2 2 b (2 * i) v (2 * j) (omega arith)
-    by (no l) = le-put-above 2 2 b (2 * i) v (2 * j) (omega arith)
-
-pub long-put : (b : List ℕ) (i v : ℕ) → length (putCell 2 b i v) ≡ length b
-long-put b i v = length-put 2 b (2 * i) v
+use Rattle.matching.specs.Room.{endless, posOf, leftFrom, groupsIn, matchingIn, Sound}
+use Rattle.room.specs.Trace.{groupsCell}
 
 -- numbers that stand for positions
 pub pos-at : (n : ℕ) → n < endless → posOf n ≡ at n
@@ -123,15 +110,15 @@ unfolding leftFrom
 left-take room k [] i h s = absurd (omega arith)
 left-take room k (x ∷ l) zero h s =
     ap₂ (λ n (t : Cells). cond (eqb n 0) (some x) none ∷ t)
-    (ap (cell 2 (putCell 2 room (k + 0) 1)) (omega arith) ∙ cell-same room (k + 0) 1 s (omega arith))
+    (ap (cell 2 (putCell 2 room (k + 0) 1)) (omega arith) ∙ cell-same 2 room (k + 0) 1 s (omega arith))
     (after room (suc k) l (k + 0) (omega arith))
   where
     after : (room : List ℕ) (k : ℕ) (l : List Entry) (i : ℕ) → i < k → leftFrom (putCell 2 room i 1) k l ≡ leftFrom room k l
     after room k [] i h = refl
-    after room k (x ∷ l) i h = ap₂ (λ n (t : Cells). cond (eqb n 0) (some x) none ∷ t) (cell-other room i 1 k (λ e. omega arith)) (after room (suc k) l i (omega arith))
+    after room k (x ∷ l) i h = ap₂ (λ n (t : Cells). cond (eqb n 0) (some x) none ∷ t) (cell-other 2 room i 1 k (λ e. omega arith)) (after room (suc k) l i (omega arith))
 left-take room k (x ∷ l) (suc i) h s =
     ap₂ (λ n (t : Cells). cond (eqb n 0) (some x) none ∷ t)
-    (cell-other room (k + suc i) 1 k (λ e. omega arith))
+    (cell-other 2 room (k + suc i) 1 k (λ e. omega arith))
     (ap (λ n. leftFrom (putCell 2 room n 1) (suc k) l) (omega arith) ∙ left-take room (suc k) l i (omega arith) (omega arith))
 
 -- the groups that are open

@@ -14,8 +14,8 @@ use lib.Seq.{drop-cons}
 use Rattle.rules.specs.Text.Bytes.{fold}
 use Rattle.rules.specs.Text.Scan.{sameBytes}
 use Rattle.rules.specs.Paths.{folded}
-use Rattle.table.specs.Holds.{foldedAt}
-use Rattle.table.specs.Laws.Words.{differ-length}
+use Rattle.records.specs.Holds.{foldedAt}
+use Rattle.records.specs.Laws.Words.{differ-length}
 
 -- whether what is left of both is the same, when k bytes are passed
 abbrev leftSame : List ℕ → List ℕ → ℕ → ℕ → ℕ → Bool

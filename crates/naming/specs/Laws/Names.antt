@@ -13,9 +13,9 @@ use Rattle.rules.specs.Text.Tokens.{Token}
 use Rattle.rules.specs.Text.Scan.{sameBytes}
 use Rattle.rules.specs.Declarations.{Word, BitNames, one-unnamed, these, Target, Declared, declaredOf, Table, numberFrom, numberOf, bodyNumber, bodyOf}
 use Rattle.rules.specs.Paths.{folded, storageOf, storageAt, ifDeclared, ifStorage}
-use Rattle.table.specs.Holds.{sizeByte, placeCell, foldedAt}
-use Rattle.table.specs.Words.{NameAt, wordAt}
-use Rattle.table.specs.Laws.Words.{word-folded, word-inside}
+use Rattle.records.specs.Holds.{sizeByte, placeCell, foldedAt}
+use Rattle.records.specs.Words.{NameAt, wordAt}
+use Rattle.records.specs.Laws.Words.{word-folded, word-inside}
 use Rattle.table.specs.Lookups.{orElse}
 use Rattle.table.specs.Views.{View, TargetAt}
 use Rattle.table.specs.Shown.{shownBits}

@@ -10,33 +10,35 @@ use borrow.Author.Tests.{lt-ltb, le-ltb}
 use lib.Dec.{eqb, ltb}
 use lib.ListN.{length}
 use Rattle.cells.specs.Cells.{cell, putCell}
+use Rattle.cells.specs.Laws.{put-size, put-same, put-here}
 use Rattle.rules.specs.Limits.{deepest}
 use Rattle.paths.specs.Cited.Least.{least}
 use Rattle.paths.specs.Cited.Marks.{Marks, marked, cleared}
 use Rattle.nesting.specs.Machine.{Frame, frame, State, state, settled, idle, begun, opened, closed, also, next, another}
-use Rattle.nesting.specs.Holding.{unseen, bit, frameCell, Book, Linked, unlinked, FrameAt, Frames, no-frames, frames, Flagged, Shows, Standing, Does, Set, Taken, Top, Pushed}
+use Rattle.nesting.specs.Holding.{unseen, bit, Book, Linked, unlinked, FrameAt, Frames, no-frames, frames, Flagged, Shows, Standing, Does, Set, Taken, Top, Pushed}
+use Rattle.room.specs.Profile.{frameCell, mostFlags, labelsFrom, roomSize}
 use Rattle.nesting.specs.Grouping.{nest, kept, settle, enter, Three, Resuming, Resumed}
-use Rattle.nesting.specs.Laws.Holding.{bit-test, put-size, put-same, put-here, linked-kept, frames-kept, frame-later, flagged-set, flagged-cleared, flagged-kept}
+use Rattle.nesting.specs.Laws.Holding.{bit-test, linked-kept, frames-kept, frame-later, flagged-set, flagged-cleared, flagged-kept}
 use Rattle.nesting.specs.declared.nests.Nest.{Nest}
 use Rattle.nesting.specs.declared.frames.Frame.{Frame as Kept-frame}
 
 pub three-put : {old x y new : List ℕ} {at a b c : ℕ} → 2 * at + 6 ≤ length old → a < 65536 → b < 65536 → c < 65536 → x ≡ putCell 2 old at a → y ≡ putCell 2 x (at + 1) b
     → new ≡ putCell 2 y (at + 2) c → Three old new at a b c
 three-put {old} {x} {y} {new} {at} {a} {b} {c} h fa fb fc px py pn =
-    let zx = put-size old x at a px in
-    let zy = put-size x y (at + 1) b py in
-    let zn = put-size y new (at + 2) c pn in
-    let sx : (k : ℕ) → (k ≡ at → ⊥) → cell 2 x k ≡ cell 2 old k = put-same old x at a px in
-    let sy : (k : ℕ) → (k ≡ at + 1 → ⊥) → cell 2 y k ≡ cell 2 x k = put-same x y (at + 1) b py in
-    let sn : (k : ℕ) → (k ≡ at + 2 → ⊥) → cell 2 new k ≡ cell 2 y k = put-same y new (at + 2) c pn in
+    let zx = put-size 2 old x at a px in
+    let zy = put-size 2 x y (at + 1) b py in
+    let zn = put-size 2 y new (at + 2) c pn in
+    let sx : (k : ℕ) → (k ≡ at → ⊥) → cell 2 x k ≡ cell 2 old k = put-same 2 old x at a px in
+    let sy : (k : ℕ) → (k ≡ at + 1 → ⊥) → cell 2 y k ≡ cell 2 x k = put-same 2 x y (at + 1) b py in
+    let sn : (k : ℕ) → (k ≡ at + 2 → ⊥) → cell 2 new k ≡ cell 2 y k = put-same 2 y new (at + 2) c pn in
     record {
       kept = record {
         size = zn ∙ (zy ∙ zx);
         same = λ k n. sn k (λ z. n (omega arith) (omega arith)) ∙ (sy k (λ z. n (omega arith) (omega arith)) ∙ sx k (λ z. n (omega arith) (omega arith)));
       };
-      first = sn at (λ z. omega arith) ∙ (sy at (λ z. omega arith) ∙ put-here old x at a px (omega arith) fa);
-      second = sn (at + 1) (λ z. omega arith) ∙ put-here x y (at + 1) b py (omega arith) fb;
-      third = put-here y new (at + 2) c pn (omega arith) fc;
+      first = sn at (λ z. omega arith) ∙ (sy at (λ z. omega arith) ∙ put-here 2 old x at a px (omega arith) fa);
+      second = sn (at + 1) (λ z. omega arith) ∙ put-here 2 x y (at + 1) b py (omega arith) fb;
+      third = put-here 2 y new (at + 2) c pn (omega arith) fc;
     }
 
 pub six-put : {old mid new : List ℕ} {j u v w : ℕ} {f : Kept-frame} → Three old mid (frameCell j) (f .label) (f .flag) (f .own) → Three mid new (frameCell j + 3) u v w
@@ -65,7 +67,7 @@ record Inner (ts : Book) (room : List ℕ) (i : ℕ) (x : Nest) (z : State) (f :
   size : x .depth ≡ suc (length others)
   labels : Linked ts room (f .label) (frame-is .labels)
   flag : f .flag ≡ frame-is .flag
-  flag-low : f .flag < 64
+  flag-low : f .flag < mostFlags
   own : f .own ≡ frame-is .own
   own-low : f .own ≤ length others + 2
   comes : f .comes ≡ frame-is .comes
@@ -116,7 +118,7 @@ module _ {room : List ℕ} {x : Nest} (st : Standing room x) where
         record {
           inside = omega (arith, y .size);
           shallow = s .shallow;
-          space = omega (arith, s .space, put-size room mid (f .own) 0 (k .put));
+          space = omega (arith, s .space, put-size 2 room mid (f .own) 0 (k .put));
           label-fits = omega (arith, y .below, s .label-low, s .few);
           flag-fits = omega (arith, y .flag-low);
           own-fits = omega (arith, y .own-low, y .size, s .shallow);
@@ -128,13 +130,13 @@ module _ {ts : Book} {old mid new : List ℕ} {i : ℕ} {x r : Nest} {z : State}
   abbrev y : Inner ts old i x z f
   y = inner s n t
 
-  own-small : f .own < 64
+  own-small : f .own < mostFlags
   own-small = omega (arith, y .own-low, y .size, s .shallow)
 
-  low-same : (q : ℕ) → 64 ≤ q → cell 2 mid q ≡ cell 2 old q
-  low-same q h = put-same old mid (f .own) 0 (k .put) q (λ e. omega (arith, own-small))
+  low-same : (q : ℕ) → mostFlags ≤ q → cell 2 mid q ≡ cell 2 old q
+  low-same q h = put-same 2 old mid (f .own) 0 (k .put) q (λ e. omega (arith, own-small))
 
-  far-same : (q : ℕ) → 64 ≤ q → (q < frameCell (length (y .others))) ⊎ (256 ≤ q) → cell 2 new q ≡ cell 2 old q
+  far-same : (q : ℕ) → mostFlags ≤ q → (q < frameCell (length (y .others))) ⊎ (labelsFrom ≤ q) → cell 2 new q ≡ cell 2 old q
   far-same q h (inl l) = res .pushed .kept .same q (λ a e. omega (arith, y .size)) ∙ low-same q h
   far-same q h (inr l) = res .pushed .kept .same q (λ a e. omega (arith, y .size, s .shallow)) ∙ low-same q h
 
@@ -167,7 +169,7 @@ module _ {ts : Book} {old mid new : List ℕ} {i : ℕ} {x r : Nest} {z : State}
 
   member-begins : Shows ts new i r begins-there
   member-begins =
-      let mid-size = put-size old mid (f .own) 0 (k .put) in
+      let mid-size = put-size 2 old mid (f .own) 0 (k .put) in
       let cleaned : Flagged mid (cleared (f .own) (z .marks)) = flagged-cleared (f .own) (omega (arith, own-small, s .space)) (k .put) (s .flags) in
       let kept-flags : Flagged new (cleared (f .own) (z .marks)) = flagged-kept (λ j h. res .pushed .kept .same j (λ a e. omega arith)) cleaned in
       subst (λ w. Shows ts new i w begins-there) (sym (res .is))
@@ -273,11 +275,11 @@ module _ {old : List ℕ} {x : Nest} {f : Kept-frame} (n : x .depth ≡ 0 → �
     close-shown {r} is ts i z s =
         let y = inner s n t in
         let q = y .frame-is in
-        let own-small : f .own < 64 = omega (arith, y .own-low, y .size, s .shallow) in
+        let own-small : f .own < mostFlags = omega (arith, y .own-low, y .size, s .shallow) in
         let was-is : was ≡ z .marks .flags (q .own) =
         look ∙ (ap (λ v. eqb v 1) (s .flags .at (f .own) own-small) ∙ (bit-test (z .marks .flags (f .own)) ∙ ap (z .marks .flags) (y .own))) in
         let c-is : c ≡ (q .ended && z .marks .flags (q .own)) = e ∙ ap₂ _&&_ (y .ended) was-is in
-        let high : (j : ℕ) → 64 ≤ j → cell 2 new j ≡ cell 2 old j = λ j l. set .same j (λ d o. omega (arith, y .flag-low)) in
+        let high : (j : ℕ) → mostFlags ≤ j → cell 2 new j ≡ cell 2 old j = λ j l. set .same j (λ d o. omega (arith, y .flag-low)) in
         let down : x .depth - 1 ≡ length (y .others) = omega (arith, y .size) in
         subst (λ w. Shows ts new i w (closed (z .frames) z)) (sym is) (subst (λ l. Shows ts new i (settle (x .depth - 1) (f .own) (f .label) (x .low)) (closed l z)) (sym (y .is))
         (record {
@@ -341,12 +343,12 @@ too-deep {room} {x} {r} h e ts i z s =
 
 module _ {old : List ℕ} {x : Nest} (l : x .depth < 32) where
   pub to-open : Standing old x
-      → (x .depth < 32) × (49664 ≤ length old) × (x .label < 65536) × (x .flag < 65536) × (x .free < 65536)
+      → (x .depth < 32) × (roomSize ≤ length old) × (x .label < 65536) × (x .flag < 65536) × (x .free < 65536)
   to-open st = let s = st .3 in (l, s .space, omega (arith, s .label-low, s .few), omega (arith, s .flag-low), omega (arith, s .free-low))
 
   module _ {mid : List ℕ} {g : Bool} (p : Pushed old mid (x .depth) (kept (x .label) (x .flag) (x .free) (x .comes) true g)) where
     module _ {ts : Book} {i : ℕ} {z : State} (s : Shows ts old i x z) where
-      aside : (q : ℕ) → (q < frameCell (x .depth)) ⊎ (256 ≤ q) → cell 2 mid q ≡ cell 2 old q
+      aside : (q : ℕ) → (q < frameCell (x .depth)) ⊎ (labelsFrom ≤ q) → cell 2 mid q ≡ cell 2 old q
       aside q (inl a) = p .kept .same q (λ b e. omega arith)
       aside q (inr a) = p .kept .same q (λ b e. omega arith)
 
@@ -413,12 +415,12 @@ module _ {old : List ℕ} {x : Nest} (l : x .depth < 32) where
       pub block-opened : {r : Nest} → g ≡ not (x .choosing) → x .choosing ≡ false → r ≡ enter x (x .free + 1) (x .free)
           → Does (λ z. opened (ltb (length (z .frames)) deepest) z) old x new r
       block-opened {r} gi c e ts i z s =
-          let high : (q : ℕ) → 64 ≤ q → cell 2 new q ≡ cell 2 mid q = λ q h. put-same mid new (x .free) 0 put q (λ d. omega (arith, s .free-low)) in
+          let high : (q : ℕ) → mostFlags ≤ q → cell 2 new q ≡ cell 2 mid q = λ q h. put-same 2 mid new (x .free) 0 put q (λ d. omega (arith, s .free-low)) in
           let cleaned : Flagged new (cleared (x .free) (z .marks)) = flagged-cleared (x .free) (omega (arith, s .free-low, s .space, p .kept .size)) put (flags-there s) in
           subst (λ b. Shows ts new i r (opened b z)) (sym (not-deep s)) (subst (λ b. Shows ts new i r (begun b z)) (sym c ∙ s .choosing-is)
           (subst (λ w. Shows ts new i w (begun false z)) (sym e)
           (record {
-            space = omega (arith, s .space, p .kept .size, put-size mid new (x .free) 0 put);
+            space = omega (arith, s .space, p .kept .size, put-size 2 mid new (x .free) 0 put);
             few = s .few;
             label-low = s .label-low;
             depth-is = add-one (x .depth) ∙ ap suc (s .depth-is);

@@ -9,15 +9,15 @@ use borrow.Author.Tests.{eq-eqb, ne-eqb}
 use lib.Dec.{eqb}
 use lib.ListN.{length}
 use Rattle.cells.specs.Cells.{cell, putCell}
-use Rattle.cells.specs.Laws.{length-put, le-put-same}
+use Rattle.cells.specs.Laws.{put-size, put-same, put-here}
 use Rattle.rules.specs.Limits.{mostTokens}
-use Rattle.table.specs.Holds.{linkCell}
+use Rattle.records.specs.Holds.{linkCell}
 use Rattle.paths.specs.Cited.Marks.{Marks, Slot, marked, cleared, added}
 use Rattle.paths.specs.Cited.Least.{least}
 use Rattle.paths.specs.Least.{least-append}
-use Rattle.scopes.specs.Laws.Labels.{put-elsewhere}
 use Rattle.nesting.specs.Machine.{Frame, State, reached, transferred, destined, looped, chosen}
-use Rattle.nesting.specs.Holding.{unseen, bit, frameCell, labelCell, hintsFrom, hintCell, Book, Linked, unlinked, linked, Still, LabelPut, FrameAt, Frames, no-frames, frames, Flagged, Shows, Does, Set}
+use Rattle.nesting.specs.Holding.{unseen, bit, Book, Linked, unlinked, linked, Still, LabelPut, FrameAt, Frames, no-frames, frames, Flagged, Shows, Does, Set}
+use Rattle.room.specs.Profile.{frameCell, labelCell, hintsFrom, hintCell, mostFlags, labelsFrom, roomSize}
 use Rattle.nesting.specs.Grouping.{nest}
 use Rattle.nesting.specs.declared.nests.Nest.{Nest}
 
@@ -25,22 +25,11 @@ pub bit-test : (b : Bool) → eqb (bit b) 1 ≡ b
 bit-test true = refl
 bit-test false = refl
 
--- the cell k is put
-module _ (old new : List ℕ) (k v : ℕ) (put : new ≡ putCell 2 old k v) where
-  pub put-size : length new ≡ length old
-  put-size = ap length put ∙ length-put 2 old (2 * k) v
-
-  pub put-same : (j : ℕ) → (j ≡ k → ⊥) → cell 2 new j ≡ cell 2 old j
-  put-same j n = ap (λ l. cell 2 l j) put ∙ put-elsewhere old k v j n
-
-  pub put-here : 2 * k + 2 ≤ length old → v < 65536 → cell 2 new k ≡ v
-  put-here h l = ap (λ b. cell 2 b k) put ∙ le-put-same 2 old (2 * k) v (omega arith) l
-
 pub put-set : {old new : List ℕ} {k : ℕ} {b : Bool} → new ≡ putCell 2 old k 1 → 2 * k + 2 ≤ length old → b ≡ true → Set old new k b
 put-set {old} {new} {k} put h t = record {
-  size = put-size old new k 1 put;
-  is = λ q. put-here old new k 1 put h (omega arith);
-  same = λ j n. put-same old new k 1 put j (λ z. n z t);
+  size = put-size 2 old new k 1 put;
+  is = λ q. put-here 2 old new k 1 put h (omega arith);
+  same = λ j n. put-same 2 old new k 1 put j (λ z. n z t);
 }
 
 pub set-none : {old : List ℕ} {k : ℕ} {b : Bool} → b ≡ false → Set old old k b
@@ -49,7 +38,7 @@ set-none f = record { size = refl; is = λ t. absurd (false≢true (sym f ∙ t)
 still-lower : {old new : List ℕ} {top p : ℕ} → Still old new top → p ≤ top → Still old new p
 still-lower s h = record { cells = λ q a b. s .cells q a (omega arith); hints = λ m c a b d. s .hints m c (omega arith) b d }
 
-still-all : {old new : List ℕ} → ((q : ℕ) → 256 ≤ q → cell 2 new q ≡ cell 2 old q) → (top : ℕ) → Still old new top
+still-all : {old new : List ℕ} → ((q : ℕ) → labelsFrom ≤ q → cell 2 new q ≡ cell 2 old q) → (top : ℕ) → Still old new top
 still-all s top = record { cells = λ q a b. s q a; hints = λ m c a b d. rw (s c (omega arith)) d }
 
 pub linked-still : {ts : Book} {old new : List ℕ} {top p : ℕ} {ls : List Slot} → Still old new top → p ≤ top → Linked ts old p ls → Linked ts new p ls
@@ -59,7 +48,7 @@ linked-still s h (linked {p} {l} n w f k q r) =
     linked {p = p} {l = l} (rw e n) (rw e w) (s .cells (labelCell p + 1) (omega arith) (omega arith) ∙ f) k (rw e (s .hints p _ (omega arith) (omega arith) q))
     (linked-still s (omega arith) r)
 
-pub linked-kept : {ts : Book} {old new : List ℕ} {p : ℕ} {ls : List Slot} → ((q : ℕ) → 256 ≤ q → cell 2 new q ≡ cell 2 old q) → Linked ts old p ls → Linked ts new p ls
+pub linked-kept : {ts : Book} {old new : List ℕ} {p : ℕ} {ls : List Slot} → ((q : ℕ) → labelsFrom ≤ q → cell 2 new q ≡ cell 2 old q) → Linked ts old p ls → Linked ts new p ls
 linked-kept {p = p} s l = linked-still (still-all s p) (omega arith) l
 
 frame-still : {ts : Book} {old new : List ℕ} {top j : ℕ} {f : Frame} → ((q : ℕ) → frameCell j ≤ q → q < frameCell j + 6 → cell 2 new q ≡ cell 2 old q)
@@ -76,7 +65,7 @@ frame-still {ts} {old} {new} {top} {j} {f} s l x = record {
   group = s (frameCell j + 5) (omega arith) (omega arith) ∙ x .group;
 }
 
-pub frames-still : {ts : Book} {old new : List ℕ} {top : ℕ} {fs : List Frame} → ((q : ℕ) → 64 ≤ q → q < frameCell (length fs) → cell 2 new q ≡ cell 2 old q)
+pub frames-still : {ts : Book} {old new : List ℕ} {top : ℕ} {fs : List Frame} → ((q : ℕ) → mostFlags ≤ q → q < frameCell (length fs) → cell 2 new q ≡ cell 2 old q)
     → Still old new top → Frames ts old top fs → Frames ts new top fs
 frames-still s l no-frames = no-frames
 frames-still {ts} {new = new} s l (frames {fs = fs} x r) =
@@ -84,8 +73,8 @@ frames-still {ts} {new = new} s l (frames {fs = fs} x r) =
     (subst (λ p. Frames ts new p fs) (sym (s (frameCell (length fs)) (omega arith) (omega arith)))
     (frames-still (λ q a b. s q a (omega arith)) (still-lower l (x .below)) r))
 
-pub frames-kept : {ts : Book} {old new : List ℕ} {top : ℕ} {fs : List Frame} → ((q : ℕ) → 64 ≤ q → q < frameCell (length fs) → cell 2 new q ≡ cell 2 old q)
-    → ((q : ℕ) → 256 ≤ q → cell 2 new q ≡ cell 2 old q) → Frames ts old top fs → Frames ts new top fs
+pub frames-kept : {ts : Book} {old new : List ℕ} {top : ℕ} {fs : List Frame} → ((q : ℕ) → mostFlags ≤ q → q < frameCell (length fs) → cell 2 new q ≡ cell 2 old q)
+    → ((q : ℕ) → labelsFrom ≤ q → cell 2 new q ≡ cell 2 old q) → Frames ts old top fs → Frames ts new top fs
 frames-kept {top = top} s l f = frames-still s (still-all l top) f
 
 -- with more labels around what is inside it
@@ -107,8 +96,8 @@ frames-later more h no-frames = no-frames
 frames-later more h (frames {fs = fs} a r) = let b = a .below in frames {fs = fs} (frame-later more (omega arith) a) r
 
 -- a label and its hint are put
-pub label-put : (records : List ℕ) {old x y new : List ℕ} {j i flag hint : ℕ} → 49664 ≤ length old → j < mostTokens → i < mostTokens → flag < 65536
-    → hint ≡ hintCell (linkCell records i) → hintsFrom ≤ hint → 2 * hint + 2 ≤ 49664 → x ≡ putCell 2 old (256 + 2 * j) i → y ≡ putCell 2 x (256 + 2 * j + 1) flag
+pub label-put : (records : List ℕ) {old x y new : List ℕ} {j i flag hint : ℕ} → roomSize ≤ length old → j < mostTokens → i < mostTokens → flag < 65536
+    → hint ≡ hintCell (linkCell records i) → hintsFrom ≤ hint → 2 * hint + 2 ≤ roomSize → x ≡ putCell 2 old (labelCell j) i → y ≡ putCell 2 x (labelCell j + 1) flag
     → new ≡ putCell 2 y hint j → LabelPut records old new j i flag
 label-put records {old} {x} {y} {new} {j} {i} {flag} {hint} room few fits low is from end px py pn = record {
   size = zn ∙ (zy ∙ zx);
@@ -117,31 +106,31 @@ label-put records {old} {x} {y} {new} {j} {i} {flag} {hint} room few fits low is
     cells = λ q a b. others q (λ e. omega arith) (λ e. omega arith) (λ e. omega arith);
     hints = λ m c a b d. by m c a d (ℕ-discrete c hint) (λ e. others c (λ o. omega arith) (λ o. omega arith) e);
   };
-  token = sn (256 + 2 * j) (λ e. omega arith) ∙ (sy (256 + 2 * j) (λ e. omega arith) ∙ put-here old x (256 + 2 * j) i px (omega arith) (omega arith));
-  flag-is = sn (256 + 2 * j + 1) (λ e. omega arith) ∙ put-here x y (256 + 2 * j + 1) flag py (omega (arith, zx)) low;
+  token = sn (labelCell j) (λ e. omega arith) ∙ (sy (labelCell j) (λ e. omega arith) ∙ put-here 2 old x (labelCell j) i px (omega arith) (omega arith));
+  flag-is = sn (labelCell j + 1) (λ e. omega arith) ∙ put-here 2 x y (labelCell j + 1) flag py (omega (arith, zx)) low;
   hint = ap (cell 2 new) (sym is) ∙ there;
 }
   where
     zx : length x ≡ length old
-    zx = put-size old x (256 + 2 * j) i px
+    zx = put-size 2 old x (labelCell j) i px
 
     zy : length y ≡ length x
-    zy = put-size x y (256 + 2 * j + 1) flag py
+    zy = put-size 2 x y (labelCell j + 1) flag py
 
     zn : length new ≡ length y
-    zn = put-size y new hint j pn
+    zn = put-size 2 y new hint j pn
 
     sn : (q : ℕ) → (q ≡ hint → ⊥) → cell 2 new q ≡ cell 2 y q
-    sn = put-same y new hint j pn
+    sn = put-same 2 y new hint j pn
 
-    sy : (q : ℕ) → (q ≡ 256 + 2 * j + 1 → ⊥) → cell 2 y q ≡ cell 2 x q
-    sy = put-same x y (256 + 2 * j + 1) flag py
+    sy : (q : ℕ) → (q ≡ labelCell j + 1 → ⊥) → cell 2 y q ≡ cell 2 x q
+    sy = put-same 2 x y (labelCell j + 1) flag py
 
-    others : (q : ℕ) → (q ≡ 256 + 2 * j → ⊥) → (q ≡ 256 + 2 * j + 1 → ⊥) → (q ≡ hint → ⊥) → cell 2 new q ≡ cell 2 old q
-    others q a b c = sn q c ∙ (sy q b ∙ put-same old x (256 + 2 * j) i px q a)
+    others : (q : ℕ) → (q ≡ labelCell j → ⊥) → (q ≡ labelCell j + 1 → ⊥) → (q ≡ hint → ⊥) → cell 2 new q ≡ cell 2 old q
+    others q a b c = sn q c ∙ (sy q b ∙ put-same 2 old x (labelCell j) i px q a)
 
     there : cell 2 new hint ≡ j
-    there = put-here y new hint j pn (omega (arith, zx, zy)) (omega arith)
+    there = put-here 2 y new hint j pn (omega (arith, zx, zy)) (omega arith)
 
     by : (m c : ℕ) → m < j → m ≤ cell 2 old c → Dec (c ≡ hint) → ((c ≡ hint → ⊥) → cell 2 new c ≡ cell 2 old c) → m ≤ cell 2 new c
     by m c l d (yes e) f = omega (arith, there, ap (cell 2 new) e)
@@ -151,7 +140,7 @@ label-put records {old} {x} {y} {new} {j} {i} {flag} {hint} room few fits low is
 pub flagged-set : {old new : List ℕ} {w : Marks} {k : ℕ} {b : Bool} → Set old new k b → Flagged old w → Flagged new (marked k b w)
 flagged-set {old} {new} {w} {k} {b} s f = record { at = λ j h. by j h b refl (ℕ-discrete j k) }
   where
-    by : (j : ℕ) → j < 64 → (c : Bool) → b ≡ c → Dec (j ≡ k) → cell 2 new j ≡ bit ((eqb j k && b) || w .flags j)
+    by : (j : ℕ) → j < mostFlags → (c : Bool) → b ≡ c → Dec (j ≡ k) → cell 2 new j ≡ bit ((eqb j k && b) || w .flags j)
     by j h false e d =
         s .same j (λ z t. false≢true (sym e ∙ t)) ∙ (f .at j h ∙ ap bit (sym (ap (λ c. c || w .flags j) (ap (λ c. eqb j k && c) e ∙ and-false (eqb j k)))))
     by j h true e (yes z) = ap (cell 2 new) z ∙ (s .is e ∙ ap bit (sym (ap (λ c. c || w .flags j) (ap (λ c. c && b) (eq-eqb j k z) ∙ e))))
@@ -160,17 +149,17 @@ flagged-set {old} {new} {w} {k} {b} s f = record { at = λ j h. by j h b refl (�
 pub flagged-cleared : {old new : List ℕ} {w : Marks} (k : ℕ) → 2 * k + 2 ≤ length old → new ≡ putCell 2 old k 0 → Flagged old w → Flagged new (cleared k w)
 flagged-cleared {old} {new} {w} k room put f = record { at = λ j h. by j h (ℕ-discrete j k) }
   where
-    by : (j : ℕ) → j < 64 → Dec (j ≡ k) → cell 2 new j ≡ bit (not (eqb j k) && w .flags j)
-    by j h (yes z) = ap (cell 2 new) z ∙ (put-here old new k 0 put room (omega arith) ∙ ap bit (sym (ap (λ c. not c && w .flags j) (eq-eqb j k z))))
-    by j h (no n) = put-same old new k 0 put j n ∙ (f .at j h ∙ ap bit (sym (ap (λ c. not c && w .flags j) (ne-eqb j k n))))
+    by : (j : ℕ) → j < mostFlags → Dec (j ≡ k) → cell 2 new j ≡ bit (not (eqb j k) && w .flags j)
+    by j h (yes z) = ap (cell 2 new) z ∙ (put-here 2 old new k 0 put room (omega arith) ∙ ap bit (sym (ap (λ c. not c && w .flags j) (eq-eqb j k z))))
+    by j h (no n) = put-same 2 old new k 0 put j n ∙ (f .at j h ∙ ap bit (sym (ap (λ c. not c && w .flags j) (ne-eqb j k n))))
 
-pub flagged-kept : {old new : List ℕ} {w : Marks} → ((j : ℕ) → j < 64 → cell 2 new j ≡ cell 2 old j) → Flagged old w → Flagged new w
+pub flagged-kept : {old new : List ℕ} {w : Marks} → ((j : ℕ) → j < mostFlags → cell 2 new j ≡ cell 2 old j) → Flagged old w → Flagged new w
 flagged-kept s f = record { at = λ j h. s j h ∙ f .at j h }
 
 -- a flag set, and a place more: all else is shown as before
 module _ {ts : Book} {old : List ℕ} {i : ℕ} {x : Nest} {z : State} (s : Shows ts old i x z) where
-  module _ {new : List ℕ} {k : ℕ} {b : Bool} (set : Set old new k b) (low : k < 64) where
-    high : (j : ℕ) → 64 ≤ j → cell 2 new j ≡ cell 2 old j
+  module _ {new : List ℕ} {k : ℕ} {b : Bool} (set : Set old new k b) (low : k < mostFlags) where
+    high : (j : ℕ) → mostFlags ≤ j → cell 2 new j ≡ cell 2 old j
     high j h = set .same j (λ e t. omega arith)
 
     pub set-frames : Frames ts new (x .label) (z .frames)

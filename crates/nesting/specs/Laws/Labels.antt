@@ -12,13 +12,14 @@ use Rattle.cells.specs.Cells.{cell}
 use Rattle.rules.specs.Text.Scan.{sameBytes}
 use Rattle.paths.specs.Cited.Least.{least}
 use Rattle.paths.specs.Cited.Marks.{Slot, slot, marked, markedAt, flagOf}
-use Rattle.table.specs.Holds.{linkCell}
-use Rattle.table.specs.Words.{NameAt, wordAt}
+use Rattle.records.specs.Holds.{linkCell}
+use Rattle.records.specs.Words.{NameAt, wordAt}
 use Rattle.spelling.specs.Spelled.{TwoSpelled, spelledAlike}
 use Rattle.nesting.specs.Spelt.{Spelt}
 use Rattle.nesting.specs.Laws.Spelt.{name-there}
 use Rattle.nesting.specs.Machine.{State, left}
-use Rattle.nesting.specs.Holding.{unseen, labelCell, hintCell, Book, book, Linked, unlinked, linked, LabelPut, Flagged, Shows, Set}
+use Rattle.nesting.specs.Holding.{unseen, Book, book, Linked, unlinked, linked, LabelPut, Flagged, Shows, Set}
+use Rattle.room.specs.Profile.{labelCell, hintCell}
 use Rattle.nesting.specs.Grouping.{nest}
 use Rattle.nesting.specs.Jumping.{Sought, Seeking, Jumping, Left, Labels, FlagFound}
 use Rattle.nesting.specs.Laws.Holding.{linked-still, frames-still, frames-later, flagged-kept, flagged-set, set-none, set-labels, set-frames}

@@ -3,14 +3,13 @@ use Prim.Native.Nat.{ℕ, _<_, _≤_}
 use mathlib.Core.Path.{_≡_}
 use mathlib.Core.List.{List}
 use Rattle.rules.specs.Text.Tokens.{Name, kindNo}
-use Rattle.table.specs.Holds.{kindByte, placeCell}
-use Rattle.table.specs.Words.{NameAt}
-use Rattle.scopes.specs.Labels.{Worded}
+use Rattle.records.specs.Holds.{kindByte, placeCell, Tabled}
+use Rattle.records.specs.Words.{NameAt}
 use Rattle.scopes.specs.Laws.Labels.{word-at, jump-place}
 use Rattle.nesting.specs.Spelt.{Spelt}
 
 module _ {records : List ℕ} {n : ℕ} (v : Spelt records n) where
-  worded : Worded (v .text) records n
+  worded : Tabled (v .text) records n
   worded = record { values = v .values; tokens = v .tokens; holds = v .holds; count = v .count }
 
   pub name-there : (i : ℕ) → i < n → kindByte records i ≡ kindNo Name → NameAt (v .tokens) i

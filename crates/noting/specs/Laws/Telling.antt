@@ -10,16 +10,18 @@ use native.Mathlib.Decide.{decLt}
 use native.Mathlib.Numerals.{add-one}
 use lib.ListN.{length, getD}
 use Rattle.cells.specs.Cells.{cell, putCell}
+use Rattle.cells.specs.Laws.{cell-same, cell-other}
 use Rattle.rules.specs.Stores.{Entry, entry}
 use Rattle.traces.specs.Cited.Entries.{sameEntry}
 use Rattle.traces.specs.Cited.Marking.{Pos, at, lesser, greater, never, marked}
 use Rattle.traces.specs.Cited.Events.{stores, opens, turns, closes}
 use Rattle.matching.specs.Matching.{group, Matching, matching, turned, closed, with, told, partAt, spoilt, toldPart}
-use Rattle.matching.specs.Room.{endless, mostGroups, groupsCell, floorCell, badCell, depthCell, posOf, groupsIn, matchingIn, Sound, Stands}
+use Rattle.matching.specs.Room.{endless, posOf, groupsIn, matchingIn, Sound, Stands}
+use Rattle.room.specs.Trace.{mostGroups, groupsCell, floorCell, badCell, depthCell}
 use Rattle.linking.specs.Seeking.{Seeks}
 use Rattle.noting.specs.Laws.Parts.{never-lesser, fit-past, fit-taken, fit-other, fit-same}
 use Rattle.linking.specs.Laws.Seeking.{Early, InTime, put-missing, put-early, put-in-time}
-use Rattle.matching.specs.Laws.Room.{cell-same, cell-other, pos-at, pos-never, groups-frame, cells-long, taken-there, left-there}
+use Rattle.matching.specs.Laws.Room.{pos-at, pos-never, groups-frame, cells-long, taken-there, left-there}
 use Rattle.linking.specs.Laws.Puts.{same-matching, floor-put, bad-put, spare-put, pushed, top-is, popped, most-put, taken-put}
 
 stands-as : {l : List Entry} {a : List ℕ} {y z : Matching} → Stands l a y → y ≡ z → Stands l a z
@@ -98,12 +100,12 @@ module _ {l : List Entry} {b : List ℕ} (s : Sound l b) where
       let b₁ = putCell 2 b i f in
       let b₂ = putCell 2 b₁ (i + 1) 0 in
       let p = spare-put s i f (omega arith) (omega arith) in
-      let d₁ : cell 2 b₁ depthCell ≡ cell 2 b depthCell = cell-other b i f depthCell (λ q. omega arith) in
+      let d₁ : cell 2 b₁ depthCell ≡ cell 2 b depthCell = cell-other 2 b i f depthCell (λ q. omega arith) in
       let q = spare-put (p .sound) (i + 1) 0 (omega arith) (omega arith) in
-      let d₂ : cell 2 b₂ depthCell ≡ cell 2 b₁ depthCell = cell-other b₁ (i + 1) 0 depthCell (λ q. omega arith) in
+      let d₂ : cell 2 b₂ depthCell ≡ cell 2 b₁ depthCell = cell-other 2 b₁ (i + 1) 0 depthCell (λ q. omega arith) in
       let r = pushed (q .sound) d (omega arith) h in
-      let first : cell 2 b₂ i ≡ f = cell-other b₁ (i + 1) 0 i (λ q. omega arith) ∙ cell-same b i f (omega (arith, s .long)) k in
-      let second : cell 2 b₂ (i + 1) ≡ 0 = cell-same b₁ (i + 1) 0 (omega (arith, p .sound .long)) (omega arith) in
+      let first : cell 2 b₂ i ≡ f = cell-other 2 b₁ (i + 1) 0 i (λ q. omega arith) ∙ cell-same 2 b i f (omega (arith, s .long)) k in
+      let second : cell 2 b₂ (i + 1) ≡ 0 = cell-same 2 b₁ (i + 1) 0 (omega (arith, p .sound .long)) (omega arith) in
       rw (e₃, e₂, e₁) (stands-as r (
       ap (λ (y : Matching). matching (y .cells) (y .floor) (y .bad) (group (posOf (cell 2 b₂ i)) (posOf (cell 2 b₂ (i + 1))) ∷ y .groups)) (q .is ∙ p .is)
       ∙ same-matching refl refl refl (ap₂ (λ (m n : Pos). group m n ∷ matchingIn l b .groups) (ap posOf (first ∙ is-f)) (ap posOf second ∙ pos-at 0 (omega arith)))))
@@ -145,8 +147,8 @@ module _ {l : List Entry} {b : List ℕ} (s : Sound l b) where
         let z = matchingIn l b in
         let b₁ = putCell 2 b floorCell m in
         let u = floor-put s m k in
-        let v = popped (u .sound) d (is-d ∙ sym (cell-other b floorCell m depthCell (λ q. omega arith))) in
-        let inner : groupsIn b₁ d ≡ groupsIn b d = groups-frame b₁ b d (λ j h n. cell-other b floorCell m j (λ q. omega (arith, s .shallow))) in
+        let v = popped (u .sound) d (is-d ∙ sym (cell-other 2 b floorCell m depthCell (λ q. omega arith))) in
+        let inner : groupsIn b₁ d ≡ groupsIn b d = groups-frame b₁ b d (λ j h n. cell-other 2 b floorCell m j (λ q. omega (arith, s .shallow))) in
         rw (e₂, e₁) (stands-as v (
         ap (λ (y : Matching). matching (y .cells) (y .floor) (y .bad) (groupsIn b₁ d)) (u .is)
         ∙ same-matching refl most-is refl inner

@@ -22,7 +22,7 @@ use Rattle.rules.specs.Faults.Bodies.{soundBits, subscripted, bitsJudged, acces
 use Rattle.laws_grammar.specs.Cited.Nesting.{subscriptNest}
 use Rattle.laws_orders.specs.Orders.Tests.{impossible}
 use Rattle.laws_accepted.specs.Cited.Lengths.{Reaches, SizedIndex}
-use Rattle.table.specs.Holds.{kindByte, valueCell}
+use Rattle.records.specs.Holds.{kindByte, valueCell}
 use Rattle.table.specs.Laws.Positions.{Here, here, behind-far, kind-here, record-within, value-within}
 use Rattle.table.specs.Bits.{BitsView}
 use Rattle.promise.specs.Accesses.{leftName, rightName, accessCell}

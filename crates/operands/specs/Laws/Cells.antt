@@ -12,7 +12,7 @@ use borrow.Author.Tests.{le-leb}
 use native.Mathlib.Nat.{add-assoc}
 use Rattle.cells.specs.Cells as bytes
 use Rattle.cells.specs.Cells.{leAt}
-use Rattle.table.specs.Holds.{valueCell}
+use Rattle.records.specs.Holds.{valueCell}
 use Rattle.rules.specs.Grammar.Trees.{Bits}
 use Rattle.rules.specs.Declarations.{Word, Names, fromLeft, BitNames, Target, Declared, Table, numberOf, Reach, reachStorage, reachOf, reachNumber, reach, accessLow, accessBits}
 use Rattle.rules.specs.Limits.{largestName, mostBits}

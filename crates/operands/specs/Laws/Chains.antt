@@ -12,7 +12,7 @@ use Rattle.rules.specs.Grammar.Trees.{Tokens, Operand, operandTokens, Tail, no-
 use Rattle.rules.specs.Grammar.Precedence.{tightness, factorOf}
 use Rattle.laws_grammar.specs.Cited.Nesting.{operandNest}
 use Rattle.laws_accepted.specs.Cited.Lengths.{SizedFactor}
-use Rattle.table.specs.Holds.{kindByte}
+use Rattle.records.specs.Holds.{kindByte}
 use Rattle.table.specs.Laws.Positions.{here, kind-here, record-within}
 use Rattle.operands.specs.declared.expressions.Evaluated.the-variants.{Value as worked}
 use Rattle.table.specs.Operators.{tightnessAt, endsAccess, endsExpression}

@@ -15,7 +15,7 @@ use Rattle.laws_grammar.specs.Cited.Nesting.{tailNest}
 use Rattle.laws_grammar.specs.Grammar.Shunting.{waiting, chain}
 use Rattle.laws_grammar.specs.Cited.Shunting.{looser, settled}
 use Rattle.laws_accepted.specs.Cited.Lengths.{Sized, SizedFactor}
-use Rattle.table.specs.Holds.{kindByte}
+use Rattle.records.specs.Holds.{kindByte}
 use Rattle.table.specs.Laws.Positions.{here, kind-here, record-within}
 use Rattle.values.specs.Operands.{Operands}
 use Rattle.values.specs.Operators.{opAt}

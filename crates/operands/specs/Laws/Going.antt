@@ -14,7 +14,7 @@ use Rattle.laws_grammar.specs.Cited.Nesting.{tailNest}
 use Rattle.laws_grammar.specs.Grammar.Shunting.{waiting, chain}
 use Rattle.laws_grammar.specs.Cited.Shunting.{looser, settled}
 use Rattle.laws_accepted.specs.Cited.Lengths.{Sized, SizedFactor}
-use Rattle.table.specs.Holds.{kindByte}
+use Rattle.records.specs.Holds.{kindByte}
 use Rattle.operands.specs.declared.expressions.Evaluated.{Evaluated}
 use Rattle.operands.specs.declared.expressions.Evaluated.the-variants.{Value as worked, Fault as faulted}
 use Rattle.table.specs.Operators.{tightnessAt}

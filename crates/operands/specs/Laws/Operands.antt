@@ -18,7 +18,7 @@ use Rattle.rules.specs.Steps.Actions as actions
 use Rattle.rules.specs.Steps.Evaluation.{gives, Field, evaluateFactor, evaluateAccess}
 use Rattle.laws_grammar.specs.Cited.Nesting.{operandNest, tailNest}
 use Rattle.laws_accepted.specs.Cited.Lengths.{SizedFactor}
-use Rattle.table.specs.Holds.{kindByte, sizeByte, valueCell}
+use Rattle.records.specs.Holds.{kindByte, sizeByte, valueCell}
 use Rattle.table.specs.Laws.Positions.{Here, here, kind-here, record-within, value-within}
 use Rattle.operands.specs.declared.accesses.Located.{Located}
 use Rattle.operands.specs.declared.accesses.Located.the-variants.{Field as located, Fault as outside}
@@ -27,35 +27,12 @@ use Rattle.operands.specs.declared.expressions.Evaluated.the-variants.{V
 use Rattle.operands.specs.Answers.{Readable, readAt, Closable, closed, Invertible, inverted}
 use Rattle.operands.specs.Scene.{wordsOf, ExpressionAt, ExpressionAnswer, OperandAt, OperandAnswer, AccessAt, AccessAnswer}
 use Rattle.operands.specs.Laws.Scene.{ExpressionTold, OperandTold, AccessTold}
-use Rattle.operands.specs.Nots.{bare, nots, OperandIn, Bared}
-use Rattle.operands.specs.Laws.Nots.{bare-nest, bare-sized, nots-given, nots-faulty, firstKind, firstInfo, behindFirst, operand-first}
+use Rattle.nots.specs.Nots.{bare, nots, OperandIn, Bared}
+use Rattle.nots.specs.Laws.Nots.{bare-nest, bare-first, firstKind, firstInfo, behindFirst, operand-first, a-constant, an-access, a-group}
+use Rattle.operands.specs.Laws.Nots.{bare-sized, nots-given, nots-faulty}
 use Rattle.operands.specs.Worths.{Within}
 use Rattle.operands.specs.Laws.Worths.{factor-bits, access-within, read-comes, read-faults, read-word}
 use Rattle.operands.specs.Operands.{NestedAt}
-
-a-constant : (o : Operand) → kindNo (firstKind o) ≡ kindNo Const → (i : Info) × (o ≡ constant i)
-a-constant (constant i) e = (i, refl)
-a-constant (access i s b) e = absurd (omega arith)
-a-constant (parens l o t r) e = absurd (omega arith)
-a-constant (negated i o) e = absurd (omega arith)
-
-an-access : (o : Operand) → kindNo (firstKind o) ≡ kindNo Name → (n : Info) × (s : Subscript) × (b : Bits) × (o ≡ access n s b)
-an-access (constant i) e = absurd (omega arith)
-an-access (access i s b) e = (i, s, b, refl)
-an-access (parens l o t r) e = absurd (omega arith)
-an-access (negated i o) e = absurd (omega arith)
-
-a-group : (o : Operand) → kindNo (firstKind o) ≡ kindNo LPar → (l : Info) × (p : Operand) × (t : Tail) × (r : Info) × (o ≡ parens l p t r)
-a-group (constant i) e = absurd (omega arith)
-a-group (access i s b) e = absurd (omega arith)
-a-group (parens l o t r) e = (l, o, t, r, refl)
-a-group (negated i o) e = absurd (omega arith)
-
-bare-first : (o : Operand) → kindNo (firstKind (bare o)) ≡ kindNo NOT → ⊥
-bare-first (constant i) e = omega arith
-bare-first (access i s b) e = omega arith
-bare-first (parens l o t r) e = omega arith
-bare-first (negated i o) e = bare-first o e
 
 -- 1 for a NOT, else 0: what is left of an operand falls where NOTs are passed
 abbrev pub notFirst : List ℕ → ℕ → ℕ

@@ -16,7 +16,7 @@ use Rattle.rules.specs.Declarations.{Names, names, fromLeft, accessLow, accessB
 use Rattle.rules.specs.Steps.Evaluation.{Outcome, gives, faulty, then, Field, wordOr70, wordOf, fieldIn}
 use Rattle.laws_orders.specs.Orders.Tests.{impossible}
 use Rattle.laws_accepted.specs.Accepted.Named.{and-both}
-use Rattle.table.specs.Holds.{placeCell, valueCell}
+use Rattle.records.specs.Holds.{placeCell, valueCell}
 use Rattle.table.specs.Laws.Positions.{behind-far, record-within}
 use Rattle.table.specs.Bits as table
 use Rattle.table.specs.Bits.{BitsView, bitsSize}

@@ -15,7 +15,8 @@ use Rattle.traces.specs.Cited.Events.{Event, opens, turns, closes}
 use Rattle.telling.specs.Cited.Passing.{Passing, closed, groupEvent, times, passage}
 use Rattle.telling.specs.Cited.Cells.{Cells, memberOf, upFrom, cellGrouping}
 use Rattle.telling.specs.Marked.{from-few}
-use Rattle.matching.specs.Room.{mostGroups, matchingIn, Sound}
+use Rattle.matching.specs.Room.{matchingIn, Sound}
+use Rattle.room.specs.Trace.{mostGroups}
 use Rattle.passing.specs.Climbing.{meetingTold, upBy, meetTold}
 use Rattle.passing.specs.Depth.{depthAfter, Fits}
 use Rattle.passing.specs.Laws.Depth.{depth-told}

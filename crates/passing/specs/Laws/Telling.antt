@@ -9,7 +9,8 @@ use Rattle.laws_orders.specs.Orders.Tests.{impossible}
 use Rattle.traces.specs.Cited.Events.{Event, opens}
 use Rattle.telling.specs.Cited.Passing.{times}
 use Rattle.matching.specs.Matching.{Matching, told, toldAll}
-use Rattle.matching.specs.Room.{mostGroups, matchingIn, Sound, Stands}
+use Rattle.matching.specs.Room.{matchingIn, Sound, Stands}
+use Rattle.room.specs.Trace.{mostGroups}
 use Rattle.passing.specs.Depth.{Fits}
 
 pub told-append : (es fs : List Event) (z : Matching) → toldAll (es ++ fs) z ≡ toldAll fs (toldAll es z)

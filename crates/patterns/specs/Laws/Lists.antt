@@ -13,7 +13,7 @@ use Rattle.rules.specs.Selectors.{Item, itemOf, highest}
 use Rattle.rules.specs.Faults.Bodies.{itemsMeet, meetsAny, someMeet, past}
 use Rattle.laws_grammar.specs.Cited.Kinds.{kindAt}
 use Rattle.laws_grammar.specs.Grammar.Kinds.{kindAt-kindNo}
-use Rattle.table.specs.Holds.{kindByte}
+use Rattle.records.specs.Holds.{kindByte}
 use Rattle.table.specs.Laws.Positions.{record-within, kind-here}
 use Rattle.patterns.specs.declared.items.Item as code
 use Rattle.patterns.specs.Items.{meant}

@@ -10,7 +10,7 @@ use lib.ListN.{length}
 use Rattle.rules.specs.Text.Tokens.{Kind, Const, Masked, Colon, Info, Token, tk, kindNo}
 use Rattle.rules.specs.Grammar.Trees.{Tokens, Literal, exact, masked, literalTokens, Range, single, to}
 use Rattle.rules.specs.Selectors.{between, literalInfo, lowest, itemOf, highest}
-use Rattle.table.specs.Holds.{kindByte, valueCell, tokenAt, Entry}
+use Rattle.records.specs.Holds.{kindByte, valueCell, tokenAt, Entry}
 use Rattle.table.specs.Laws.Positions.{Here, here, behind-far, value-within, record-within, kind-here}
 use Rattle.patterns.specs.declared.items.Item.{Item}
 use Rattle.patterns.specs.declared.items.Item.the-variants.{Pattern}

@@ -12,7 +12,7 @@ use Rattle.rules.specs.Grammar.Trees.{Tokens, Action, block, labelled, if-then,
 use Rattle.trees.specs.Written.{nothing, token, then, level}
 use Rattle.trees.specs.Expressions.{Expressed, expression-equal, bits-end-written, access-written, joined-written, expression-written, own-bits-written, main-bits-written}
 use Rattle.trees.specs.Selectors.{Chosen, choosing-equal, selector-written}
-use Rattle.table.specs.Holds.{tokenAt}
+use Rattle.records.specs.Holds.{tokenAt}
 
 abbrev Nameless : Tokens → Type 0
 Nameless [] = Unit {0}

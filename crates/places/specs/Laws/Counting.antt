@@ -14,11 +14,11 @@ use Rattle.rules.specs.Declarations.{names, howMany, one-unnamed, these, Target
 use Rattle.rules.specs.Limits.{mostWords}
 use Rattle.laws_orders.specs.Orders.Tests.{impossible}
 use Rattle.laws_accepted.specs.Accepted.Declared.{few-words}
+use Rattle.table.specs.Ready.{Scene, tableOf}
 use Rattle.table.specs.Shown.{shownWords, shownBits}
 use Rattle.table.specs.Views.{View, TargetAt}
 use Rattle.table.specs.declared.views.Names.{Names}
 use Rattle.table.specs.declared.views.Names.the-variants.{Missing, Unnamed, Span}
-use Rattle.places.specs.Scene.{Scene, tableOf}
 use Rattle.places.specs.Laws.Scene.{lawful, declared-here, listed-here, view-here}
 use Rattle.places.specs.Bases.{FirstsHold}
 use Rattle.places.specs.Counting.{WordsIn, StorageIn}

@@ -9,7 +9,7 @@ use Rattle.rules.specs.Text.Tokens.{kindNo, Less, Colon}
 use Rattle.rules.specs.Grammar.Trees.{Tokens, bit, upto, all-bits, bits}
 use Rattle.laws_grammar.specs.Cited.Kinds.{kindAt}
 use Rattle.laws_grammar.specs.Grammar.Kinds.{kindAt-kindNo}
-use Rattle.table.specs.Holds.{kindByte, valueCell}
+use Rattle.records.specs.Holds.{kindByte, valueCell}
 use Rattle.table.specs.Laws.Positions.{kind-far, value-far}
 use Rattle.table.specs.declared.views.Names.the-variants.{Missing, Span}
 use Rattle.promise.specs.Accesses.{EndsAccess}

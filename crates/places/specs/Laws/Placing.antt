@@ -21,9 +21,9 @@ use Rattle.laws_orders.specs.Orders.Tests.{impossible}
 use Rattle.laws_accepted.specs.Accepted.Named.{found}
 use Rattle.laws_accepted.specs.Accepted.Declared.{near-words}
 use Rattle.laws_accepted.specs.Accepted.Lengths.{access-reaches}
-use Rattle.table.specs.Holds.{kindByte, valueCell, tokenAt, ValueHolds, Entry, Holds, insideCell}
+use Rattle.records.specs.Holds.{kindByte, valueCell, tokenAt, ValueHolds, Entry, Holds, insideCell}
 use Rattle.table.specs.Laws.Positions.{here, kind-far}
-use Rattle.table.specs.Ready.{Ready}
+use Rattle.table.specs.Ready.{Ready, Scene, outerOf, tableOf}
 use Rattle.table.specs.declared.views.Names.{Names}
 use Rattle.promise.specs.Accesses.{leftName, rightName, EndsAccess}
 use Rattle.places.specs.Tabled.{Tabled}
@@ -31,7 +31,6 @@ use Rattle.places.specs.Laws.Tabled.{kind-there}
 use Rattle.places.specs.Brackets.{past}
 use Rattle.places.specs.Laws.Brackets.{past-index}
 use Rattle.places.specs.Given.{GivenNames}
-use Rattle.places.specs.Scene.{Scene, outerOf, tableOf}
 use Rattle.places.specs.Laws.Scene.{lawful, numbered}
 use Rattle.places.specs.Bases.{BaseShows, Small, CellShows, FirstsHold, BaseAt}
 use Rattle.places.specs.Laws.Bases.{on-itself, on-another}
@@ -109,9 +108,6 @@ tabled v = record { text = v .scene .text; tokens = v .scene .tokens; holds = v 
 
 -- the cell of one name
 module _ {records values decls firsts : List ℕ} {n m i : ℕ} where
-  pub name-room : NameIn records values decls firsts n m i → 8 * i + 8 ≤ length records
-  name-room v = omega (arith, v .placing .scene .ready .holds .record-room, v .name .within)
-
   pub behind-name : NameIn records values decls firsts n m i → ((values : List ℕ) × Tabled records values n) × (i + 1 ≤ n)
   behind-name v = ((values, tabled (v .placing)), omega (arith, v .placing .count, v .name .within))
 

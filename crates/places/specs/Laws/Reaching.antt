@@ -1,23 +1,22 @@
 -- The arms of the functions that find what a declaration reaches.
 -- Assumes nothing.
-use Prim.Native.Nat.{ℕ, _+_, _*_, _<_, _≤_}
+use Prim.Native.Nat.{ℕ, _<_, _≤_}
 use mathlib.Core.Path.{_≡_, refl, sym, ap, _∙_}
 use mathlib.Core.List.{List}
 use mathlib.Core.Option.{Option, none, some}
 use native.Mathlib.Omega.{arith}
-use lib.ListN.{length, getElem?}
+use lib.ListN.{getElem?}
 use Rattle.cells.specs.Cells.{cell}
 use Rattle.rules.specs.Grammar.Trees.{Tokens}
 use Rattle.rules.specs.Declarations.{Names as Span-of, BitNames, Target, Declared, declaredOf, numberOf, firstWord, Reach, reachNumber}
 use Rattle.laws_orders.specs.Orders.Tests.{impossible}
-use Rattle.table.specs.Holds.{insideCell}
-use Rattle.table.specs.Laws.Positions.{record-within}
+use Rattle.records.specs.Holds.{insideCell}
+use Rattle.table.specs.Ready.{tableOf}
 use Rattle.table.specs.Shown.{shownWords, shownBits, shownTarget}
 use Rattle.table.specs.Views.{View, TargetStands, TargetAt}
 use Rattle.table.specs.declared.views.Names.{Names}
 use Rattle.table.specs.declared.views.Names.the-variants.{Missing, Unnamed, Span}
 use Rattle.promise.specs.Accesses.{leftName, rightName}
-use Rattle.places.specs.Scene.{tableOf}
 use Rattle.places.specs.Laws.Scene.{declared-here, listed-here, view-here, numbered}
 use Rattle.places.specs.Spans.{LowIn}
 use Rattle.places.specs.Bases.{BaseShows, BaseAt, LowUnder, MappingAt, LiesShown}
@@ -69,9 +68,6 @@ a-target ts r (some t) a n = (t, refl, a)
 
 -- a mapping lies on the declaration that its target's cell numbers
 module _ {records values decls firsts : List ℕ} {m p t : ℕ} where
-  pub target-room : MappingAt records values decls firsts m p t → 8 * t + 8 ≤ length records
-  target-room v = record-within (v .scene .ready .holds) t (v .stands .within)
-
   module _ {o : ℕ} (e : o ≡ insideCell records t) where
     same-number : (v : MappingAt records values decls firsts m p t) (k : ℕ) → numberOf (tableOf (v .scene)) (v .target .name .word) ≡ some k → (k ≡ o) × (o < m)
     same-number v k q =
@@ -84,9 +80,6 @@ module _ {records values decls firsts : List ℕ} {m p t : ℕ} where
     no-number h v k d b q x y = absurd (omega (arith, same-number v k q .1))
 
     module _ (h : o < m) where
-      pub first-room : MappingAt records values decls firsts m p t → 2 * o + 2 ≤ length firsts
-      first-room v = omega (arith, v .hold .room)
-
       module _ {q : ℕ} (f : q ≡ cell 2 decls o) where
         abbrev pub under-view : MappingAt records values decls firsts m p t → View records values q
         under-view v = view-here (v .scene) h f

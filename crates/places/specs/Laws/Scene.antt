@@ -13,12 +13,12 @@ use Rattle.rules.specs.Declarations.{Declared, Table, declaredOf, numberOf}
 use Rattle.laws_accepted.specs.Accepted.Named.{found}
 use Rattle.laws_accepted.specs.Cited.Declared.{Declares}
 use Rattle.laws_accepted.specs.Accepted.Declared.{declares}
-use Rattle.table.specs.Holds.{tokenAt, insideCell}
+use Rattle.records.specs.Holds.{tokenAt, insideCell}
+use Rattle.table.specs.Ready.{outerOf, tableOf, Scene}
 use Rattle.table.specs.Views.{View}
 use Rattle.table.specs.Meaning.{meaningBy, meaningOf}
 use Rattle.table.specs.Laws.Kth.{table-length, kth-room, kth-view}
 use Rattle.table.specs.Kth.{kth, kth-found}
-use Rattle.places.specs.Scene.{outerOf, tableOf, Scene}
 
 there-below : (ds : Table) (k : ℕ) (d : Declared) → getElem? ds k ≡ some d → k < length ds
 there-below [] k d e = absurd (let z : _≡_ {A = ℕ} 0 1 = cc in omega arith)

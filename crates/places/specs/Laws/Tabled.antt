@@ -9,7 +9,7 @@ use lib.ListN.{length, drop, drop-of-length-le}
 use lib.Seq.{drop-cons}
 use Rattle.rules.specs.Text.Tokens.{Name, kindNo, tk}
 use Rattle.rules.specs.Text.Scan.{plainInfo}
-use Rattle.table.specs.Holds.{kindByte, tokenAt}
+use Rattle.records.specs.Holds.{kindByte, tokenAt}
 use Rattle.places.specs.Tabled.{Tabled}
 
 module _ {records values : List ℕ} {n : ℕ} (v : Tabled records values n) where

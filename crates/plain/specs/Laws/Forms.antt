@@ -16,10 +16,10 @@ use Rattle.rules.specs.Declarations.{numberOf}
 use Rattle.rules.specs.Faults.Fault.{when}
 use Rattle.rules.specs.Faults.Declared.{isKnown, declaredAt}
 use Rattle.rules.specs.Faults.Bodies.{activated, actionFaults}
-use Rattle.table.specs.Holds.{kindByte, tokenAt}
-use Rattle.table.specs.Keys.{noKey, leastBy, leastKey}
+use Rattle.records.specs.Holds.{kindByte, tokenAt}
+use Rattle.keys.specs.Keys.{noKey, leastBy, leastKey}
 use Rattle.table.specs.Laws.Positions.{here, far, token-far, behind-far, kind-far}
-use Rattle.table.specs.Words.{NameAt, wordAt}
+use Rattle.records.specs.Words.{NameAt, wordAt}
 use Rattle.stacks.specs.Stacks.{stackedWords}
 use Rattle.plain.specs.declared.Walked.{Walked}
 use Rattle.plain.specs.Stage.{Stage, outerOf, tableOf}

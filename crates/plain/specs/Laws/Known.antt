@@ -16,12 +16,12 @@ use Rattle.rules.specs.Declarations.{Word, Table, numberFrom, numberOf}
 use Rattle.rules.specs.Faults.Fault.{fault, when}
 use Rattle.rules.specs.Faults.Declared.{isKnown}
 use Rattle.rules.specs.Faults.Bodies.{declaredNames}
-use Rattle.table.specs.Laws.Keys.{fault-key, no-fault-key}
-use Rattle.table.specs.Holds.{tokenAt, placeCell, insideCell}
-use Rattle.table.specs.Keys.{key, noKey, leastKey}
+use Rattle.keys.specs.Laws.Keys.{fault-key, no-fault-key}
+use Rattle.records.specs.Holds.{tokenAt, placeCell, insideCell}
+use Rattle.keys.specs.Keys.{key, noKey, leastKey}
 use Rattle.table.specs.Meaning.{outerOnly, unknownName}
 use Rattle.table.specs.Laws.Positions.{record-within}
-use Rattle.table.specs.Words.{NameAt, wordAt}
+use Rattle.records.specs.Words.{NameAt, wordAt}
 use Rattle.stacks.specs.Stacks.{stackedWords, NameView}
 use Rattle.accesses.specs.Laws.Lookups.{undeclared, declared}
 use Rattle.plain.specs.Stage.{Stage, outerOf, tableOf}

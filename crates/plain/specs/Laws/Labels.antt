@@ -5,7 +5,7 @@ use mathlib.Core.Path.{_≡_, refl, ap, _∙_}
 use mathlib.Core.Bool.{Bool, true, false, _&&_, and-false}
 use mathlib.Core.List.{List, [], _∷_}
 use Rattle.rules.specs.Text.Tokens.{Kind, Info, Token, tk, same, Name, LPar, RPar, Becomes, Equals, Arrow, BEGIN, END}
-use Rattle.rules.specs.Grammar.Trees.{Tokens, Bits, Operand, operandTokens, Tail, tailTokens, Subscript, Joined, Literal, exact, masked, literalTokens, rangeTokens, one-of, any-of}
+use Rattle.rules.specs.Grammar.Trees.{Tokens, Bits, Operand, operandTokens, Tail, tailTokens, Subscript, Joined}
 use Rattle.rules.specs.Grammar.Trees.{Action, block, labelled, if-then, decode, repeat, leave, restart, activate, stop, no-op, transfer, actionTokens, Members, end, also, next, membersTokens}
 use Rattle.rules.specs.Grammar.Trees.{Alternatives, counted, selected, alternativesTokens, Counted, counted-end, counted-more, countedTokens}
 use Rattle.rules.specs.Grammar.Trees.{Selected, select, otherwise, selectedTokens, SelectedMore, selected-end, selected-more, selectedMoreTokens}
@@ -64,15 +64,6 @@ unfolding labelsIn
 nameless = chosen-passes (λ m. labelsIn) level refl
 
 -- THE LABELS OF A TREE
-literal-starts : (l : Literal) (ts : Tokens) → startsBecomes (literalTokens l ts) ≡ false
-literal-starts (exact i) ts = refl
-literal-starts (masked i) ts = refl
-
-pub selected-starts : (s : Selected) (ts : Tokens) → startsBecomes (selectedTokens s ts) ≡ false
-selected-starts (select (one-of l r) b a m) ts = literal-starts l (rangeTokens r (tk Becomes b ∷ actionTokens a (selectedMoreTokens m ts)))
-selected-starts (select (any-of x l r is) b a m) ts = refl
-selected-starts (otherwise i b a e) ts = refl
-
 members-starts : (m : Members) (ts : Tokens) → startsBecomes (membersTokens m ts) ≡ false
 members-starts (end i) ts = refl
 members-starts (also i a m) ts = refl

@@ -18,12 +18,13 @@ use Rattle.rules.specs.Faults.Bodies.{labels, labelFaults}
 use Rattle.laws_grammar.specs.Cited.Kinds.{kindAt}
 use Rattle.laws_grammar.specs.Grammar.Kinds.{kindAt-kindNo}
 use Rattle.laws_grammar.specs.Grammar.Positions.{action-writes}
-use Rattle.table.specs.Holds.{kindByte, tokenAt}
-use Rattle.table.specs.Keys.{key, noKey, leastBy, leastKey}
-use Rattle.table.specs.Laws.Keys.{least-bounded, least-append}
+use Rattle.records.specs.Holds.{kindByte, tokenAt}
+use Rattle.keys.specs.Keys.{key, noKey, leastBy, leastKey}
+use Rattle.keys.specs.Laws.Keys.{least-bounded, least-append}
 use Rattle.table.specs.Laws.Positions.{here, record-within}
-use Rattle.table.specs.Words.{NameAt, wordAt}
-use Rattle.stacks.specs.Stacks.{stackedWords, indexFrom, indexEnd, Stacked, NameView, Pushed}
+use Rattle.records.specs.Words.{NameAt, wordAt}
+use Rattle.stacks.specs.Stacks.{stackedWords, Stacked, NameView, Pushed}
+use Rattle.room.specs.Bodies.{indexFrom, indexEnd}
 use Rattle.stacks.specs.Laws.Kept.{none-stacked}
 use Rattle.stacks.specs.Laws.Pushed.{push-words, push-stacked}
 use Rattle.accesses.specs.Laws.Tests.{both-true}

@@ -14,12 +14,13 @@ use Rattle.rules.specs.Grammar.Trees.{Action, block, labelled, if-then, decode,
 use Rattle.rules.specs.Grammar.Precedence.{exprOf}
 use Rattle.rules.specs.Faults.Bodies.{faultsIn, judge, actionFaults}
 use Rattle.laws_grammar.specs.Cited.Nesting.{actionNest}
-use Rattle.table.specs.Holds.{kindByte, tokenAt}
-use Rattle.table.specs.Keys.{key, noKey, leastKey}
-use Rattle.table.specs.Laws.Keys.{least-append, least-bounded}
+use Rattle.records.specs.Holds.{kindByte, tokenAt}
+use Rattle.keys.specs.Keys.{key, noKey, leastKey}
+use Rattle.keys.specs.Laws.Keys.{least-append, least-bounded}
 use Rattle.table.specs.Laws.Positions.{here, behind-far}
-use Rattle.table.specs.Words.{NameAt, wordAt}
-use Rattle.stacks.specs.Stacks.{stackedWords, indexFrom, indexEnd, NameView, Pushed}
+use Rattle.records.specs.Words.{NameAt, wordAt}
+use Rattle.stacks.specs.Stacks.{stackedWords, NameView, Pushed}
+use Rattle.room.specs.Bodies.{indexFrom, indexEnd}
 use Rattle.stacks.specs.Laws.Pushed.{push-words, push-stacked}
 use Rattle.expressions.specs.Expressions.{ExpressionAt, ExpressionAnswer}
 use Rattle.accesses.specs.Laws.Tests.{both-true}

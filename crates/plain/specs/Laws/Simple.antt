@@ -17,13 +17,13 @@ use Rattle.rules.specs.Faults.Fault.{fault, when}
 use Rattle.rules.specs.Faults.Declared.{isKnown}
 use Rattle.rules.specs.Faults.Bodies.{faultsIn, judge, judgeJoined, judgeDestination, storedTwice, actionFaults}
 use Rattle.rules.specs.Whole.Sets.{ownerIn}
-use Rattle.table.specs.Holds.{tokenAt, placeCell, insideCell}
-use Rattle.table.specs.Keys.{key, noKey, leastBy, leastKey}
-use Rattle.table.specs.Laws.Keys.{fault-key, no-fault-key, least-append}
+use Rattle.records.specs.Holds.{tokenAt, placeCell, insideCell}
+use Rattle.keys.specs.Keys.{key, noKey, leastBy, leastKey}
+use Rattle.keys.specs.Laws.Keys.{fault-key, no-fault-key, least-append}
 use Rattle.table.specs.Meaning.{outerOnly, unknownName}
 use Rattle.table.specs.Laws.Positions.{Here, here}
 use Rattle.table.specs.Views.{View, BodyAt}
-use Rattle.table.specs.Words.{wordAt}
+use Rattle.records.specs.Words.{wordAt}
 use Rattle.table.specs.Operators.{endsExpression}
 use Rattle.stacks.specs.Stacks.{stackedWords, NameView}
 use Rattle.expressions.specs.Expressions.{ExpressionAt, ExpressionAnswer}

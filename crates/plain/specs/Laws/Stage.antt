@@ -2,8 +2,9 @@
 use Prim.Native.Nat.{ℕ, _*_, _≤_}
 use mathlib.Core.List.{List}
 use lib.ListN.{length}
-use Rattle.table.specs.Words.{NameAt}
-use Rattle.stacks.specs.Stacks.{indexEnd, Stacked, NameView}
+use Rattle.records.specs.Words.{NameAt}
+use Rattle.stacks.specs.Stacks.{Stacked, NameView}
+use Rattle.room.specs.Bodies.{indexEnd}
 use Rattle.patterns.specs.Stands.{Held}
 use Rattle.accesses.specs.Scene.{Scene}
 use Rattle.plain.specs.Stage.{Stage}

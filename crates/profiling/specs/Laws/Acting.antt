@@ -9,14 +9,15 @@ use borrow.Author.Tests.{eq-eqb, ne-eqb}
 use lib.Dec.{eqb, ltb}
 use lib.ListN.{length, drop}
 use Rattle.cells.specs.Cells.{cell}
+use Rattle.rules.specs.Text.Tokens.{kindNo, Name, LPar, Comma, Semi, Becomes, Equals, BEGIN, END, NEXT, IF, DECODE, REPEAT, LEAVE, NO-OP}
 use Rattle.rules.specs.Text.Scan.{sameBytes}
 use Rattle.rules.specs.Limits.{deepest}
 use Rattle.rules.specs.Whole.Sets.{member, owner}
 use Rattle.paths.specs.Cited.Marks.{marked, added}
 use Rattle.paths.specs.Cited.Least.{least}
 use Rattle.paths.specs.Least.{least-append}
-use Rattle.table.specs.Holds.{kindByte, placeCell, tokenAt}
-use Rattle.table.specs.Words.{wordAt}
+use Rattle.records.specs.Holds.{kindByte, placeCell, tokenAt}
+use Rattle.records.specs.Words.{wordAt}
 use Rattle.reading.specs.Kinds.{nextNo, stores}
 use Rattle.scopes.specs.Walks.{nextWord}
 use Rattle.reading.specs.Laws.Reading.{next-token, no-more, kinded, name-at}
@@ -63,8 +64,8 @@ lower-all : (l k : ℕ) (ps xs : List ℕ) (b : Bool) → l ≡ least unseen ps 
 lower-all l k ps xs true e f = omega (arith, least-append unseen ps xs)
 lower-all l k ps xs false e f = e ∙ ap (least unseen) (sym (append-nil ps))
 
-module _ {records decls table old new : List ℕ} {t : Task} {i : ℕ} {x : Nest} (a : Acting records decls table old t i x) (name : kindByte records i ≡ 0)
-    {k : ℕ} (index : (decls : List ℕ) (n : ℕ) (v : Reading records decls (t .m) n) → i < n → kindByte records i ≡ 0 → k ≡ indexOf (tableOf v) (wordAt (v .tokens) i))
+module _ {records decls table old new : List ℕ} {t : Task} {i : ℕ} {x : Nest} (a : Acting records decls table old t i x) (name : kindByte records i ≡ kindNo Name)
+    {k : ℕ} (index : (decls : List ℕ) (n : ℕ) (v : Reading records decls (t .m) n) → i < n → kindByte records i ≡ kindNo Name → k ≡ indexOf (tableOf v) (wordAt (v .tokens) i))
     {other seen back sets : Bool} {place low : ℕ} where
   pub activate-shown : (other ≡ not (eqb k (t .aim))) → seen ≡ eqb (cell 2 table (2 * k)) 1 → back ≡ (other && seen) → place ≡ cell 2 table (2 * k + 1)
       → low ≡ cond (x .comes) (min (x .low) place) (x .low) → sets ≡ (x .comes && back) → Set old new (x .flag) sets
@@ -124,9 +125,6 @@ module _ {records decls table old : List ℕ} {t : Task} {i : ℕ} {x : Nest} (a
   abbrev pub acting-kinds : Kinded records (t .n)
   acting-kinds = kinded acting-reads
 
-  pub standing : Standing old x
-  standing = (book records (a .scene .written .tokens), i, a .state, a .shows)
-
   pub name-elsewhere : {mode : ℕ} → (mode ≡ 0 → ⊥) → Named records decls table old old t i mode x x
   name-elsewhere {mode} n g z s = by mode n
     where
@@ -138,7 +136,7 @@ module _ {records decls table old : List ℕ} {t : Task} {i : ℕ} {x : Nest} (a
   pub place-fits : {p : ℕ} → p ≡ placeCell records i → p < 65535
   place-fits e = omega (arith, place-small (spelt (a .scene .written)) (a .within) e)
 
-  module _ (name : kindByte records i ≡ 0) {mode : ℕ} (start : mode ≡ 0) {k : ℕ} (behind : (v : Kinded records (t .n)) → k ≡ nextNo (drop (i + 1) (v .tokens))) where
+  module _ (name : kindByte records i ≡ kindNo Name) {mode : ℕ} (start : mode ≡ 0) {k : ℕ} (behind : (v : Kinded records (t .n)) → k ≡ nextNo (drop (i + 1) (v .tokens))) where
     module _ (g : Scene records decls table t) (z : State) where
       abbrev now : ℕ → State
       now q = named (whole (g .written)) (g .test) (t .out) (g .known) 0 (tokenAt (g .written .tokens) i) q z
@@ -149,19 +147,19 @@ module _ {records decls table old : List ℕ} {t : Task} {i : ℕ} {x : Nest} (a
           ap (λ m. named (whole (g .written)) (g .test) (t .out) (g .known) m (tokenAt (g .written .tokens) i) (nextNo (drop (i + 1) (g .written .tokens))) z) start
           ∙ (ap now (sym (behind (kinded (reading (g .written))))) ∙ e)
 
-    pub name-labels : {new : List ℕ} {r : Nest} → k ≡ 12 → Labels records old new i x r → Named records decls table old new t i mode x r
+    pub name-labels : {new : List ℕ} {r : Nest} → k ≡ kindNo Becomes → Labels records old new i x r → Named records decls table old new t i mode x r
     name-labels {new} {r} e l g z s =
         subst (Shows (book records (g .written .tokens)) new (i + 1) r) (sym (at-start g z (labelled (wordAt (g .written .tokens) i) z) (ap (now g z) e)))
         (l (g .written .tokens) z s (name-at (reading (g .written)) i (a .within) name))
 
-    module _ (n : k ≡ 12 → ⊥) where
-      pub name-activates : {new : List ℕ} {r : Nest} → k ≡ 3 → Activates records decls table old new t i x r → Named records decls table old new t i mode x r
+    module _ (n : k ≡ kindNo Becomes → ⊥) where
+      pub name-activates : {new : List ℕ} {r : Nest} → k ≡ kindNo LPar → Activates records decls table old new t i x r → Named records decls table old new t i mode x r
       name-activates {new} {r} e l g z s =
           subst (Shows (book records (g .written .tokens)) new (i + 1) r)
           (sym (at-start g z (activated (whole (g .written)) (g .test) (t .out) (g .known) (wordAt (g .written .tokens) i) z) (ap (now g z) e)))
           (shows-later (a .few) (l g z i s))
 
-      module _ (c : k ≡ 3 → ⊥) {b : Bool} (kind : b ≡ stores k) where
+      module _ (c : k ≡ kindNo LPar → ⊥) {b : Bool} (kind : b ≡ stores k) where
         abbrev chain : (g : Scene records decls table t) (z : State) → Bool → Bool → Bool → State
         chain g z u v w =
             elim u [
@@ -197,12 +195,12 @@ module _ {records decls table old : List ℕ} {t : Task} {i : ℕ} {x : Nest} (a
 
   -- LEAVE
   module _ {k : ℕ} (behind : (v : Kinded records (t .n)) → k ≡ nextNo (drop (i + 1) (v .tokens))) where
-    pub jump-nowhere : (k ≡ 0 → ⊥) → Aims records decls table old old t i x x
+    pub jump-nowhere : (k ≡ kindNo Name → ⊥) → Aims records decls table old old t i x x
     jump-nowhere n g z j s =
-        let e : eqb (nextNo (drop (i + 1) (g .written .tokens))) 0 ≡ false = ne-eqb _ 0 (λ q. n (behind (kinded (reading (g .written))) ∙ q)) in
+        let e : eqb (nextNo (drop (i + 1) (g .written .tokens))) (kindNo Name) ≡ false = ne-eqb _ 0 (λ q. n (behind (kinded (reading (g .written))) ∙ q)) in
         subst (λ b. Shows (book records (g .written .tokens)) old j x (aimed b (nextWord (drop (i + 1) (g .written .tokens))) z)) (sym e) s
 
-    module _ (e : k ≡ 0) where
+    module _ (e : k ≡ kindNo Name) where
       target-in : (v : Kinded records (t .n)) → i + 1 < t .n
       target-in v = by (decLt (i + 1) (t .n))
         where
@@ -210,7 +208,7 @@ module _ {records decls table old : List ℕ} {t : Task} {i : ℕ} {x : Nest} (a
           by (yes l) = l
           by (no l) = absurd (omega (arith, behind v, ap nextNo (no-more v (i + 1) (omega arith))))
 
-      target-name : kindByte records (i + 1) ≡ 0
+      target-name : kindByte records (i + 1) ≡ kindNo Name
       target-name =
           let v = acting-kinds in
           v .kind (i + 1) (target-in v) ∙ (sym (ap nextNo (next-token v (i + 1) (target-in v))) ∙ (sym (behind v) ∙ e))
@@ -230,7 +228,7 @@ module _ {records decls table old : List ℕ} {t : Task} {i : ℕ} {x : Nest} (a
           let v = kinded (reading (g .written)) in
           let ts = g .written .tokens in
           let word : nextWord (drop (i + 1) ts) ≡ wordAt ts (i + 1) = ap nextWord (next-token v (i + 1) (target-in v)) in
-          let test : eqb (nextNo (drop (i + 1) ts)) 0 ≡ true = eq-eqb _ 0 (sym (behind v) ∙ e) in
+          let test : eqb (nextNo (drop (i + 1) ts)) (kindNo Name) ≡ true = eq-eqb _ 0 (sym (behind v) ∙ e) in
           subst (λ b. Shows (book records ts) new j r (aimed b (nextWord (drop (i + 1) ts)) z)) (sym test)
           (subst (λ w. Shows (book records ts) new j r (left w z)) (sym word) (l (spelt (g .written)) j z s))
 
@@ -246,57 +244,57 @@ module _ {records decls table old : List ℕ} {t : Task} {i : ℕ} {x : Nest} (a
         subst (Shows (book records (g .written .tokens)) new (i + 1) r) (sym (ap (done g z) (sym is ∙ e) ∙ same g z)) (shows-later (a .few) (d (book records (g .written .tokens)) i z s))
 
     module _ {new : List ℕ} {r : Nest} where
-      pub name-acts : kind ≡ 0 → Named records decls table old new t i mode x r → Acted records decls table old new t i mode x r
+      pub name-acts : kind ≡ kindNo Name → Named records decls table old new t i mode x r → Acted records decls table old new t i mode x r
       unfolding acted
       name-acts e d g z s = subst (Shows (book records (g .written .tokens)) new (i + 1) r) (sym (ap (done g z) (sym is ∙ e))) (d g z s)
 
-      pub begin-acts : kind ≡ 19 → Does (λ z. opened (ltb (length (z .frames)) deepest) z) old x new r → Acted records decls table old new t i mode x r
+      pub begin-acts : kind ≡ kindNo BEGIN → Does (λ z. opened (ltb (length (z .frames)) deepest) z) old x new r → Acted records decls table old new t i mode x r
       unfolding acted
       begin-acts e d = arm 19 (λ z. opened (ltb (length (z .frames)) deepest) z) e (λ g z. refl) d
 
-      pub end-acts : kind ≡ 20 → Does (λ z. closed (z .frames) z) old x new r → Acted records decls table old new t i mode x r
+      pub end-acts : kind ≡ kindNo END → Does (λ z. closed (z .frames) z) old x new r → Acted records decls table old new t i mode x r
       unfolding acted
       end-acts e d = arm 20 (λ z. closed (z .frames) z) e (λ g z. refl) d
 
-      pub also-acts : kind ≡ 10 → Does (λ z. also (z .frames) z) old x new r → Acted records decls table old new t i mode x r
+      pub also-acts : kind ≡ kindNo Semi → Does (λ z. also (z .frames) z) old x new r → Acted records decls table old new t i mode x r
       unfolding acted
       also-acts e d = arm 10 (λ z. also (z .frames) z) e (λ g z. refl) d
 
-      pub next-acts : kind ≡ 21 → Does (λ z. next (z .frames) z) old x new r → Acted records decls table old new t i mode x r
+      pub next-acts : kind ≡ kindNo NEXT → Does (λ z. next (z .frames) z) old x new r → Acted records decls table old new t i mode x r
       unfolding acted
       next-acts e d = arm 21 (λ z. next (z .frames) z) e (λ g z. refl) d
 
-      pub transfer-acts : kind ≡ 13 → Does transferred old x new r → Acted records decls table old new t i mode x r
+      pub transfer-acts : kind ≡ kindNo Equals → Does transferred old x new r → Acted records decls table old new t i mode x r
       unfolding acted
       transfer-acts e d = arm 13 transferred e (λ g z. refl) d
 
-      pub test-acts : kind ≡ 22 → Does (λ z. reached (chosen false z) (z .marks)) old x new r → Acted records decls table old new t i mode x r
+      pub test-acts : kind ≡ kindNo IF → Does (λ z. reached (chosen false z) (z .marks)) old x new r → Acted records decls table old new t i mode x r
       unfolding acted
       test-acts e d = arm 22 (λ z. reached (chosen false z) (z .marks)) e (λ g z. refl) d
 
-      pub reach-acts : kind ≡ 30 → Does (λ z. reached z (z .marks)) old x new r → Acted records decls table old new t i mode x r
+      pub reach-acts : kind ≡ kindNo NO-OP → Does (λ z. reached z (z .marks)) old x new r → Acted records decls table old new t i mode x r
       unfolding acted
       reach-acts e d = arm 30 (λ z. reached z (z .marks)) e (λ g z. refl) d
 
-      pub jump-acts : kind ≡ 26 → Aims records decls table old new t i x r → Acted records decls table old new t i mode x r
+      pub jump-acts : kind ≡ kindNo LEAVE → Aims records decls table old new t i x r → Acted records decls table old new t i mode x r
       unfolding acted
       jump-acts e d g z s = subst (Shows (book records (g .written .tokens)) new (i + 1) r) (sym (ap (done g z) (sym is ∙ e))) (shows-later (a .few) (d g z i s))
 
     module _ {r : Nest} where
-      pub comma-acts : kind ≡ 9 → Does (λ z. another (z .frames) z) old x old r → Acted records decls table old old t i mode x r
+      pub comma-acts : kind ≡ kindNo Comma → Does (λ z. another (z .frames) z) old x old r → Acted records decls table old old t i mode x r
       unfolding acted
       comma-acts e d = arm 9 (λ z. another (z .frames) z) e (λ g z. refl) d
 
-      pub choice-acts : kind ≡ 23 → ((room : List ℕ) → Does (chosen true) room x room r) → Acted records decls table old old t i mode x r
+      pub choice-acts : kind ≡ kindNo DECODE → ((room : List ℕ) → Does (chosen true) room x room r) → Acted records decls table old old t i mode x r
       unfolding acted
       choice-acts e d = arm 23 (chosen true) e (λ g z. refl) (d old)
 
-      pub loop-acts : kind ≡ 25 → ((room : List ℕ) → Does looped room x room r) → Acted records decls table old old t i mode x r
+      pub loop-acts : kind ≡ kindNo REPEAT → ((room : List ℕ) → Does looped room x room r) → Acted records decls table old old t i mode x r
       unfolding acted
       loop-acts e d = arm 25 looped e (λ g z. refl) (d old)
 
-    pub other-acts : (kind ≡ 0 → ⊥) → (kind ≡ 19 → ⊥) → (kind ≡ 20 → ⊥) → (kind ≡ 10 → ⊥) → (kind ≡ 21 → ⊥) → (kind ≡ 9 → ⊥) → (kind ≡ 13 → ⊥) → (kind ≡ 22 → ⊥)
-        → (kind ≡ 23 → ⊥) → (kind ≡ 25 → ⊥) → (kind ≡ 26 → ⊥) → (kind ≡ 30 → ⊥) → Acted records decls table old old t i mode x x
+    pub other-acts : (kind ≡ kindNo Name → ⊥) → (kind ≡ kindNo BEGIN → ⊥) → (kind ≡ kindNo END → ⊥) → (kind ≡ kindNo Semi → ⊥) → (kind ≡ kindNo NEXT → ⊥) → (kind ≡ kindNo Comma → ⊥) → (kind ≡ kindNo Equals → ⊥) → (kind ≡ kindNo IF → ⊥)
+        → (kind ≡ kindNo DECODE → ⊥) → (kind ≡ kindNo REPEAT → ⊥) → (kind ≡ kindNo LEAVE → ⊥) → (kind ≡ kindNo NO-OP → ⊥) → Acted records decls table old old t i mode x x
     unfolding acted
     other-acts a0 a19 a20 a10 a21 a9 a13 a22 a23 a25 a26 a30 g z s =
         let same : done g z kind ≡ z =

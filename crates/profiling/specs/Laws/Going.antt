@@ -8,15 +8,17 @@ use native.Mathlib.Decide.{decLt}
 use lib.Dec.{eqb}
 use lib.ListN.{length, drop}
 use Rattle.cells.specs.Cells.{cell, putCell}
+use Rattle.cells.specs.Laws.{put-size, put-same, put-here}
 use Rattle.rules.specs.Grammar.Trees.{Tokens}
-use Rattle.table.specs.Holds.{kindByte, tokenAt}
-use Rattle.table.specs.Words.{wordAt}
+use Rattle.records.specs.Holds.{kindByte, tokenAt}
+use Rattle.records.specs.Words.{wordAt}
 use Rattle.paths.specs.Cited.Marks.{Marks}
 use Rattle.paths.specs.Cited.Least.{least}
 use Rattle.paths.specs.Least.{least-under}
 use Rattle.reading.specs.Kinds.{mode as modeOf}
 use Rattle.table.specs.Scans.{no as kindOf}
 use Rattle.reading.specs.Laws.Reading.{kinded, next-token, no-more}
+use Rattle.room.specs.Profile.{mostFlags, roomSize}
 use Rattle.profiling.specs.Spelt.{whole}
 use Rattle.profiling.specs.Laws.Spelt.{reading}
 use Rattle.nesting.specs.Machine.{Frame, State, outset, none-open, acted, run}
@@ -24,7 +26,7 @@ use Rattle.nesting.specs.Holding.{unseen, book, unlinked, linked, LabelPut, no-
 use Rattle.nesting.specs.Grouping.{nest}
 use Rattle.profiling.specs.Walking.{Scene, Acting, Acted, Finds, marksOf}
 use Rattle.profiling.specs.Going.{Cleared, Beginning, Begins, Tells, Walked}
-use Rattle.nesting.specs.Laws.Holding.{bit-test, put-size, put-same, put-here}
+use Rattle.nesting.specs.Laws.Holding.{bit-test}
 use Rattle.nesting.specs.declared.nests.Nest.{Nest}
 use Rattle.profiling.specs.declared.tasks.Task.{Task}
 use Rattle.profiling.specs.declared.walks.Found.{Found}
@@ -47,28 +49,28 @@ pub record Going (records decls table first room : List ℕ) (t : Task) (name fr
 
 pub record Clearing (first room : List ℕ) (k : ℕ) : Type 0 where
   pub cleared : Cleared first room k
-  pub few : k ≤ 64
-  pub space : 49664 ≤ length room
+  pub few : k ≤ mostFlags
+  pub space : roomSize ≤ length room
 
-pub none-cleared : {old : List ℕ} → 49664 ≤ length old → Clearing old old 0
+pub none-cleared : {old : List ℕ} → roomSize ≤ length old → Clearing old old 0
 none-cleared h = record { cleared = record { size = refl; clear = λ j h. absurd (omega arith) }; few = omega arith; space = h }
 
-pub one-cleared : {first old new : List ℕ} {k : ℕ} → Clearing first old k → k < 64 → new ≡ putCell 2 old k 0 → Clearing first new (k + 1)
+pub one-cleared : {first old new : List ℕ} {k : ℕ} → Clearing first old k → k < mostFlags → new ≡ putCell 2 old k 0 → Clearing first new (k + 1)
 one-cleared {first} {old} {new} {k} c h p =
     record {
-      cleared = record { size = put-size old new k 0 p ∙ c .cleared .size; clear = λ j l. by j l (decLt j k) };
+      cleared = record { size = put-size 2 old new k 0 p ∙ c .cleared .size; clear = λ j l. by j l (decLt j k) };
       few = omega arith;
-      space = omega (arith, put-size old new k 0 p, c .space);
+      space = omega (arith, put-size 2 old new k 0 p, c .space);
     }
   where
     by : (j : ℕ) → j < k + 1 → Dec (j < k) → cell 2 new j ≡ 0
-    by j l (yes a) = put-same old new k 0 p j (λ e. omega arith) ∙ c .cleared .clear j a
-    by j l (no a) = let e : j ≡ k = omega arith in ap (cell 2 new) e ∙ put-here old new k 0 p (omega (arith, c .space)) (omega arith)
+    by j l (yes a) = put-same 2 old new k 0 p j (λ e. omega arith) ∙ c .cleared .clear j a
+    by j l (no a) = let e : j ≡ k = omega arith in ap (cell 2 new) e ∙ put-here 2 old new k 0 p (omega (arith, c .space)) (omega arith)
 
-pub all-cleared : {first old : List ℕ} {k : ℕ} → Clearing first old k → 64 ≤ k → Cleared first old 64
+pub all-cleared : {first old : List ℕ} {k : ℕ} → Clearing first old k → mostFlags ≤ k → Cleared first old mostFlags
 all-cleared c h = record { size = c .cleared .size; clear = λ j l. c .cleared .clear j (omega arith) }
 
-pub begun-shown : {records first old new : List ℕ} {name : ℕ} → 49664 ≤ length first → Cleared first old 64 → LabelPut records old new 0 name 1
+pub begun-shown : {records first old new : List ℕ} {name : ℕ} → roomSize ≤ length first → Cleared first old mostFlags → LabelPut records old new 0 name 1
     → Begins records new name (nest 0 2 1 1 true false false 0 false 65535)
 begun-shown {records} {first} {old} {new} {name} room c p ts i n below h = record {
   space = omega (arith, c .size, p .size);
@@ -96,7 +98,7 @@ pub found-tells : {room : List ℕ} {s : Nest} {b : Bool} → b ≡ eqb (cell 2 
 found-tells e ts i z s = (e ∙ (ap (λ k. eqb k 1) (s .flags .at 1 (omega arith)) ∙ bit-test (z .marks .flags 1)), s .low-is)
 
 pub to-begin : {records decls table room : List ℕ} {t : Task} {name from : ℕ} → Beginning records decls table room t name from
-    → (49664 ≤ length room) × (name < 8192) × (8 * name + 8 ≤ length records)
+    → (roomSize ≤ length room) × (name < 8192) × (8 * name + 8 ≤ length records)
 to-begin b = (b .space, b .few, b .record-room)
 
 pub goes : {records decls table room now : List ℕ} {t : Task} {name from : ℕ} {s : Nest} → Beginning records decls table room t name from → Begins records now name s

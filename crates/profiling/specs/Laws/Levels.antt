@@ -11,7 +11,8 @@ use lib.ListN.{length, drop, getElem?}
 use lib.Seq.{drop-drop}
 use borrow.Author.Tests.{eq-eqb, ne-eqb}
 use Rattle.cells.specs.Cells.{cell, putCell}
-use Rattle.rules.specs.Text.Tokens.{Token}
+use Rattle.cells.specs.Laws.{put-size, put-same, put-here}
+use Rattle.rules.specs.Text.Tokens.{Token, kindNo, BEGIN}
 use Rattle.rules.specs.Grammar.Trees.{Tokens, Action, block, actionTokens, unnamed, named, bit as one-bit, upto, bitless, main-bits}
 use Rattle.rules.specs.Grammar.Trees.{Declaration, plain, main, words, with-bits, bare-body, carrier, given, body, mapped, declarationsTokens}
 use Rattle.rules.specs.Limits.{deepest, longestChain}
@@ -20,8 +21,8 @@ use Rattle.rules.specs.Steps.Runs.{bodyAct}
 use Rattle.laws_accepted.specs.Accepted.Named.{found}
 use Rattle.laws_grammar.specs.Cited.Nesting.{actionNest}
 use Rattle.laws_orders.specs.Orders.Tests.{impossible}
-use Rattle.table.specs.Holds.{kindByte, tokenAt}
-use Rattle.table.specs.Words.{wordAt}
+use Rattle.records.specs.Holds.{kindByte, tokenAt}
+use Rattle.records.specs.Words.{wordAt}
 use Rattle.table.specs.Declarations.{nameTokens, declarationList, all-declared}
 use Rattle.paths.specs.Cited.Early.{Report, inside, passed, early, earlyI, bodyEarly}
 use Rattle.paths.specs.Walk.{walkBody}
@@ -45,7 +46,6 @@ use Rattle.profiling.specs.Walking.{Known, Scene}
 use Rattle.profiling.specs.Going.{Beginning, Walked}
 use Rattle.profiling.specs.Levels.{toBegin, BeginBehind, Aimed, Level, Put, Blank, Levelled, PartAt, Part, Rounded, Starting, Known16}
 use Rattle.profiling.specs.Laws.Machine.{body-read}
-use Rattle.nesting.specs.Laws.Holding.{put-size, put-same, put-here}
 use Rattle.profiling.specs.declared.tasks.Task.{Task}
 use Rattle.profiling.specs.declared.walks.Found.{Found}
 
@@ -81,7 +81,7 @@ module _ {records : List ℕ} {n name i : ℕ} (s : Seeking records n name i) wh
   seek-over h = record { low = s .low; past = s .past; reads = λ v. no-more v i h ∙ (ap toBegin (sym (no-more v i h)) ∙ s .left v) }
 
   module _ (h : i < n) {k : ℕ} (kind : k ≡ kindByte records i) where
-    pub seek-found : k ≡ 19 → BeginBehind records n name i
+    pub seek-found : k ≡ kindNo BEGIN → BeginBehind records n name i
     unfolding toBegin
     seek-found e =
         record {
@@ -89,12 +89,12 @@ module _ {records : List ℕ} {n name i : ℕ} (s : Seeking records n name i) wh
           past = s .past;
           reads = λ v.
               let t = tokenAt (v .tokens) i in
-              let here : eqb (kindOf t) 19 ≡ true = eq-eqb (kindOf t) 19 (sym (v .kind i h) ∙ (sym kind ∙ e)) in
+              let here : eqb (kindOf t) (kindNo BEGIN) ≡ true = eq-eqb (kindOf t) (kindNo BEGIN) (sym (v .kind i h) ∙ (sym kind ∙ e)) in
               let rest = drop (i + 1) (v .tokens) in
               next-token v i h ∙ (sym (ap (λ b. elim b [ true ↦ t ∷ rest | false ↦ toBegin rest ]) here) ∙ (ap toBegin (sym (next-token v i h)) ∙ s .left v));
         }
 
-    pub seek-on : (k ≡ 19 → ⊥) → Seeking records n name (i + 1)
+    pub seek-on : (k ≡ kindNo BEGIN → ⊥) → Seeking records n name (i + 1)
     unfolding toBegin
     seek-on e = record {
       past = omega (arith, s .past);
@@ -103,7 +103,7 @@ module _ {records : List ℕ} {n name i : ℕ} (s : Seeking records n name i) wh
       room = s .room;
       left = λ v.
           let t = tokenAt (v .tokens) i in
-          let other : eqb (kindOf t) 19 ≡ false = ne-eqb (kindOf t) 19 (λ q. e (kind ∙ (v .kind i h ∙ q))) in
+          let other : eqb (kindOf t) (kindNo BEGIN) ≡ false = ne-eqb (kindOf t) (kindNo BEGIN) (λ q. e (kind ∙ (v .kind i h ∙ q))) in
           let rest = drop (i + 1) (v .tokens) in
           sym (ap (λ b. elim b [ true ↦ t ∷ rest | false ↦ toBegin rest ]) other) ∙ (ap toBegin (sym (next-token v i h)) ∙ s .left v);
     }
@@ -119,12 +119,12 @@ known-kept {k = k} j s n x = record {
 pub two-put : {old mid new : List ℕ} {k v low : ℕ} {ends : Bool} → 1028 ≤ length old → k ≤ 256 → low < 65536 → v ≡ bit ends → v < 2 → mid ≡ putCell 2 old (2 * k) v
     → new ≡ putCell 2 mid (2 * k + 1) low → Put old new k ends low
 two-put {old} {mid} {new} {k} {v} {low} h l f b small p q =
-    let size = put-size old mid (2 * k) v p in
+    let size = put-size 2 old mid (2 * k) v p in
     record {
-      size = put-size mid new (2 * k + 1) low q ∙ size;
-      ends-is = put-same mid new (2 * k + 1) low q (2 * k) (λ e. omega arith) ∙ (put-here old mid (2 * k) v p (omega arith) (omega arith) ∙ b);
-      low-is = put-here mid new (2 * k + 1) low q (omega arith) f;
-      same = λ j n o. put-same mid new (2 * k + 1) low q j o ∙ put-same old mid (2 * k) v p j n;
+      size = put-size 2 mid new (2 * k + 1) low q ∙ size;
+      ends-is = put-same 2 mid new (2 * k + 1) low q (2 * k) (λ e. omega arith) ∙ (put-here 2 old mid (2 * k) v p (omega arith) (omega arith) ∙ b);
+      low-is = put-here 2 mid new (2 * k + 1) low q (omega arith) f;
+      same = λ j n o. put-same 2 mid new (2 * k + 1) low q j o ∙ put-same 2 old mid (2 * k) v p j n;
     }
 
 pub put-true : {old mid new : List ℕ} {k low : ℕ} {ends : Bool} → 1028 ≤ length old → k ≤ 256 → low < 65536 → ends ≡ true → mid ≡ putCell 2 old (2 * k) 1

@@ -19,7 +19,7 @@ use Rattle.reading.specs.Laws.Hearing.{Apart, members-apart}
 use Rattle.reading.specs.Laws.Groups.{touch-action, first-place, lone-alternatives}
 use Rattle.scopes.specs.Walks.{opens}
 use Rattle.scopes.specs.Laws.Behind.{plain as plainly, quiet, All, all-none, all-more, Quiet, plain-kind, quiet-kind, expression-made, transfer-made, selector-made}
-use Rattle.rules.specs.Reasons.{Member, memberOf, others, group, groupsIn, groupsBehind, groupsAlternatives, groupsCounted, groupsSelected, groupsMore, groupsOfBody, groupsOf}
+use Rattle.rules.specs.Reasons.{Member, memberOf, others, groupOf, groupsIn, groupsBehind, groupsAlternatives, groupsCounted, groupsSelected, groupsMore, groupsOfBody, groupsOf}
 use Rattle.racing.specs.Groups.{memberHere, othersHere, groupHere, groupsHere}
 use Rattle.racing.specs.Laws.Alike.{AlikeMember, AlikeMembers, Matches, match-none, match-group, match-lone}
 
@@ -56,7 +56,7 @@ module _ (ds : Table) where
     subst (λ (l : List Member). AlikeMembers l (others ds m)) (sym (others-action a 0 (membersTokens m ts))) (others-alike m ts),
   )
 
-  group-alike : (a : Action) (m : Members) (ts : Tokens) → AlikeMembers (groupHere ds (actionTokens a (membersTokens m ts))) (group ds a m)
+  group-alike : (a : Action) (m : Members) (ts : Tokens) → AlikeMembers (groupHere ds (actionTokens a (membersTokens m ts))) (groupOf ds a m)
   group-alike a m ts = (
     member-alike a (membersTokens m ts) (members-apart m ts),
     subst (λ (l : List Member). AlikeMembers l (others ds m)) (sym (others-action a 0 (membersTokens m ts))) (others-alike m ts),

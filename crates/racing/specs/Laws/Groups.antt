@@ -6,7 +6,7 @@ use mathlib.Core.List.{List, []}
 use mathlib.Core.Option.{Option}
 use native.Mathlib.Omega.{arith}
 use lib.ListN.{drop}
-use Rattle.table.specs.Holds.{kindByte, tokenAt}
+use Rattle.records.specs.Holds.{kindByte, tokenAt}
 use Rattle.table.specs.Scans.{no}
 use Rattle.reading.specs.Reading.{Reading, tableOf}
 use Rattle.reading.specs.Laws.Reading.{kinded, next-token, no-more}

@@ -5,7 +5,8 @@ use mathlib.Core.Path.{_≡_, subst}
 use mathlib.Core.List.{List}
 use native.Mathlib.Omega.{arith}
 use Rattle.reader.specs.Parsed.{Refuses}
-use Rattle.reader.specs.Judged.{Judges, refuses, accepts, Accepts}
+use Rattle.reader.specs.Judged.{Judges, refuses, accepts}
+use Rattle.accepted.specs.Accepted.{Accepts}
 use Rattle.reader.specs.declared.judging.Verdict.{Verdict}
 use Rattle.reader.specs.declared.judging.Verdict.the-variants.{Accepted, Refused}
 

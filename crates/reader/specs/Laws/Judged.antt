@@ -16,11 +16,11 @@ use Rattle.rules.specs.Faults.Bodies.{faults40}
 use Rattle.rules.specs.Faults.Whole.{faults50}
 use Rattle.rules.specs.Answers.{Verdict as Answer, accepted, refused, orElse, judgement, Checks}
 use Rattle.table.specs.Declarations.{declarationList, all-declared, DeclaredAt}
-use Rattle.table.specs.Keys.{noKey, leastKey, leastNumberKey, Smalls}
-use Rattle.table.specs.Laws.Keys.{by-place, by-number, no-fault, place-first, place-near, number-first, number-near}
+use Rattle.keys.specs.Keys.{noKey, leastKey, leastNumberKey, Smalls}
+use Rattle.keys.specs.Laws.Keys.{by-place, by-number, no-fault, place-first, place-near, number-first, number-near}
 use Rattle.table.specs.Ready.{Ready}
 use Rattle.reader.specs.Copied.{Copied}
-use Rattle.reader.specs.Read.{Declares}
+use Rattle.accepted.specs.Accepted.{Declares, Lawful}
 use Rattle.bodies.specs.Bodies.{BodiesView, faultsOfBodies}
 use Rattle.bodies.specs.Laws.Fixed.{ready-bodies}
 use Rattle.bodies.specs.Laws.Small.{faults-small}
@@ -28,7 +28,7 @@ use Rattle.whole.specs.Written.{Written, whole}
 use Rattle.whole.specs.Laws.Written.{reading}
 use Rattle.whole.specs.Laws.Between.{faults-small as small-faults-50}
 use Rattle.reader.specs.declared.judging.Verdict.the-variants.{Accepted, Refused}
-use Rattle.reader.specs.Judged.{Judges, refuses, Lawful, accepts}
+use Rattle.reader.specs.Judged.{Judges, refuses, accepts}
 
 within : (list : List Declaration) (k : ℕ) (x : Declaration) → getElem? list k ≡ some x → k < length list
 within [] k x e = absurd (let z : _≡_ {A = ℕ} 0 1 = cc in omega arith)

@@ -25,7 +25,7 @@ use Rattle.text.specs.declared.Scanned.the-variants.{Fine as ScannedFine, Refus
 use Rattle.grammar.specs.Records.{Records, KindsStand, answerOf, Answers}
 use Rattle.grammar.specs.declared.Recognised.{Recognised}
 use Rattle.grammar.specs.declared.Recognised.the-variants.{Accepted as RAccepted, Refused20 as RRefused20, Refused21 as RRefused21}
-use Rattle.table.specs.Holds.{tokenAt, Holds}
+use Rattle.records.specs.Holds.{tokenAt, Holds}
 use Rattle.reader.specs.Laws.Tabled.{tabled}
 use Rattle.reader.specs.Parsed.{Refuses, Written, placeBy, Stands, Scans}
 

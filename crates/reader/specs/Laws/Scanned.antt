@@ -19,7 +19,7 @@ use Rattle.rules.specs.Limits.{mostTokens}
 use Rattle.classes.specs.Laws.Runs.{length-run, take-run, and-left, and-right}
 use Rattle.lexemes.specs.Laws.Constants.{bits-some}
 use Rattle.lexemes.specs.Laws.Bounds.{pow-times, value-below, sum-below}
-use Rattle.table.specs.Holds.{WordHolds}
+use Rattle.records.specs.Holds.{WordHolds}
 
 -- a constant's number fits its length
 pub record Numbered (x : Info) : Type 0 where

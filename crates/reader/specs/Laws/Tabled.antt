@@ -20,7 +20,7 @@ use Rattle.laws_grammar.specs.Cited.Kinds.{kindAt}
 use Rattle.text.specs.Table.{recordOf, recordCells, valueBy, valueCells, writeCells}
 use Rattle.text.specs.Laws.Writes.{length-written, before-written}
 use Rattle.text.specs.Laws.Callers.{Stands, few-tokens, token-stands, places-rise, values-held}
-use Rattle.table.specs.Holds.{placeCell, valueCell, tokenAt, sizeOf, ValueHolds, Entry, Holds}
+use Rattle.records.specs.Holds.{placeCell, valueCell, tokenAt, sizeOf, ValueHolds, Entry, Holds}
 use Rattle.reader.specs.Laws.Scanned.{Numbered, token-meant}
 
 -- the bytes of a cell that was put, the lowest first

@@ -8,12 +8,12 @@ use native.Mathlib.Decide.{decLt}
 use borrow.Author.Tests.{eq-eqb, ne-eqb}
 use lib.Dec.{eqb}
 use lib.ListN.{drop}
-use Rattle.rules.specs.Text.Tokens.{Token, LPar, kindNo}
+use Rattle.rules.specs.Text.Tokens.{Token, LPar, kindNo, Name, STOP}
 use Rattle.rules.specs.Grammar.Trees.{Tokens}
 use Rattle.rules.specs.Declarations.{Word}
 use Rattle.rules.specs.Whole.Sets.{anyName, member}
-use Rattle.table.specs.Holds.{kindByte, tokenAt}
-use Rattle.table.specs.Words.{wordAt}
+use Rattle.records.specs.Holds.{kindByte, tokenAt}
+use Rattle.records.specs.Words.{wordAt}
 use Rattle.reading.specs.Kinds.{nextNo, stores, tests, begins, ends, closes, mode}
 use Rattle.reading.specs.Reading.{Kinded}
 use Rattle.reading.specs.Laws.Reading.{next-token, no-more}
@@ -56,13 +56,13 @@ module _ (d m : ℕ) (t : Token) (ts : Tokens) where
 
 -- which tokens activate: a name in front of `(` where an action begins
 module _ (m : ℕ) (t : Token) (k : ℕ) where
-  pub calls-name : number t ≡ 0 → m ≡ 0 → k ≡ kindNo LPar → event m t k ≡ activates (t .info .word) ∷ []
+  pub calls-name : number t ≡ kindNo Name → m ≡ 0 → k ≡ kindNo LPar → event m t k ≡ activates (t .info .word) ∷ []
   unfolding event nameEvent actingEvent
-  calls-name e z h = rw (eq-eqb (number t) 0 e, event, z, eq-eqb k 3 h, actingEvent)
+  calls-name e z h = rw (eq-eqb (number t) (kindNo Name) e, event, z, eq-eqb k (kindNo LPar) h, actingEvent)
 
-  other : (number t ≡ 0 → ⊥) → callsOf (event m t k) ≡ []
+  other : (number t ≡ kindNo Name → ⊥) → callsOf (event m t k) ≡ []
   unfolding event callsOf
-  other n = rw (ne-eqb (number t) 0 n, event) (by (eqb (number t) 29))
+  other n = rw (ne-eqb (number t) (kindNo Name) n, event) (by (eqb (number t) (kindNo STOP)))
     where
       by : (b : Bool) → callsOf (elim b [ true ↦ halts ∷ [] | false ↦ [] ]) ≡ []
       by true = refl
@@ -84,14 +84,14 @@ module _ (m : ℕ) (t : Token) (k : ℕ) where
       by true = refl
       by false = refl
 
-  pub calls-nothing : (number t ≡ 0 → m ≡ 0 → k ≡ kindNo LPar → ⊥) → callsOf (event m t k) ≡ []
+  pub calls-nothing : (number t ≡ kindNo Name → m ≡ 0 → k ≡ kindNo LPar → ⊥) → callsOf (event m t k) ≡ []
   unfolding event nameEvent
   calls-nothing n = by (decLt 0 (number t)) (decLt 0 m)
     where
       by : Dec (0 < number t) → Dec (0 < m) → callsOf (event m t k) ≡ []
       by (yes h) _ = other (λ e. omega arith)
-      by (no h) (yes q) = let e : number t ≡ 0 = omega arith in rw (eq-eqb (number t) 0 e, event) (reading (λ z. omega arith))
-      by (no h) (no q) = let e : number t ≡ 0 = omega arith in let z : m ≡ 0 = omega arith in rw (eq-eqb (number t) 0 e, event, z) (storing (n e z))
+      by (no h) (yes q) = let e : number t ≡ kindNo Name = omega arith in rw (eq-eqb (number t) (kindNo Name) e, event) (reading (λ z. omega arith))
+      by (no h) (no q) = let e : number t ≡ kindNo Name = omega arith in let z : m ≡ 0 = omega arith in rw (eq-eqb (number t) (kindNo Name) e, event, z) (storing (n e z))
 
 -- a search for the next activation that has come to the token i
 pub record Searching (records : List ℕ) (n at depth from d m i : ℕ) : Type 0 where
@@ -142,7 +142,7 @@ module _ {records : List ℕ} {n at depth from d m i : ℕ} (inv : Searching rec
               let y = activated t v in
               let t = tokenAt (v .tokens) i in
               let rest = drop (i + 1) (v .tokens) in
-              let z : number t ≡ 0 = sym (kind-is v) ∙ y .0 in
+              let z : number t ≡ kindNo Name = sym (kind-is v) ∙ y .0 in
               here v
               ∙ (ap callsOf (heard-on d m t rest (goes-on f v) (ap (closes d) z))
               ∙ (ap (λ (x : List Event). callsOf (x ++ heard (deeper d (number t)) (mode m (number t)) rest))

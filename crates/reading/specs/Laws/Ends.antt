@@ -8,7 +8,7 @@ use borrow.Author.Tests.{eqb-true, eq-eqb, ne-eqb}
 use lib.Dec.{eqb}
 use lib.ListN.{drop}
 use Rattle.rules.specs.Text.Tokens.{END, kindNo}
-use Rattle.table.specs.Holds.{kindByte}
+use Rattle.records.specs.Holds.{kindByte}
 use Rattle.table.specs.Scans.{deeper, down, halts, outermost, stops}
 use Rattle.table.specs.Laws.Scans.{scan-found, scan-on, scan-end}
 use Rattle.laws_accepted.specs.Accepted.Named.{and-both}
@@ -39,7 +39,7 @@ closes-all : (d k : ℕ) → closes d k ≡ true → deeper d k ≡ 0
 unfolding closes deeper
 closes-all d k e =
     let h = and-both (eqb k (kindNo END)) (outermost (down d)) e in
-    let z : k ≡ 20 = eqb-true k 20 (h .0) in
+    let z : k ≡ kindNo END = eqb-true k (kindNo END) (h .0) in
     rw (ne-eqb k 19 (λ y. omega arith), eq-eqb k 20 z, deeper) (outside (down d) (h .1))
 
 module _ {records : List ℕ} {n from d i : ℕ} (inv : Seeking records n from d i) where

@@ -15,8 +15,8 @@ use Rattle.rules.specs.Declarations.{Word, Target, BitNames, declaredOf, number
 use Rattle.rules.specs.Limits.{mostDeclarations}
 use Rattle.rules.specs.Whole.Sets.{owner}
 use Rattle.laws_accepted.specs.Accepted.Declared.{declares as lawful-table}
-use Rattle.table.specs.Holds.{kindByte, insideCell}
-use Rattle.table.specs.Words.{wordAt}
+use Rattle.records.specs.Holds.{kindByte, insideCell}
+use Rattle.records.specs.Words.{wordAt}
 use Rattle.table.specs.Laws.Positions.{far, kind-far}
 use Rattle.table.specs.Declarations.{nameTokens}
 use Rattle.table.specs.Views.{View, TargetAt, TargetStands}
@@ -162,7 +162,7 @@ module _ {records decls : List ℕ} {m n i k : ℕ} (h : i < n) (e : kindByte re
       number : numberOf (tableOf v) (wordAt (v .tokens) i) ≡ some k
       number = means-number v i k h e q l
 
-      pub bare-carrier : {b : ℕ} → b ≡ kindByte records (p + 1) → b ≡ 12 → Owned (owner (tableOf v) (wordAt (v .tokens) i)) 65535
+      pub bare-carrier : {b : ℕ} → b ≡ kindByte records (p + 1) → b ≡ kindNo Becomes → Owned (owner (tableOf v) (wordAt (v .tokens) i)) 65535
       bare-carrier f g = by (second .bits)
         where
           by : ((kindNo (second .second .kind) ≡ kindNo Becomes) × (declaredOf (declares v k l .declaration) .bits ≡ none))
@@ -174,7 +174,7 @@ module _ {records decls : List ℕ} {m n i k : ℕ} (h : i < n) (e : kindByte re
           }
           by (inr y) = absurd (y .0 (sym second-kind ∙ (sym f ∙ g)))
 
-      pub own-carrier : {b : ℕ} → b ≡ kindByte records (p + 1) → (b ≡ 12 → ⊥) → Owned (owner (tableOf v) (wordAt (v .tokens) i)) k
+      pub own-carrier : {b : ℕ} → b ≡ kindByte records (p + 1) → (b ≡ kindNo Becomes → ⊥) → Owned (owner (tableOf v) (wordAt (v .tokens) i)) k
       own-carrier f g = by (second .bits)
         where
           by : ((kindNo (second .second .kind) ≡ kindNo Becomes) × (declaredOf (declares v k l .declaration) .bits ≡ none))

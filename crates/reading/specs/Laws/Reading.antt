@@ -10,8 +10,8 @@ use Rattle.rules.specs.Text.Tokens.{Name, tk, kindNo}
 use Rattle.rules.specs.Text.Scan.{plainInfo}
 use Rattle.laws_grammar.specs.Cited.Kinds.{kindAt}
 use Rattle.laws_grammar.specs.Grammar.Kinds.{kindAt-kindNo}
-use Rattle.table.specs.Holds.{noKind, kindByte, tokenAt}
-use Rattle.table.specs.Words.{NameAt}
+use Rattle.records.specs.Holds.{noKind, kindByte, tokenAt}
+use Rattle.records.specs.Words.{NameAt}
 use Rattle.reading.specs.Kinds.{nextNo}
 use Rattle.reading.specs.Reading.{Kinded, Reading}
 

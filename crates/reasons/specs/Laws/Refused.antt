@@ -24,7 +24,7 @@ use Rattle.rules.specs.Faults.Bodies.{firstPlace}
 use Rattle.rules.specs.Faults.Whole.{Scope, labelled-in, aimsOut, hasMore, racesAny, memberFaults, memberScope, groupFaults, membersOf, alternativesGroups, countedGroups, selectedGroups, moreGroups, mains, beginsChain, chains, bodyGroups, groupsFaults, faults50}
 use Rattle.laws_orders.specs.Orders.Tests.{or-either, or-left, or-right, member-either}
 use Rattle.reasons.specs.Laws.Races.{race-among}
-use Rattle.rules.specs.Reasons.{Member, memberOf, others, group, groupsIn, groupsBehind, groupsAlternatives, groupsCounted, groupsSelected, groupsMore, groupsOfBody, groupsOf, earliest, Race, raceAt, firstRace, raceFrom, raceAmong, conflict, Carrier, firstConflict, writers, racing, raceOn, raceReason, reason53}
+use Rattle.rules.specs.Reasons.{Member, memberOf, others, groupOf, groupsIn, groupsBehind, groupsAlternatives, groupsCounted, groupsSelected, groupsMore, groupsOfBody, groupsOf, earliest, Race, raceAt, firstRace, raceFrom, raceAmong, conflict, Carrier, firstConflict, writers, racing, raceOn, raceReason, reason53}
 
 -- a fault of a list
 abbrev pub Among : Fault → List Fault → Type 0
@@ -180,12 +180,12 @@ module _ (ds : Table) (p : ℕ) where
 
   -- a group from its first member on
   group-raced : (b : Bool) (a : Action) (m : Members) → Among f (memberFaults ds b [] a) ⊎ (Raced (groupsIn ds a) ⊎ Behind (memberOf ds a ∷ []) m)
-      → Raced (group ds a m ∷ (groupsIn ds a ++ groupsBehind ds m))
+      → Raced (groupOf ds a m ∷ (groupsIn ds a ++ groupsBehind ds m))
   unfolding raceAmong raceFrom
   group-raced b a m (inl x) = absurd (none-before a (member-raced b [] [] a stand-none x))
-  group-raced b a m (inr (inl x)) = second-found (raceFrom p [] (group ds a m)) _ (found-left p (groupsIn ds a) (groupsBehind ds m) x)
-  group-raced b a m (inr (inr (inl x))) = first-found (raceFrom p [] (group ds a m)) _ (second-found (raceAt p [] (memberOf ds a)) _ x)
-  group-raced b a m (inr (inr (inr x))) = second-found (raceFrom p [] (group ds a m)) _ (found-right p (groupsIn ds a) (groupsBehind ds m) x)
+  group-raced b a m (inr (inl x)) = second-found (raceFrom p [] (groupOf ds a m)) _ (found-left p (groupsIn ds a) (groupsBehind ds m) x)
+  group-raced b a m (inr (inr (inl x))) = first-found (raceFrom p [] (groupOf ds a m)) _ (second-found (raceAt p [] (memberOf ds a)) _ x)
+  group-raced b a m (inr (inr (inr x))) = second-found (raceFrom p [] (groupOf ds a m)) _ (found-right p (groupsIn ds a) (groupsBehind ds m) x)
 
   either : {A B : Type 0} (xs ys : List Fault) → (Among f xs → A) → (Among f ys → B) → Among f (xs ++ ys) → A ⊎ B
   either xs ys g h x = by g h (among-either f xs ys x)

@@ -10,7 +10,7 @@ use Rattle.rules.specs.Answers.{Verdict, accepted, refused, Checks}
 use Rattle.rules.specs.Calls.Memory.{Memory, Enough}
 use Rattle.rules.specs.Calls.Check.{CheckCall, verdictNumber}
 use Rattle.rules.specs.Calls.Check as check
-use Rattle.rules.specs.Reasons.{Reason, no-reason, Explains, plain, by-race, by-chain}
+use Rattle.rules.specs.Reasons.{Reason, no-reason, Explains, unexplained, by-race, by-chain}
 use Rattle.rules.specs.Calls.Why.{WhyMemory, WhyCall, short-memory, long-text, answer, reasonSize, reasoned}
 use Rattle.rules.specs.Truth.{RaceTold, ChainTold}
 use Rattle.reasons.specs.Laws.Unique.{race-only, chain-only}
@@ -79,7 +79,7 @@ module _ {text reason left : List ℕ} {before after : Memory} (enough : WhyMemo
   nothing-more p q (answer v r m t c x e a l) = by p q e x l
     where
       by : {n : ℕ} {v : Verdict} {r : Reason} → (n ≡ 53 → ⊥) → (n ≡ 51 → ⊥) → n ≡ verdictNumber v → Explains text v r → left ≡ reasoned r reason → left ≡ reasoned no-reason reason
-      by p q e (plain i j) l = l
+      by p q e (unexplained i j) l = l
       by p q e (by-race d s) l = absurd (p e)
       by p q e (by-chain d s) l = absurd (q e)
 

@@ -11,7 +11,7 @@ use Rattle.rules.specs.Calls.Memory.{Memory, settled}
 use Rattle.rules.specs.Calls.Check.{verdictNumber}
 use Rattle.laws_grammar.specs.Grammar.Exact.{unique}
 use Rattle.laws_grammar.specs.Answers.{one-verdict}
-use Rattle.rules.specs.Reasons.{Reason, no-reason, reason53, reason51, Explains, plain, by-race, by-chain}
+use Rattle.rules.specs.Reasons.{Reason, no-reason, reason53, reason51, Explains, unexplained, by-race, by-chain}
 use Rattle.rules.specs.Calls.Why.{WhyCall, short-memory, long-text, answer, reasoned}
 
 -- a text has one description
@@ -21,14 +21,14 @@ one-description text d e p q = unique d e (p ∙ sym q)
 -- of 53 and of 51
 pub race-only : {text : List ℕ} {p : ℕ} {v : Verdict} {r : Reason} (d : Description) → flatten d ≡ scan text .tokens → v ≡ refused 53 p → Explains text v r
     → r ≡ reason53 (declarations d) p
-race-only d s e (plain n o) = absurd (n (ap verdictNumber e))
+race-only d s e (unexplained n o) = absurd (n (ap verdictNumber e))
 race-only {text} {p} d s e (by-race {p = q} f t) =
     let z : q ≡ p = cc in ap (λ (x : Description). reason53 (declarations x) q) (one-description text f d t s) ∙ ap (reason53 (declarations d)) z
 race-only d s e (by-chain f t) = let z : _≡_ {A = ℕ} 51 53 = ap verdictNumber e in absurd (omega (arith, z))
 
 pub chain-only : {text : List ℕ} {p : ℕ} {v : Verdict} {r : Reason} (d : Description) → flatten d ≡ scan text .tokens → v ≡ refused 51 p → Explains text v r
     → r ≡ reason51 (declarations d) p
-chain-only d s e (plain n o) = absurd (o (ap verdictNumber e))
+chain-only d s e (unexplained n o) = absurd (o (ap verdictNumber e))
 chain-only {text} {p} d s e (by-chain {p = q} f t) =
     let z : q ≡ p = cc in ap (λ (x : Description). reason51 (declarations x) q) (one-description text f d t s) ∙ ap (reason51 (declarations d)) z
 chain-only d s e (by-race f t) = let z : _≡_ {A = ℕ} 53 51 = ap verdictNumber e in absurd (omega (arith, z))
@@ -36,10 +36,10 @@ chain-only d s e (by-race f t) = let z : _≡_ {A = ℕ} 53 51 = ap verdictNumbe
 pub one-reason : {text : List ℕ} {v : Verdict} {r q : Reason} → Explains text v r → Explains text v q → r ≡ q
 one-reason (by-race d s) y = sym (race-only d s refl y)
 one-reason (by-chain d s) y = sym (chain-only d s refl y)
-one-reason (plain n o) y = by n o y
+one-reason (unexplained n o) y = by n o y
   where
     by : {text : List ℕ} {v : Verdict} {q : Reason} → (verdictNumber v ≡ 53 → ⊥) → (verdictNumber v ≡ 51 → ⊥) → Explains text v q → no-reason ≡ q
-    by n o (plain m p) = refl
+    by n o (unexplained m p) = refl
     by n o (by-race d s) = absurd (n refl)
     by n o (by-chain d s) = absurd (o refl)
 

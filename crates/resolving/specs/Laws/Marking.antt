@@ -18,10 +18,10 @@ use Rattle.rules.specs.Declarations.{Word, declaredOf, numberFrom, numberOf}
 use Rattle.rules.specs.Limits.{mostTokens}
 use Rattle.laws_grammar.specs.Cited.Kinds.{kindAt}
 use Rattle.laws_grammar.specs.Grammar.Kinds.{kindAt-kindNo}
-use Rattle.table.specs.Holds.{kindByte, insideCell, linkCell, tokenAt}
-use Rattle.table.specs.Kept.{InsidePut}
-use Rattle.table.specs.Laws.Kept.{kept-none, kept-then, kept-wide, holds-kept}
-use Rattle.table.specs.Words.{NameAt, wordAt}
+use Rattle.records.specs.Holds.{kindByte, insideCell, linkCell, tokenAt}
+use Rattle.records.specs.Kept.{InsidePut}
+use Rattle.records.specs.Laws.Kept.{kept-none, kept-then, kept-wide, holds-kept}
+use Rattle.records.specs.Words.{NameAt, wordAt}
 use Rattle.table.specs.Laws.Lookups.{Known, both-names, number-step}
 use Rattle.table.specs.Meaning.{outerOnly, unknownName, meaningBy, meaningOf}
 use Rattle.spelling.specs.Spelled.{Spelled}

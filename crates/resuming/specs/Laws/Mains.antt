@@ -17,8 +17,8 @@ use Rattle.rules.specs.Faults.Whole.{mains, mainName, chains, groupsFaults, fau
 use Rattle.laws_orders.specs.Orders.Tests.{impossible}
 use Rattle.laws_accepted.specs.Accepted.Faultless.{both-empty}
 use Rattle.laws_accepted.specs.Accepted.Named.{same-itself}
-use Rattle.table.specs.Holds.{kindByte, insideCell}
-use Rattle.table.specs.Words.{wordAt}
+use Rattle.records.specs.Holds.{kindByte, insideCell}
+use Rattle.records.specs.Words.{wordAt}
 use Rattle.table.specs.Views.{View, MainAt}
 use Rattle.reading.specs.Reading.{Reading, tableOf}
 use Rattle.reading.specs.Meanings.{declares}

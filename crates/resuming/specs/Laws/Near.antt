@@ -18,7 +18,7 @@ use Rattle.rules.specs.Faults.Whole.{mainName}
 use Rattle.laws_accepted.specs.Accepted.Named.{found-body}
 use Rattle.paths.specs.Cited.Early.{Report, nowhere, early, earlyI, earlyAlts, bodyEarly, earlyPlaces}
 use Rattle.paths.specs.Least.{Under}
-use Rattle.table.specs.Holds.{tokenAt}
+use Rattle.records.specs.Holds.{tokenAt}
 use Rattle.scopes.specs.Laws.Behind.{Made, expression-made, transfer-made, selector-made}
 use Rattle.whole.specs.Written.{Written}
 use Rattle.nesting.specs.Holding.{unseen}

@@ -14,7 +14,7 @@ use Rattle.whole.specs.Written.{Written}
 use Rattle.whole.specs.Laws.Written.{reading}
 use Rattle.profiling.specs.Spelt.{SpeltDescription}
 use Rattle.naming.specs.Names.{isStorage}
-use Rattle.reader.specs.Judged.{Accepts, described-by}
+use Rattle.accepted.specs.Accepted.{Accepts, described-by}
 
 -- an accepted description, as it is written in the table
 abbrev pub written-by : {text records values decls : List ℕ} {m words n : ℕ} → Accepts text records values decls m words n → Written text records decls m n

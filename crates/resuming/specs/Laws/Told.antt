@@ -28,7 +28,7 @@ use Rattle.lent.specs.declared.answers.Answer.{Answer}
 use Rattle.nesting.specs.Holding.{unseen}
 use Rattle.profiling.specs.declared.tasks.Task.{Task}
 use Rattle.reader.specs.Parsed.{Refuses}
-use Rattle.reader.specs.Judged.{Accepts, described-by, table-by}
+use Rattle.accepted.specs.Accepted.{Accepts, described-by, table-by}
 use Rattle.reading.specs.Laws.Names.{number-bound}
 use Rattle.reading.specs.Laws.Meanings.{table-size}
 use Rattle.whole.specs.Laws.Written.{reading}

@@ -8,27 +8,28 @@ use native.Mathlib.Numerals.{add-one}
 use native.Mathlib.Omega.{arith}
 use lib.ListN.{length, drop}
 use Rattle.cells.specs.Cells.{cell, putCell}
-use Rattle.cells.specs.Laws.{length-put, le-put-same}
+use Rattle.cells.specs.Laws.{length-put, le-put-same, cell-other}
+use Rattle.rules.specs.Text.Tokens.{kindNo, Comma, Semi, Becomes, BEGIN, END, NEXT}
 use Rattle.rules.specs.Grammar.Trees.{Tokens}
 use Rattle.rules.specs.Declarations.{Table}
 use Rattle.rules.specs.Whole.Sets.{member}
 use Rattle.rules.specs.Faults.Whole.{Scope, memberScope}
-use Rattle.table.specs.Holds.{tokenAt}
+use Rattle.records.specs.Holds.{tokenAt, Tabled}
 use Rattle.table.specs.Scans.{no as number}
 use Rattle.reading.specs.Laws.Reading.{next-token}
 use Rattle.reading.specs.Groups.{more}
 use Rattle.scopes.specs.Walks.{opens, around, outside, lastOpen, labelling, walk, faultsAt}
 use Rattle.scopes.specs.Laws.Walks.{walk-begin, walk-end, walk-semi, walk-next, walk-comma, walk-becomes, walk-other}
-use Rattle.scopes.specs.Hints.{scopesEnd}
-use Rattle.scopes.specs.Labels.{Worded, Labelled, Scoped, namesFrom, Pushed}
-use Rattle.scopes.specs.Laws.Labels.{by-kinds, scope-kept, put-elsewhere}
-use Rattle.scopes.specs.Frames.{frameAt, Frames, no-frames, frame, FramePushed, Surrounding, Turning, Opened, GroupBase, Followed, NextGroup, Stack, Turned, Standing, Onward}
+use Rattle.room.specs.Whole.{scopesEnd, scopeCell, openedCell, labelsSize}
+use Rattle.scopes.specs.Labels.{Labelled, Scoped, namesFrom, Pushed}
+use Rattle.scopes.specs.Laws.Labels.{by-kinds, scope-kept}
+use Rattle.scopes.specs.Frames.{Frames, no-frames, frame, FramePushed, Surrounding, Turning, Opened, GroupBase, Followed, NextGroup, Stack, Turned, Standing, Onward}
 
 frames-kept : {ts : Tokens} {old new : List ℕ} {depth limit : ℕ} {σ : List Scope} → depth ≤ 8192 → ((j : ℕ) → j < limit → cell 2 new j ≡ cell 2 old j)
-    → ((j : ℕ) → frameAt depth ≤ j → j < scopesEnd → cell 2 new j ≡ cell 2 old j) → Frames ts old depth limit σ → Frames ts new depth limit σ
+    → ((j : ℕ) → scopeCell depth ≤ j → j < scopesEnd → cell 2 new j ≡ cell 2 old j) → Frames ts old depth limit σ → Frames ts new depth limit σ
 frames-kept l low high no-frames = no-frames
 frames-kept l low high (frame {depth} {limit} {base} {top} b t h e s f) =
-    frame (high (frameAt (suc depth)) (omega arith) (omega arith) ∙ b) (high (frameAt (suc depth) + 1) (omega arith) (omega arith) ∙ t) h e (scope-kept limit h low s)
+    frame (high (scopeCell (suc depth)) (omega arith) (omega arith) ∙ b) (high (scopeCell (suc depth) + 1) (omega arith) (omega arith) ∙ t) h e (scope-kept limit h low s)
     (frames-kept (omega arith) (λ j x. low j (omega arith)) (λ j x y. high j (omega arith) y) f)
 
 frames-under : {ts : Tokens} {labels : List ℕ} {depth limit new : ℕ} {σ : List Scope} → limit ≤ new → Frames ts labels depth limit σ
@@ -58,17 +59,17 @@ scoped-empty {ts} {labels} {base} {top} e = record {
 pub scoped-none : {ts : Tokens} {labels : List ℕ} {base top : ℕ} → top < base → Scoped ts labels base top none
 scoped-none h = record { around = λ l. absurd (omega arith); nowhere = λ l. refl }
 
-pub frame-pushed : {old mid new : List ℕ} {depth base top : ℕ} → 32768 ≤ length old → base < 65536 → top < 65536 → mid ≡ putCell 2 old (16382 - 2 * depth) base
-    → new ≡ putCell 2 mid (16382 - 2 * depth + 1) top → FramePushed old new depth base top
+pub frame-pushed : {old mid new : List ℕ} {depth base top : ℕ} → labelsSize ≤ length old → base < 65536 → top < 65536 → mid ≡ putCell 2 old (openedCell depth) base
+    → new ≡ putCell 2 mid (openedCell depth + 1) top → FramePushed old new depth base top
 frame-pushed {old} {mid} {new} {depth} {base} {top} h b t e f =
-    let at = 16382 - 2 * depth in
+    let at = openedCell depth in
     let one : length mid ≡ length old = ap length e ∙ length-put 2 old (2 * at) base in
     let two : length new ≡ length mid = ap length f ∙ length-put 2 mid (2 * (at + 1)) top in
-    let later : (j : ℕ) → (j ≡ at + 1 → ⊥) → cell 2 new j ≡ cell 2 mid j = λ j x. ap (λ (l : List ℕ). cell 2 l j) f ∙ put-elsewhere mid (at + 1) top j x in
+    let later : (j : ℕ) → (j ≡ at + 1 → ⊥) → cell 2 new j ≡ cell 2 mid j = λ j x. ap (λ (l : List ℕ). cell 2 l j) f ∙ cell-other 2 mid (at + 1) top j x in
     record {
       base-there = later at (λ x. omega arith) ∙ (ap (λ (l : List ℕ). cell 2 l at) e ∙ le-put-same 2 old (2 * at) base (omega arith) b);
       top-there = ap (λ (l : List ℕ). cell 2 l (at + 1)) f ∙ le-put-same 2 mid (2 * (at + 1)) top (omega (arith, one)) t;
-      kept = λ j x y. later j y ∙ (ap (λ (l : List ℕ). cell 2 l j) e ∙ put-elsewhere old at base j x);
+      kept = λ j x y. later j y ∙ (ap (λ (l : List ℕ). cell 2 l j) e ∙ cell-other 2 old at base j x);
       size = two ∙ one;
     }
 
@@ -94,13 +95,13 @@ surrounded {ts} {labels} {base = base} {top = top} x (frame {depth} {base = base
 
 -- what the steps of a turn ask
 module _ {text records labels : List ℕ} {n i kind : ℕ} {several : Bool} {depth base top : ℕ} (x : Turning text records labels n i kind several depth base top) where
-  pub to-read : (32768 ≤ length labels) × ((depth < 8192) × (top < 65536))
+  pub to-read : (labelsSize ≤ length labels) × ((depth < 8192) × (top < 65536))
   to-read = (x .stack .space, (omega (arith, x .few), omega (arith, x .few)))
 
-  pub to-open : (32768 ≤ length labels) × ((depth < 8192) × ((base < 65536) × (top < 65536)))
+  pub to-open : (labelsSize ≤ length labels) × ((depth < 8192) × ((base < 65536) × (top < 65536)))
   to-open = (x .stack .space, (omega (arith, x .few), (omega (arith, x .few, x .stack .edge), omega (arith, x .few))))
 
-  pub to-push : Worded text records n × ((i < n) × ((1 ≤ i) × ((top < scopesEnd) × (2 * top + 2 ≤ length labels))))
+  pub to-push : Tabled text records n × ((i < n) × ((1 ≤ i) × ((top < scopesEnd) × (2 * top + 2 ≤ length labels))))
   to-push = (x .worded, (x .within, (x .later, (omega (arith, x .few), omega (arith, x .stack .space, x .few)))))
 
 module _ {several : Bool} {old new : List ℕ} {depth base top : ℕ} (p : FramePushed old new depth base top) where
@@ -127,18 +128,18 @@ unfolding opens member
 next-opens = refl
 
 module _ {text records old : List ℕ} {n i kind : ℕ} {several : Bool} {depth base top : ℕ} (x : Turning text records old n i kind several depth base top) where
-  here : (v : Worded text records n) → drop i (v .tokens) ≡ tokenAt (v .tokens) i ∷ drop (i + 1) (v .tokens)
+  here : (v : Tabled text records n) → drop i (v .tokens) ≡ tokenAt (v .tokens) i ∷ drop (i + 1) (v .tokens)
   here v = next-token (by-kinds v) i (x .within)
 
-  kind-here : {k : ℕ} (v : Worded text records n) → kind ≡ k → number (tokenAt (v .tokens) i) ≡ k
+  kind-here : {k : ℕ} (v : Tabled text records n) → kind ≡ k → number (tokenAt (v .tokens) i) ≡ k
   kind-here v e = sym (x .kind-is ∙ by-kinds v .kind i (x .within)) ∙ e
 
   -- a group that begins behind BEGIN or NEXT
-  more-here : (k : ℕ) → opens k ≡ true → kind ≡ k → (v : Worded text records n) → more (drop (i + 1) (v .tokens)) ≡ several
+  more-here : (k : ℕ) → opens k ≡ true → kind ≡ k → (v : Tabled text records n) → more (drop (i + 1) (v .tokens)) ≡ several
   more-here k o e v = sym (x .told .tells (by-kinds v) (ap opens e ∙ o))
 
   -- the walk from the token i on
-  from-here : (ds : Table) (v : Worded text records n) (σ : List Scope) (s : Scope)
+  from-here : (ds : Table) (v : Tabled text records n) (σ : List Scope) (s : Scope)
       → walk ds σ s (tokenAt (v .tokens) (i - 1)) (drop i (v .tokens)) ≡ walk ds σ s (tokenAt (v .tokens) (i - 1))
       (tokenAt (v .tokens) i ∷ drop (i + 1) (v .tokens))
   from-here ds v σ s = ap (walk ds σ s (tokenAt (v .tokens) (i - 1))) (here v)
@@ -163,7 +164,7 @@ module _ {text records old : List ℕ} {n i kind : ℕ} {several : Bool} {depth 
     around-lower : top₁ ≤ top
     around-lower = surrounded r (x .standing .frames) .lower
 
-    pub turned-comma : {depth₁ : ℕ} → kind ≡ 9 → depth₁ ≡ depth → Turned text records old old n i depth base top depth₁ base₁ top₁
+    pub turned-comma : {depth₁ : ℕ} → kind ≡ kindNo Comma → depth₁ ≡ depth → Turned text records old old n i depth base top depth₁ base₁ top₁
     turned-comma e d = rw d (record {
       stack = around-stack;
       grown = omega (arith, around-lower);
@@ -177,7 +178,7 @@ module _ {text records old : List ℕ} {n i kind : ℕ} {several : Bool} {depth 
           };
     })
 
-    pub turned-end : kind ≡ 20 → Turned text records old old n i depth base top (depth - 1) base₁ top₁
+    pub turned-end : kind ≡ kindNo END → Turned text records old old n i depth base top (depth - 1) base₁ top₁
     turned-end e = record {
       stack = around-stack;
       grown = omega (arith, around-lower);
@@ -195,7 +196,7 @@ module _ {text records old : List ℕ} {n i kind : ℕ} {several : Bool} {depth 
   fresh-stack : Stack records old n top top
   fresh-stack = record { labelled = x .stack .labelled; edge = omega arith; space = x .stack .space }
 
-  pub turned-semi : kind ≡ 10 → Turned text records old old n i depth base top depth top top
+  pub turned-semi : kind ≡ kindNo Semi → Turned text records old old n i depth base top depth top top
   turned-semi e = record {
     stack = fresh-stack;
     grown = omega arith;
@@ -207,7 +208,7 @@ module _ {text records old : List ℕ} {n i kind : ℕ} {several : Bool} {depth 
     };
   }
 
-  pub turned-next : {depth₁ base₁ top₁ : ℕ} → kind ≡ 21 → Followed several old depth top depth₁ base₁ top₁
+  pub turned-next : {depth₁ base₁ top₁ : ℕ} → kind ≡ kindNo NEXT → Followed several old depth top depth₁ base₁ top₁
       → Turned text records old old n i depth base top depth₁ base₁ top₁
   turned-next {depth₁} {base₁} {top₁} e f = rw (f .same) (record {
     stack = stack-by several (f .group);
@@ -223,7 +224,7 @@ module _ {text records old : List ℕ} {n i kind : ℕ} {several : Bool} {depth 
       grown-by true y = omega (arith, y .1)
       grown-by false y = omega (arith, around-lower y)
 
-      on-by : (ds : Table) (v : Worded text records n) (σ : List Scope) (s : Scope) → Standing (v .tokens) old depth base top σ s → (b : Bool) → more
+      on-by : (ds : Table) (v : Tabled text records n) (σ : List Scope) (s : Scope) → Standing (v .tokens) old depth base top σ s → (b : Bool) → more
           (drop (i + 1) (v .tokens)) ≡ b
           → NextGroup b old depth top base₁ top₁ → Onward ds (v .tokens) old i depth base₁ top₁ σ s
       on-by ds v σ s z true q y = rw (y .0, y .1) (record {
@@ -245,7 +246,7 @@ module _ {text records old : List ℕ} {n i kind : ℕ} {several : Bool} {depth 
                 (tokenAt (v .tokens) i) (drop (i + 1) (v .tokens))) q);
           }
 
-  pub turned-begin : {new : List ℕ} {depth₁ base₁ top₁ : ℕ} → kind ≡ 19 → Opened several old new depth base top depth₁ base₁ top₁
+  pub turned-begin : {new : List ℕ} {depth₁ base₁ top₁ : ℕ} → kind ≡ kindNo BEGIN → Opened several old new depth base top depth₁ base₁ top₁
       → Turned text records old new n i depth base top depth₁ base₁ top₁
   turned-begin {new} {depth₁} {base₁} {top₁} e o = rw (o .deeper ∙ add-one depth, o .same) (record {
     stack = record {
@@ -264,16 +265,16 @@ module _ {text records old : List ℕ} {n i kind : ℕ} {several : Bool} {depth 
       edge-by true y = omega arith
       edge-by false y = omega (arith, x .stack .edge)
 
-      frames-by : (v : Worded text records n) (σ : List Scope) (s : Scope) → Standing (v .tokens) old depth base top σ s → Frames (v .tokens) new
+      frames-by : (v : Tabled text records n) (σ : List Scope) (s : Scope) → Standing (v .tokens) old depth base top σ s → Frames (v .tokens) new
           (suc depth) top (s ∷ σ)
       frames-by v σ s z =
-          let at : frameAt (suc depth) ≡ 16382 - 2 * depth = omega arith in
+          let at : scopeCell (suc depth) ≡ openedCell depth = omega arith in
           frame {limit = top} (ap (cell 2 new) at ∙ o .pushed .base-there) (ap (λ (y : ℕ). cell 2 new (y + 1)) at ∙ o .pushed .top-there) (omega arith)
           (x .stack .edge)
           (scope-kept top (omega arith) below (z .scoped))
           (frames-kept (omega (arith, x .few)) below (λ j h l. o .pushed .kept j (λ y. omega (arith, x .few)) (λ y. omega (arith, x .few))) (z .frames))
 
-      on-by : (ds : Table) (v : Worded text records n) (σ : List Scope) (s : Scope) → Standing (v .tokens) old depth base top σ s → (b : Bool) → more
+      on-by : (ds : Table) (v : Tabled text records n) (σ : List Scope) (s : Scope) → Standing (v .tokens) old depth base top σ s → (b : Bool) → more
           (drop (i + 1) (v .tokens)) ≡ b
           → GroupBase b base top base₁ → Onward ds (v .tokens) new i (suc depth) base₁ top σ s
       on-by ds v σ s z b q y = record {
@@ -289,7 +290,7 @@ module _ {text records old : List ℕ} {n i kind : ℕ} {several : Bool} {depth 
           scoped-by true y = scoped-empty y
           scoped-by false y = rw y (scope-kept top (omega arith) below (z .scoped))
 
-  pub turned-becomes : {new : List ℕ} {r : ℕ} → kind ≡ 12 → Pushed text records old new n i base top r → length new ≡ length old
+  pub turned-becomes : {new : List ℕ} {r : ℕ} → kind ≡ kindNo Becomes → Pushed text records old new n i base top r → length new ≡ length old
       → Turned text records old new n i depth base top depth base r
   turned-becomes {new} {r} e p size = record {
     stack = record { labelled = p .labelled (x .stack .labelled); edge = omega (arith, x .stack .edge, p .low); space = omega (arith, x .stack .space) };
@@ -306,7 +307,7 @@ module _ {text records old : List ℕ} {n i kind : ℕ} {several : Bool} {depth 
     };
   }
 
-  pub turned-other : (kind ≡ 19 → ⊥) → (kind ≡ 20 → ⊥) → (kind ≡ 10 → ⊥) → (kind ≡ 21 → ⊥) → (kind ≡ 9 → ⊥) → (kind ≡ 12 → ⊥)
+  pub turned-other : (kind ≡ kindNo BEGIN → ⊥) → (kind ≡ kindNo END → ⊥) → (kind ≡ kindNo Semi → ⊥) → (kind ≡ kindNo NEXT → ⊥) → (kind ≡ kindNo Comma → ⊥) → (kind ≡ kindNo Becomes → ⊥)
       → Turned text records old old n i depth base top depth base top
   turned-other a b c d f g = record {
     stack = x .stack;

@@ -7,22 +7,24 @@ use mathlib.Core.List.{List}
 use native.Mathlib.Omega.{arith}
 use native.Mathlib.Decide.{decLt}
 use lib.ListN.{length}
+use Rattle.rules.specs.Text.Tokens.{Name, kindNo}
 use Rattle.cells.specs.Cells.{cell, putCell}
-use Rattle.cells.specs.Laws.{length-put}
+use Rattle.cells.specs.Laws.{length-put, cell-other}
 use Rattle.rules.specs.Text.Scan.{sameBytes}
 use Rattle.rules.specs.Grammar.Trees.{Tokens}
 use Rattle.rules.specs.Declarations.{Word}
 use Rattle.rules.specs.Faults.Declared.{isKnown}
-use Rattle.table.specs.Holds.{kindByte}
-use Rattle.table.specs.Words.{wordAt, TwoNames, sameWords}
-use Rattle.scopes.specs.Hints.{scopesEnd, Hinting}
-use Rattle.scopes.specs.Labels.{Worded, Labelled, namesFrom, Pushed}
-use Rattle.scopes.specs.Laws.Labels.{two-words, put-elsewhere, scope-kept}
+use Rattle.records.specs.Holds.{kindByte, Tabled}
+use Rattle.records.specs.Words.{wordAt, TwoNames, sameWords}
+use Rattle.scopes.specs.Hints.{Hinting}
+use Rattle.room.specs.Whole.{scopesEnd}
+use Rattle.scopes.specs.Labels.{Labelled, namesFrom, Pushed}
+use Rattle.scopes.specs.Laws.Labels.{two-words, scope-kept}
 
 pub hinting : {old new : List ℕ} (at p : ℕ) → scopesEnd ≤ at → new ≡ putCell 2 old at p → Hinting old new
 hinting {old} {new} at p h e = record {
   size = ap length e ∙ length-put 2 old (2 * at) p;
-  kept = λ j l. ap (λ b. cell 2 b j) e ∙ put-elsewhere old at p j (λ q. omega arith);
+  kept = λ j l. ap (λ b. cell 2 b j) e ∙ cell-other 2 old at p j (λ q. omega arith);
 }
 
 -- a label that was pushed stays, with a hint to it
@@ -53,12 +55,12 @@ known-from ts labels w base k (suc c) l e = by (decLt k c) (λ m. known-from ts 
         let last : c ≡ k = omega arith in
         ap (λ b. b || isKnown w (namesFrom ts labels base c)) (ap (λ x. sameBytes (wordAt ts (cell 2 labels (base + x))) w) last ∙ e)
 
-module _ {text records labels : List ℕ} {n top name k label : ℕ} (labelled : Labelled records labels n top) (inside : name < n) (is-name : kindByte records name ≡ 0)
+module _ {text records labels : List ℕ} {n top name k label : ℕ} (labelled : Labelled records labels n top) (inside : name < n) (is-name : kindByte records name ≡ kindNo Name)
     (high : k < top) (at : label ≡ cell 2 labels k) where
-  abbrev pub hinted-pair : Worded text records n → TwoNames text records label name
+  abbrev pub hinted-pair : Tabled text records n → TwoNames text records label name
   hinted-pair v = two-words v label name (rw at (labelled .inside k high)) (rw at (labelled .names k high)) inside is-name
 
-  pub hinted-known : (base : ℕ) → base ≤ k → {r : Bool} → ((w : TwoNames text records label name) → r ≡ sameWords w) → (v : Worded text records n) → r ≡ true
+  pub hinted-known : (base : ℕ) → base ≤ k → {r : Bool} → ((w : TwoNames text records label name) → r ≡ sameWords w) → (v : Tabled text records n) → r ≡ true
       → isKnown (wordAt (v .tokens) name) (namesFrom (v .tokens) labels base (top - base)) ≡ true
   hinted-known base low {r} same v e =
       let there : base + (k - base) ≡ k = omega arith in

@@ -10,7 +10,7 @@ use borrow.Author.Tests.{eq-eqb, ne-eqb}
 use lib.Dec.{eqb}
 use lib.ListN.{length, drop}
 use Rattle.cells.specs.Cells.{cell, putCell}
-use Rattle.cells.specs.Laws.{length-put, le-put-same, le-put-below, le-put-above}
+use Rattle.cells.specs.Laws.{length-put, le-put-same, cell-other}
 use Rattle.rules.specs.Text.Tokens.{Name, kindNo}
 use Rattle.rules.specs.Text.Scan.{sameBytes}
 use Rattle.rules.specs.Grammar.Trees.{Tokens}
@@ -20,19 +20,19 @@ use Rattle.rules.specs.Faults.Declared.{isKnown}
 use Rattle.rules.specs.Faults.Whole.{Scope, labelled-in, aimsOut}
 use Rattle.laws_grammar.specs.Cited.Kinds.{kindAt}
 use Rattle.laws_grammar.specs.Grammar.Kinds.{kindAt-kindNo}
-use Rattle.table.specs.Holds.{kindByte, placeCell, tokenAt}
-use Rattle.table.specs.Words.{NameAt, wordAt, TwoNames, sameWords}
-use Rattle.table.specs.Keys.{noKey, numberKey, leastNumberKey}
-use Rattle.table.specs.Laws.Keys.{least-none}
+use Rattle.records.specs.Holds.{kindByte, placeCell, tokenAt, Tabled}
+use Rattle.records.specs.Words.{NameAt, wordAt, TwoNames, sameWords}
+use Rattle.keys.specs.Keys.{noKey, numberKey, leastNumberKey}
+use Rattle.keys.specs.Laws.Keys.{least-none}
 use Rattle.reading.specs.Kinds.{nextNo}
 use Rattle.reading.specs.Reading.{Kinded}
 use Rattle.reading.specs.Laws.Reading.{next-token, no-more}
 use Rattle.chains.specs.Laws.Least.{when-key}
 use Rattle.scopes.specs.Walks.{jumps, labelling, jumpAt, nextWord}
 use Rattle.table.specs.Scans.{no as number}
-use Rattle.scopes.specs.Labels.{Worded, Labelled, namesFrom, JumpKey, Scoped, Pushed}
+use Rattle.scopes.specs.Labels.{Labelled, namesFrom, JumpKey, Scoped, Pushed}
 
-module _ {text records : List ℕ} {n : ℕ} (v : Worded text records n) where
+module _ {text records : List ℕ} {n : ℕ} (v : Tabled text records n) where
   abbrev pub by-kinds : Kinded records n
   by-kinds = record {
     tokens = v .tokens;
@@ -55,16 +55,16 @@ module _ {text records : List ℕ} {n : ℕ} (v : Worded text records n) where
 pub record Seeking (text records labels : List ℕ) (n base top name : ℕ) (j : ℕ) : Type 0 where
   pub low : base ≤ j
   pub high : j ≤ top
-  pub worded : Worded text records n
+  pub worded : Tabled text records n
   pub labelled : Labelled records labels n top
   pub name-in : name < n
   pub is-name : kindByte records name ≡ kindNo Name
-  pub left : (v : Worded text records n)
+  pub left : (v : Tabled text records n)
       → isKnown (wordAt (v .tokens) name) (namesFrom (v .tokens) labels base (top - base)) ≡ isKnown (wordAt (v .tokens) name)
       (namesFrom (v .tokens) labels base (j - base))
 
 module _ {text records labels : List ℕ} {n base top name j : ℕ} (inv : Seeking text records labels n base top name j) where
-  pub nowhere-found : j ≤ base → (v : Worded text records n) → false ≡ isKnown (wordAt (v .tokens) name) (namesFrom (v .tokens) labels base (top - base))
+  pub nowhere-found : j ≤ base → (v : Tabled text records n) → false ≡ isKnown (wordAt (v .tokens) name) (namesFrom (v .tokens) labels base (top - base))
   unfolding namesFrom isKnown
   nowhere-found h v =
       let e : j - base ≡ 0 = omega arith in
@@ -78,7 +78,7 @@ module _ {text records labels : List ℕ} {n base top name j : ℕ} (inv : Seeki
         two-words (inv .worded) label name (rw at i) (rw at e) (inv .name-in) (inv .is-name)
 
     module _ {r : Bool} (same : (w : TwoNames text records label name) → r ≡ sameWords w) where
-      step : (v : Worded text records n) → isKnown (wordAt (v .tokens) name) (namesFrom (v .tokens) labels base (top - base))
+      step : (v : Tabled text records n) → isKnown (wordAt (v .tokens) name) (namesFrom (v .tokens) labels base (top - base))
           ≡ (r || isKnown (wordAt (v .tokens) name) (namesFrom (v .tokens) labels base (j - 1 - base)))
       unfolding namesFrom isKnown
       step v =
@@ -92,7 +92,7 @@ module _ {text records labels : List ℕ} {n base top name j : ℕ} (inv : Seeki
           (ap (λ (x : ℕ). sameBytes (wordAt (v .tokens) (cell 2 labels x)) (wordAt (v .tokens) name)) here
           ∙ (ap (λ (x : ℕ). sameBytes (wordAt (v .tokens) x) (wordAt (v .tokens) name)) (sym at) ∙ spelled)))
 
-      pub found-there : r ≡ true → (v : Worded text records n) → true ≡ isKnown (wordAt (v .tokens) name) (namesFrom (v .tokens) labels base (top - base))
+      pub found-there : r ≡ true → (v : Tabled text records n) → true ≡ isKnown (wordAt (v .tokens) name) (namesFrom (v .tokens) labels base (top - base))
       found-there t v = sym (step v ∙ rw t)
 
       pub seek-on : r ≡ false → Seeking text records labels n base top name (j - 1)
@@ -106,13 +106,13 @@ module _ {text records labels : List ℕ} {n base top name j : ℕ} (inv : Seeki
         left = λ v. step v ∙ rw t;
       }
 
-pub seek : {text records labels : List ℕ} {n base top name : ℕ} → Worded text records n → Labelled records labels n top → base ≤ top → name < n
+pub seek : {text records labels : List ℕ} {n base top name : ℕ} → Tabled text records n → Labelled records labels n top → base ≤ top → name < n
     → kindByte records name ≡ kindNo Name
     → Seeking text records labels n base top name top
 seek w l b h e = record { low = b; high = omega arith; worded = w; labelled = l; name-in = h; is-name = e; left = λ v. refl }
 
 -- the place of the token i is small
-pub jump-place : {text records : List ℕ} {n i p : ℕ} → Worded text records n → i < n → p ≡ placeCell records i → p ≤ 32768
+pub jump-place : {text records : List ℕ} {n i p : ℕ} → Tabled text records n → i < n → p ≡ placeCell records i → p ≤ 32768
 jump-place {i = i} v h e = let y = v .holds .entry i (omega (arith, v .count)) in omega (arith, y .place, y .inside, v .holds .short)
 
 -- the token behind i, if it is a name
@@ -127,8 +127,8 @@ module _ {records : List ℕ} {n next : ℕ} (i : ℕ) (behind : (v : Kinded rec
   target-name : (v : Kinded records n) → kindByte records (i + 1) ≡ kindNo Name
   target-name v = v .kind (i + 1) (target-in v) ∙ (sym (ap nextNo (next-token v (i + 1) (target-in v))) ∙ (sym (behind v) ∙ name))
 
-  pub to-seek : {text labels : List ℕ} {base top : ℕ} → Worded text records n → Labelled records labels n top → base ≤ top
-      → Worded text records n × (Labelled records labels n top × ((base ≤ top) × ((i + 1 < n) × (kindByte records (i + 1) ≡ kindNo Name))))
+  pub to-seek : {text labels : List ℕ} {base top : ℕ} → Tabled text records n → Labelled records labels n top → base ≤ top
+      → Tabled text records n × (Labelled records labels n top × ((base ≤ top) × ((i + 1 < n) × (kindByte records (i + 1) ≡ kindNo Name))))
   to-seek v l b = (v, (l, (b, (target-in (by-kinds v), target-name (by-kinds v)))))
 
   target-word : (v : Kinded records n) → nextWord (drop (i + 1) (v .tokens)) ≡ wordAt (v .tokens) (i + 1)
@@ -143,7 +143,7 @@ no-lower known true place small h = omega (arith, when-key true 52 place (omega 
 no-lower known false place small h = unjumped known false place refl
 
 module _ {text records : List ℕ} (labels : List ℕ) {n i k : ℕ} (base top known : ℕ) (h : i < n) (q : k ≡ kindByte records i) {d : Bool} (e : d ≡ jumps k) where
-  jumps-here : (v : Worded text records n) → jumps (number (tokenAt (v .tokens) i)) ≡ d
+  jumps-here : (v : Tabled text records n) → jumps (number (tokenAt (v .tokens) i)) ≡ d
   jumps-here v = ap jumps (sym (q ∙ by-kinds v .kind i h)) ∙ sym e
 
   pub not-jumping : d ≡ false → JumpKey text records labels n i base top known noKey
@@ -151,7 +151,7 @@ module _ {text records : List ℕ} (labels : List ℕ) {n i k : ℕ} (base top k
   not-jumping f = record {
     key = λ v s x.
         let t = tokenAt (v .tokens) i in
-        let target = eqb (nextNo (drop (i + 1) (v .tokens))) 0 && aimsOut s (nextWord (drop (i + 1) (v .tokens))) in
+        let target = eqb (nextNo (drop (i + 1) (v .tokens))) (kindNo Name) && aimsOut s (nextWord (drop (i + 1) (v .tokens))) in
         unjumped known (jumps (number t) && target) (t .info .place) (ap (λ (b : Bool). b && target) (jumps-here v ∙ f));
   }
 
@@ -161,7 +161,7 @@ module _ {text records : List ℕ} (labels : List ℕ) {n i k : ℕ} (base top k
     key = λ v s x.
         let t = tokenAt (v .tokens) i in
         let there : p ≡ t .info .place = g ∙ v .holds .entry i (omega (arith, v .count)) .place in
-        no-lower known (jumps (number t) && (eqb (nextNo (drop (i + 1) (v .tokens))) 0 && aimsOut s (nextWord (drop (i + 1) (v .tokens))))) (t .info .place)
+        no-lower known (jumps (number t) && (eqb (nextNo (drop (i + 1) (v .tokens))) (kindNo Name) && aimsOut s (nextWord (drop (i + 1) (v .tokens))))) (t .info .place)
         (subst (λ (z : ℕ). z ≤ 32768) there (jump-place v h g))
         (subst (λ (z : ℕ). known ≤ numberKey (fault 52 z)) there (subst (λ (z : ℕ). known ≤ z) o l));
   }
@@ -171,24 +171,24 @@ module _ {text records : List ℕ} (labels : List ℕ) {n i k : ℕ} (base top k
     unfolding jumpAt
     no-target f = record {
       key = λ v s x. unjumped known _ _ (ap₂ (λ (a b : Bool). a && (b && aimsOut s (nextWord (drop (i + 1) (v .tokens))))) (jumps-here v ∙ t)
-          (ne-eqb (nextNo (drop (i + 1) (v .tokens))) 0 (λ z. f (behind (by-kinds v) ∙ z))));
+          (ne-eqb (nextNo (drop (i + 1) (v .tokens))) (kindNo Name) (λ z. f (behind (by-kinds v) ∙ z))));
     }
 
     module _ (name : next ≡ 0) where
-      test : (v : Worded text records n) (s : Scope) → (jumps
-          (number (tokenAt (v .tokens) i)) && (eqb (nextNo (drop (i + 1) (v .tokens))) 0 && aimsOut s (nextWord (drop (i + 1) (v .tokens)))))
+      test : (v : Tabled text records n) (s : Scope) → (jumps
+          (number (tokenAt (v .tokens) i)) && (eqb (nextNo (drop (i + 1) (v .tokens))) (kindNo Name) && aimsOut s (nextWord (drop (i + 1) (v .tokens)))))
           ≡ aimsOut s (wordAt (v .tokens) (i + 1))
       test v s =
           ap₂ (λ (a b : Bool). a && (b && aimsOut s (nextWord (drop (i + 1) (v .tokens))))) (jumps-here v ∙ t)
-          (eq-eqb (nextNo (drop (i + 1) (v .tokens))) 0 (sym (behind (by-kinds v)) ∙ name))
+          (eq-eqb (nextNo (drop (i + 1) (v .tokens))) (kindNo Name) (sym (behind (by-kinds v)) ∙ name))
           ∙ ap (aimsOut s) (target-word i behind name (by-kinds v))
 
       pub free-to-jump : top < base → JumpKey text records labels n i base top known noKey
       unfolding jumpAt
       free-to-jump l = record { key = λ v s x. unjumped known _ _ (test v s ∙ ap (λ (y : Scope). aimsOut y (wordAt (v .tokens) (i + 1))) (x .nowhere l)) }
 
-      module _ (l : base ≤ top) {r : Bool} (listed : (v : Worded text records n) → r ≡ isKnown (wordAt (v .tokens) (i + 1)) (namesFrom (v .tokens) labels base (top - base))) where
-        aims : (v : Worded text records n) (s : Scope) → Scoped (v .tokens) labels base top s → aimsOut s (wordAt (v .tokens) (i + 1)) ≡ not r
+      module _ (l : base ≤ top) {r : Bool} (listed : (v : Tabled text records n) → r ≡ isKnown (wordAt (v .tokens) (i + 1)) (namesFrom (v .tokens) labels base (top - base))) where
+        aims : (v : Tabled text records n) (s : Scope) → Scoped (v .tokens) labels base top s → aimsOut s (wordAt (v .tokens) (i + 1)) ≡ not r
         aims v s x = ap (λ (y : Scope). aimsOut y (wordAt (v .tokens) (i + 1))) (x .around l) ∙ ap not (sym (listed v))
 
         pub aimed-inside : r ≡ true → JumpKey text records labels n i base top known noKey
@@ -203,14 +203,6 @@ module _ {text records : List ℕ} (labels : List ℕ) {n i k : ℕ} (base top k
               ∙ ap₂ (λ (b : Bool) (z : ℕ). leastNumberKey (when b 52 z)) (sym (test v s ∙ (aims v s x ∙ ap not f)))
               (g ∙ v .holds .entry i (omega (arith, v .count)) .place)));
         }
-
--- another cell is put
-pub put-elsewhere : (b : List ℕ) (i v j : ℕ) → (j ≡ i → ⊥) → cell 2 (putCell 2 b i v) j ≡ cell 2 b j
-put-elsewhere b i v j n = by (decLt j i)
-  where
-    by : Dec (j < i) → cell 2 (putCell 2 b i v) j ≡ cell 2 b j
-    by (yes l) = le-put-below 2 2 b (2 * i) v (2 * j) (omega arith)
-    by (no l) = le-put-above 2 2 b (2 * i) v (2 * j) (omega arith)
 
 names-kept : (ts : Tokens) (old new : List ℕ) (base c top : ℕ) → base + c ≤ top → ((j : ℕ) → j < top → cell 2 new j ≡ cell 2 old j) → namesFrom ts new base c
     ≡ namesFrom ts old base c
@@ -228,7 +220,7 @@ scope-kept {ts} {old} {new} {base} {top} limit h k x = record {
 
 module _ {text records labels : List ℕ} {n i base top : ℕ} (h : i < n) (one : 1 ≤ i) where
   -- what is no label changes nothing
-  unchanged : ((v : Worded text records n) (s : Scope) → Scoped (v .tokens) labels base top s → labelling (tokenAt (v .tokens) (i - 1)) s ≡ s)
+  unchanged : ((v : Tabled text records n) (s : Scope) → Scoped (v .tokens) labels base top s → labelling (tokenAt (v .tokens) (i - 1)) s ≡ s)
       → Pushed text records labels labels n i base top top
   unchanged e = record {
     low = omega arith;
@@ -242,7 +234,7 @@ module _ {text records labels : List ℕ} {n i base top : ℕ} (h : i < n) (one 
   unfolding labelling
   push-nowhere l = unchanged (λ v s x. by v s (x .nowhere l) (eqb (number (tokenAt (v .tokens) (i - 1))) 0))
     where
-      by : (v : Worded text records n) (s : Scope) → s ≡ none → (b : Bool) → elim b [ true ↦ labelled-in (tokenAt (v .tokens) (i - 1) .info .word) s | false ↦ s ] ≡ s
+      by : (v : Tabled text records n) (s : Scope) → s ≡ none → (b : Bool) → elim b [ true ↦ labelled-in (tokenAt (v .tokens) (i - 1) .info .word) s | false ↦ s ] ≡ s
       by v s e true = ap (labelled-in (tokenAt (v .tokens) (i - 1) .info .word)) e ∙ sym e
       by v s e false = refl
 
@@ -277,7 +269,7 @@ module _ {text records labels : List ℕ} {n i base top : ℕ} (h : i < n) (one 
         top-cell = ap (λ (b : List ℕ). cell 2 b top) e ∙ le-put-same 2 labels (2 * top) (i - 1) room small
 
         others-kept : (j : ℕ) → (j ≡ top → ⊥) → cell 2 new j ≡ cell 2 labels j
-        others-kept j g = ap (λ (b : List ℕ). cell 2 b j) e ∙ put-elsewhere labels top (i - 1) j g
+        others-kept j g = ap (λ (b : List ℕ). cell 2 b j) e ∙ cell-other 2 labels top (i - 1) j g
 
         below-kept : (j : ℕ) → j < top → cell 2 new j ≡ cell 2 labels j
         below-kept j g = others-kept j (λ y. omega arith)
@@ -290,7 +282,7 @@ module _ {text records labels : List ℕ} {n i base top : ℕ} (h : i < n) (one 
         by-names x j g (yes y) = rw (below-kept j y) (x .names j y)
         by-names x j g (no y) = let s : j ≡ top = omega arith in ap (kindByte records) (ap (cell 2 new) s ∙ top-cell) ∙ (sym q ∙ z)
 
-        labelled-scope : (v : Worded text records n) (s : Scope) → Scoped (v .tokens) labels base top s
+        labelled-scope : (v : Tabled text records n) (s : Scope) → Scoped (v .tokens) labels base top s
             → elim (eqb (number (tokenAt (v .tokens) (i - 1))) 0) [ true ↦ labelled-in (tokenAt (v .tokens) (i - 1) .info .word) s | false ↦ s ] ≡ some (namesFrom (v .tokens) new base (top + 1 - base))
         labelled-scope v s x =
             let p = tokenAt (v .tokens) (i - 1) in

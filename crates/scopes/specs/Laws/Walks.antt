@@ -8,7 +8,7 @@ use native.Mathlib.Nat.{min-comm}
 use native.Mathlib.Omega.{arith}
 use borrow.Author.Tests.{ne-eqb}
 use lib.Dec.{eqb}
-use Rattle.rules.specs.Text.Tokens.{Kind, Info, Token, tk, Name, RPar, Comma, Semi, Becomes, Arrow, BEGIN, END, NEXT}
+use Rattle.rules.specs.Text.Tokens.{Kind, Info, Token, tk, Name, RPar, Comma, Semi, Becomes, Arrow, BEGIN, END, NEXT, kindNo}
 use Rattle.rules.specs.Text.Scan.{plainInfo}
 use Rattle.rules.specs.Grammar.Trees.{Tokens, Operand, operandTokens, Tail, tailTokens, Selector, selectorTokens, Action, block, labelled, if-then, decode, repeat, leave, restart, activate, stop, no-op, transfer, actionTokens, Members, end, also, next, membersTokens, Alternatives, counted, selected, alternativesTokens, Counted, counted-end, counted-more, countedTokens, Selected, select, otherwise, selectedTokens, SelectedMore, selected-end, selected-more, selectedMoreTokens}
 use Rattle.rules.specs.Declarations.{Table}
@@ -18,8 +18,8 @@ use Rattle.rules.specs.Faults.Fault.{Fault, when}
 use Rattle.rules.specs.Faults.Whole.{Scope, labelled-in, aimsOut, hasMore, memberFaults, memberScope, groupFaults, membersOf, alternativesGroups, countedGroups, selectedGroups, moreGroups}
 use Rattle.laws_grammar.specs.Cited.Kinds.{kindAt}
 use Rattle.laws_grammar.specs.Grammar.Kinds.{kindAt-kindNo}
-use Rattle.table.specs.Keys.{leastNumberKey, noKey, numberKey}
-use Rattle.table.specs.Laws.Keys.{least-append, least-bounded, least-none}
+use Rattle.keys.specs.Keys.{leastNumberKey, noKey, numberKey}
+use Rattle.keys.specs.Laws.Keys.{least-append, least-bounded, least-none}
 use Rattle.reading.specs.Laws.Hearing.{Apart, by-comma, by-semi, by-end, by-next, members-apart, counted-apart, more-apart}
 use Rattle.scopes.specs.Laws.Behind.{plain, quiet, All, all-none, all-more, Quiet, plain-kind, quiet-kind, expression-made, transfer-made, selector-made}
 use Rattle.reading.specs.Groups.{more, groupAt}
@@ -39,7 +39,7 @@ shuffled a b g w m o e =
 
 module _ (ds : Table) where
   -- a token that only stands there
-  pass : (σ : List Scope) (s : Scope) (p t : Token) (ts : Tokens) → eqb (no t) 9 ≡ false → Quiet (no t) → walk ds σ s p (t ∷ ts) ≡ walk ds σ s t ts
+  pass : (σ : List Scope) (s : Scope) (p t : Token) (ts : Tokens) → eqb (no t) (kindNo Comma) ≡ false → Quiet (no t) → walk ds σ s p (t ∷ ts) ≡ walk ds σ s t ts
   unfolding walk jumpAt jumps member
   pass σ s p t ts c q = rw (q .begin, q .end, q .semi, q .next, c, q .becomes, q .leave, q .restart, walk)
 
@@ -55,9 +55,9 @@ module _ (ds : Table) where
   -- tokens of a selector, at the scope around the block; a label is none of them
   pass-comma : (o : Scope) (σ : List Scope) (p t : Token) (ts : Tokens) → Quiet (no t) → walk ds (o ∷ σ) o p (t ∷ ts) ≡ walk ds (o ∷ σ) o t ts
   unfolding walk jumpAt jumps member
-  pass-comma o σ p t ts q = by (eqb (no t) 9) refl
+  pass-comma o σ p t ts q = by (eqb (no t) (kindNo Comma)) refl
     where
-      by : (b : Bool) → eqb (no t) 9 ≡ b → walk ds (o ∷ σ) o p (t ∷ ts) ≡ walk ds (o ∷ σ) o t ts
+      by : (b : Bool) → eqb (no t) (kindNo Comma) ≡ b → walk ds (o ∷ σ) o p (t ∷ ts) ≡ walk ds (o ∷ σ) o t ts
       by true e = rw (q .begin, q .end, q .semi, q .next, e, walk)
       by false e = pass (o ∷ σ) o p t ts e q
 
@@ -310,4 +310,4 @@ module _ (ds : Table) where
         → walk ds σ s p (t ∷ ts) ≡ faultsAt ds s t ts ++ walk ds σ s t ts
     unfolding walk faultsAt opens member
     walk-other b e m x c l =
-        rw (ne-eqb (no t) 19 b, ne-eqb (no t) 20 e, ne-eqb (no t) 10 m, ne-eqb (no t) 21 x, ne-eqb (no t) 9 c, ne-eqb (no t) 12 l, walk, faultsAt)
+        rw (ne-eqb (no t) (kindNo BEGIN) b, ne-eqb (no t) (kindNo END) e, ne-eqb (no t) (kindNo Semi) m, ne-eqb (no t) (kindNo NEXT) x, ne-eqb (no t) (kindNo Comma) c, ne-eqb (no t) (kindNo Becomes) l, walk, faultsAt)

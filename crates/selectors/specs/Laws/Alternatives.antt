@@ -13,7 +13,7 @@ use Rattle.rules.specs.Text.Tokens.{kindNo, OTHERWISE, LBra}
 use Rattle.rules.specs.Grammar.Trees.{Tokens, Literal, exact, masked}
 use Rattle.rules.specs.Selectors.{Item}
 use Rattle.rules.specs.Faults.Bodies.{itemsMeet, meetsAny, someMeet, past}
-use Rattle.table.specs.Holds.{kindByte}
+use Rattle.records.specs.Holds.{kindByte}
 use Rattle.table.specs.Laws.Positions.{record-within, kind-here}
 use Rattle.selectors.specs.declared.alternatives.Items.{Items}
 use Rattle.selectors.specs.declared.alternatives.Items.the-variants.{From, Nothing}

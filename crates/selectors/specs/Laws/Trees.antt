@@ -6,12 +6,11 @@ use mathlib.Core.List.{[], _∷_}
 use native.Mathlib.Omega.{arith}
 use lib.ListN.{drop}
 use Rattle.rules.specs.Text.Tokens.{RBra, Comma, Becomes, OTHERWISE, Info, Token, tk, kindNo}
-use Rattle.rules.specs.Grammar.Trees.{Tokens, Literal, literalTokens, Range, single, to, rangeTokens, Items, close, item, itemsTokens, Selector, one-of, any-of, selectorTokens}
-use Rattle.rules.specs.Selectors.{literalInfo, itemOf, itemsOf, selectorItems}
+use Rattle.rules.specs.Grammar.Trees.{Tokens, Literal, literalTokens, Range, rangeTokens, Items, close, item, itemsTokens, Selector, one-of, any-of, selectorTokens}
+use Rattle.rules.specs.Selectors.{itemOf, itemsOf, selectorItems}
 use Rattle.table.specs.Laws.Positions.{here}
 use Rattle.patterns.specs.Stands.{by-comma, by-close, by-becomes, itemSize, ItemAt, ItemsFrom, last-item, more-items, ItemsAt, no-items, in-brackets, one-item}
 use Rattle.patterns.specs.Laws.Tokens.{item-behind}
-use Rattle.summaries.specs.Fits.{PatternFits}
 
 list-from : (ts : Tokens) (q : ℕ) (l : Literal) (r : Range) (is : Items) (rest : Tokens) → drop q ts ≡ literalTokens l (rangeTokens r (itemsTokens is rest))
     → ItemsFrom ts q (itemOf l r ∷ itemsOf is)
@@ -34,11 +33,3 @@ selector-at ts p (any-of x l r is) b rest e =
 
 pub otherwise-at : (ts : Tokens) (p : ℕ) (i : Info) (rest : Tokens) → drop p ts ≡ tk OTHERWISE i ∷ rest → ItemsAt ts p []
 otherwise-at ts p i rest e = let first = here ts p _ _ e in no-items (first .within) (ap (λ (t : Token). t .kind) (first .token))
-
--- an item fits 64 bits if its constants do
-abbrev pub LiteralFits : Literal → Type 0
-LiteralFits l = PatternFits 64 (literalInfo l .value) (literalInfo l .free)
-
-abbrev pub RangeFits : Range → Type 0
-RangeFits single = Unit {0}
-RangeFits (to c l) = LiteralFits l

@@ -7,19 +7,10 @@ use native.Mathlib.Omega.{arith}
 use native.Mathlib.Decide.{decLt}
 use lib.ListN.{length}
 use Rattle.cells.specs.Cells.{cell, putCell}
-use Rattle.cells.specs.Laws.{le-put-same, le-put-below, le-put-above}
-use Rattle.spelling.specs.Trees.{noNode, heads}
+use Rattle.cells.specs.Laws.{cell-same, cell-other}
+use Rattle.spelling.specs.Trees.{noNode}
+use Rattle.room.specs.Spelling.{heads}
 use Rattle.spelling.specs.Spelling.{Cleared, Opened}
-
-pub cell-same : (b : List ℕ) (i v : ℕ) → 2 * i + 2 ≤ length b → v < 65536 → cell 2 (putCell 2 b i v) i ≡ v
-cell-same b i v room fits = le-put-same 2 b (2 * i) v (omega arith) fits
-
-pub cell-other : (b : List ℕ) (i v c : ℕ) → (c ≡ i → ⊥) → cell 2 (putCell 2 b i v) c ≡ cell 2 b c
-cell-other b i v c other = by (decLt i c)
-  where
-    by : Dec (i < c) → cell 2 (putCell 2 b i v) c ≡ cell 2 b c
-    by (yes l) = le-put-above 2 2 b (2 * i) v (2 * c) (omega arith)
-    by (no l) = let below : c < i = omega (arith, other) in le-put-below 2 2 b (2 * i) v (2 * c) (omega arith)
 
 pub none-cleared : (room : List ℕ) (a : ℕ) → Cleared room a a
 none-cleared room a = record { none = λ c l h. absurd (omega arith) }
@@ -29,13 +20,13 @@ pub cleared-more : {room now : List ℕ} {a b : ℕ} → Cleared room a b → no
 cleared-more {room} {now} {a} {b} r e long = record { none = λ c l h. rw e (by c l h (decLt c b)) }
   where
     by : (c : ℕ) → a ≤ c → c < b + 1 → Dec (c < b) → cell 2 (putCell 2 room b noNode) c ≡ noNode
-    by c l h (yes y) = cell-other room b noNode c (λ q. omega arith) ∙ r .none c l y
-    by c l h (no n) = let q : c ≡ b = omega arith in rw q (cell-same room b noNode long (omega arith))
+    by c l h (yes y) = cell-other 2 room b noNode c (λ q. omega arith) ∙ r .none c l y
+    by c l h (no n) = let q : c ≡ b = omega arith in rw q (cell-same 2 room b noNode long (omega arith))
 
 pub opened : {old mid now : List ℕ} {i left : ℕ} → 2 * (heads + 2 * (i + 1)) ≤ length old → length mid ≡ length old → left ≡ heads + 2 * i
     → mid ≡ putCell 2 old left noNode → now ≡ putCell 2 mid (left + 1) noNode → Opened old now i
 opened {old} {mid} {now} {i} {left} long same e f g = record {
-  kept = λ c l. rw g (cell-other mid (left + 1) noNode c (λ q. omega arith) ∙ rw f (cell-other old left noNode c (λ q. omega arith)));
+  kept = λ c l. rw g (cell-other 2 mid (left + 1) noNode c (λ q. omega arith) ∙ rw f (cell-other 2 old left noNode c (λ q. omega arith)));
   cleared = record { none = λ c l h. both .none c (omega arith) (omega arith) };
 }
   where

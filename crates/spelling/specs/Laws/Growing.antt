@@ -10,17 +10,18 @@ use lib.Dec.{eqb}
 use lib.ListN.{length}
 use borrow.Author.Tests.{eq-eqb, ne-eqb}
 use Rattle.cells.specs.Cells.{cell, putCell}
+use Rattle.cells.specs.Laws.{cell-same, cell-other}
 use Rattle.rules.specs.Limits.{mostTokens}
 use Rattle.rules.specs.Text.Scan.{sameBytes}
 use Rattle.rules.specs.Grammar.Trees.{Tokens}
-use Rattle.table.specs.Holds.{linkCell}
-use Rattle.table.specs.Kept.{LinkPut}
-use Rattle.table.specs.Words.{NameAt, wordAt}
+use Rattle.records.specs.Holds.{linkCell}
+use Rattle.records.specs.Kept.{LinkPut}
+use Rattle.records.specs.Words.{NameAt, wordAt}
 use Rattle.spelling.specs.Spelled.{Spelled}
-use Rattle.spelling.specs.Trees.{noNode, heads, roomSize, Node, Grown}
+use Rattle.spelling.specs.Trees.{noNode, Node, Grown}
+use Rattle.room.specs.Spelling.{heads, roomSize}
 use Rattle.spelling.specs.Spelling.{Spells, SpelledTo, Ends, Cleared, Opened}
 use Rattle.laws_accepted.specs.Accepted.Named.{same-equal, same-itself}
-use Rattle.spelling.specs.Laws.Cells.{cell-same, cell-other}
 use Rattle.spelling.specs.Laws.Trees.{Keeps, cell-kept, passes-kept, finds-kept, found-once}
 
 keeps-itself : (room : List ℕ) (i : ℕ) → Keeps room room i
@@ -91,17 +92,17 @@ module _ {records room : List ℕ} {ts : Tokens} {i : ℕ} (s : SpelledTo record
         after = putCell 2 room c i
 
         there : cell 2 after c ≡ i
-        there = cell-same room c i (omega (arith, ends .inside)) (omega arith)
+        there = cell-same 2 room c i (omega (arith, ends .inside)) (omega arith)
 
         keeps : Keeps room after i
-        keeps = record { kept = λ k l b. cell-other room c i k (λ e. let z : cell 2 room k ≡ noNode = ap (cell 2 room) e ∙ none in omega arith) }
+        keeps = record { kept = λ k l b. cell-other 2 room c i k (λ e. let z : cell 2 room k ≡ noNode = ap (cell 2 room) e ∙ none in omega arith) }
 
         grown-by-one : Grown after ts (i + 1)
         grown-by-one = record { node = λ k l n. by k l n (ℕ-discrete k c) }
           where
             by : (k : ℕ) → k < heads + 2 * (i + 1) → (cell 2 after k ≡ noNode → ⊥) → Dec (k ≡ c) → Node ts (i + 1) k (cell 2 after k)
             by k l n (yes e) = rw (e, there) record { before = omega arith; name = name; rises = omega (arith, ends .inside) }
-            by k l n (no z) = let e = cell-other room c i k z in rw e (grown-open .node k l (λ q. n (e ∙ q)))
+            by k l n (no z) = let e = cell-other 2 room c i k z in rw e (grown-open .node k l (λ q. n (e ∙ q)))
 
         itself : Spells after ts (i + 1) i i
         itself = record {

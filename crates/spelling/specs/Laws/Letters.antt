@@ -8,8 +8,9 @@ use native.Mathlib.Numerals.{add-one}
 use lib.ListN.{length, getD, take, drop, length-map, length-take, length-drop}
 use lib.Seq.{getD-take, getD-drop}
 use Rattle.rules.specs.Text.Bytes.{fold}
-use Rattle.table.specs.Holds.{foldedAt}
-use Rattle.spelling.specs.Trees.{heads, hashTo, bitOf}
+use Rattle.records.specs.Holds.{foldedAt}
+use Rattle.spelling.specs.Trees.{hashTo, bitOf}
+use Rattle.room.specs.Spelling.{heads}
 
 map-at : (l : List ℕ) (k : ℕ) → k < length l → getD (map fold l) k 0 ≡ fold (getD l k 0)
 map-at [] k h = absurd (omega arith)

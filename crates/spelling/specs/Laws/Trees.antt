@@ -8,8 +8,9 @@ use native.Mathlib.Decide.{decLt}
 use lib.ListN.{length}
 use Rattle.cells.specs.Cells.{cell}
 use Rattle.rules.specs.Grammar.Trees.{Tokens}
-use Rattle.table.specs.Words.{wordAt}
-use Rattle.spelling.specs.Trees.{heads, childCell, bitOf, cellBehind, nodeBehind, Passes, Finds}
+use Rattle.records.specs.Words.{wordAt}
+use Rattle.spelling.specs.Trees.{childCell, bitOf, cellBehind, nodeBehind, Passes, Finds}
+use Rattle.room.specs.Spelling.{heads}
 use Rattle.spelling.specs.Laws.Letters.{hash-small, bit-small}
 
 module _ {room : List ℕ} {ts : Tokens} {i : ℕ} {w : List ℕ} {d : ℕ} (p : Passes room ts i w d) where

@@ -13,9 +13,10 @@ use Rattle.cells.specs.Cells.{cell}
 use Rattle.rules.specs.Text.Scan.{sameBytes}
 use Rattle.rules.specs.Limits.{mostTokens}
 use Rattle.rules.specs.Faults.Declared.{isKnown}
-use Rattle.table.specs.Holds.{linkCell}
-use Rattle.table.specs.Words.{wordAt}
-use Rattle.stacks.specs.Stacks.{stackedWords, indexFrom, indexed, NameView, FoundAt}
+use Rattle.records.specs.Holds.{linkCell}
+use Rattle.records.specs.Words.{wordAt}
+use Rattle.stacks.specs.Stacks.{stackedWords, indexed, NameView, FoundAt}
+use Rattle.room.specs.Bodies.{indexFrom}
 
 module _ {records room : List ℕ} {count i : ℕ} (v : NameView records room count i) where
   pub spelling-small : linkCell records i < mostTokens

@@ -7,9 +7,10 @@ use native.Mathlib.Omega.{arith}
 use Rattle.cells.specs.Cells.{cell, putCell}
 use Rattle.cells.specs.Laws.{length-put, le-put-below, le-put-above}
 use Rattle.rules.specs.Grammar.Trees.{Tokens}
-use Rattle.table.specs.Holds.{linkCell}
-use Rattle.table.specs.Words.{wordAt}
-use Rattle.stacks.specs.Stacks.{stackedWords, indexFrom, indexed, Stacked, Kept}
+use Rattle.records.specs.Holds.{linkCell}
+use Rattle.records.specs.Words.{wordAt}
+use Rattle.stacks.specs.Stacks.{stackedWords, indexed, Stacked, Kept}
+use Rattle.room.specs.Bodies.{indexFrom}
 
 pub none-stacked : (records : List ℕ) (ts : Tokens) (room : List ℕ) → Stacked records ts room 0
 none-stacked records ts room = record {

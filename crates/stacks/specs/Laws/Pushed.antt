@@ -10,9 +10,10 @@ use lib.ListN.{length}
 use Rattle.cells.specs.Cells.{cell, putCell}
 use Rattle.cells.specs.Laws.{length-put, le-put-same, le-put-below, le-put-above}
 use Rattle.rules.specs.Grammar.Trees.{Tokens}
-use Rattle.table.specs.Holds.{linkCell}
-use Rattle.table.specs.Words.{NameAt, wordAt}
-use Rattle.stacks.specs.Stacks.{stackedWords, indexFrom, indexCell, indexed, Stacked, NameView, FoundAt, Kept, Pushed}
+use Rattle.records.specs.Holds.{linkCell}
+use Rattle.records.specs.Words.{NameAt, wordAt}
+use Rattle.stacks.specs.Stacks.{stackedWords, indexCell, indexed, Stacked, NameView, FoundAt, Kept, Pushed}
+use Rattle.room.specs.Bodies.{indexFrom}
 use Rattle.stacks.specs.Laws.Kept.{kept-put, kept-then, kept-words, kept-index, kept-alike}
 use Rattle.stacks.specs.Laws.Index.{spelling-small}
 

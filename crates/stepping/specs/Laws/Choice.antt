@@ -10,13 +10,13 @@ use native.Mathlib.Decide.{decLt}
 use native.Mathlib.Numerals.{add-one}
 use lib.Dec.{eqb}
 use lib.ListN.{length, drop}
-use Rattle.rules.specs.Text.Tokens.{END, kindNo}
+use Rattle.rules.specs.Text.Tokens.{END, kindNo, Const, Masked, LBra, OTHERWISE}
 use Rattle.rules.specs.Grammar.Trees.{Tokens, exact, masked, Selector, one-of, any-of, selectorTokens}
 use Rattle.rules.specs.Selectors.{Item, matches, anyMatches, Case, numbered, listed, otherwise, takes}
 use Rattle.laws_grammar.specs.Cited.Kinds.{kindAt}
 use Rattle.laws_grammar.specs.Grammar.Kinds.{kindAt-kindNo}
 use Rattle.laws_orders.specs.Cited.Flat.{Entries, no-entry, entry, find}
-use Rattle.table.specs.Holds.{kindByte, tokenAt, insideCell, linkCell}
+use Rattle.records.specs.Holds.{kindByte, tokenAt, insideCell, linkCell}
 use Rattle.table.specs.Laws.Positions.{here, record-within, kind-here}
 use Rattle.promise.specs.Instructions.{CaseStands, Numbered, Counted, EntriesStand}
 use Rattle.patterns.specs.Stands.{Held, ItemsView, ItemsFrom}
@@ -32,13 +32,13 @@ some-matches x (i ∷ is) = ap (_||_ (matches i x)) (some-matches x is)
 
 -- AN ALTERNATIVE by the kind of the token at q
 pub data SeenCase (records : List ℕ) (ts : Tokens) (q number : ℕ) : Case → Type 0 where
-  number-seen : {n : ℕ} → (kindByte records q ≡ 1 → ⊥) → (kindByte records q ≡ 2 → ⊥) → (kindByte records q ≡ 5 → ⊥) → (kindByte records q ≡ 24 → ⊥) → n ≡ number
+  number-seen : {n : ℕ} → (kindByte records q ≡ kindNo Const → ⊥) → (kindByte records q ≡ kindNo Masked → ⊥) → (kindByte records q ≡ kindNo LBra → ⊥) → (kindByte records q ≡ kindNo OTHERWISE → ⊥) → n ≡ number
       → SeenCase records ts q number (numbered n)
-  brackets : {is : List Item} → kindByte records q ≡ 5 → ItemsFrom ts (q + 1) is → SeenCase records ts q number (listed is)
+  brackets : {is : List Item} → kindByte records q ≡ kindNo LBra → ItemsFrom ts (q + 1) is → SeenCase records ts q number (listed is)
   item : {is : List Item} → 1 ≤ kindByte records q → kindByte records q ≤ 2 → ItemsFrom ts q is → SeenCase records ts q number (listed is)
-  any : kindByte records q ≡ 24 → SeenCase records ts q number otherwise
+  any : kindByte records q ≡ kindNo OTHERWISE → SeenCase records ts q number otherwise
 
-neither : {k : ℕ} → (k ≡ 1 → ⊥) → (k ≡ 2 → ⊥) → 1 ≤ k → k ≤ 2 → ⊥
+neither : {k : ℕ} → (k ≡ kindNo Const → ⊥) → (k ≡ kindNo Masked → ⊥) → 1 ≤ k → k ≤ 2 → ⊥
 neither {k} a b l m = by (decLt k 2)
   where
     by : Dec (k < 2) → ⊥
@@ -48,7 +48,7 @@ neither {k} a b l m = by (decLt k 2)
 -- a selector begins with a constant or `[`
 pub data Opens (k : ℕ) : Type 0 where
   by-constant : 1 ≤ k → k ≤ 2 → Opens k
-  by-bracket : k ≡ 5 → Opens k
+  by-bracket : k ≡ kindNo LBra → Opens k
 
 module _ {records values : List ℕ} {ts : Tokens} (h : Held records values ts) (q : ℕ) where
   opens : (s : Selector) (rest : Tokens) → drop q ts ≡ selectorTokens s rest → Opens (kindByte records q)
@@ -87,7 +87,7 @@ module _ {records values : List ℕ} {q number : ℕ} (v : CaseView records valu
   items-at p is f = record { tokens = v .tokens; held = v .held; items = is; stand = f }
 
   module _ {k : ℕ} (is-kind : k ≡ kindByte records q) where
-    pub listed-inside : k ≡ 5 → ItemsView records values (q + 1)
+    pub listed-inside : k ≡ kindNo LBra → ItemsView records values (q + 1)
     listed-inside e = go (v .case) seen
       where
         go : (c : Case) → SeenCase records (v .tokens) q number c → ItemsView records values (q + 1)
@@ -105,7 +105,7 @@ module _ {records values : List ℕ} {q number : ℕ} (v : CaseView records valu
         go (listed is) (item _ _ f) = items-at q is f
         go otherwise (any z) = absurd (omega arith)
 
-    pub takes-inside : (x : ℕ) {r : Bool} → k ≡ 5 → ((w : ItemsView records values (q + 1)) → r ≡ anyMatches (w .items) x) → r ≡ takes (v .case) x
+    pub takes-inside : (x : ℕ) {r : Bool} → k ≡ kindNo LBra → ((w : ItemsView records values (q + 1)) → r ≡ anyMatches (w .items) x) → r ≡ takes (v .case) x
     unfolding takes
     takes-inside x {r} e h = go (v .case) seen
       where
@@ -115,7 +115,7 @@ module _ {records values : List ℕ} {q number : ℕ} (v : CaseView records valu
         go (listed is) (item a b f) = absurd (omega arith)
         go otherwise (any z) = absurd (omega arith)
 
-    pub takes-any : (x : ℕ) → k ≡ 24 → true ≡ takes (v .case) x
+    pub takes-any : (x : ℕ) → k ≡ kindNo OTHERWISE → true ≡ takes (v .case) x
     unfolding takes
     takes-any x e = go (v .case) seen
       where
@@ -135,7 +135,7 @@ module _ {records values : List ℕ} {q number : ℕ} (v : CaseView records valu
         go (listed is) (item _ _ f) = h (items-at q is f)
         go otherwise (any z) = absurd (omega arith)
 
-    pub takes-number : (x : ℕ) → (k ≡ 1 → ⊥) → (k ≡ 2 → ⊥) → (k ≡ 5 → ⊥) → (k ≡ 24 → ⊥) → eqb number x ≡ takes (v .case) x
+    pub takes-number : (x : ℕ) → (k ≡ kindNo Const → ⊥) → (k ≡ kindNo Masked → ⊥) → (k ≡ kindNo LBra → ⊥) → (k ≡ kindNo OTHERWISE → ⊥) → eqb number x ≡ takes (v .case) x
     unfolding takes
     takes-number x n₁ n₂ n₅ n₂₄ = go (v .case) seen
       where
@@ -175,7 +175,7 @@ module _ {records values : List ℕ} {p number : ℕ} (v : ChoiceView records va
     kind-there : kindByte records p ≡ kindNo (tokenAt (v .tokens) p .kind)
     kind-there = v .held .holds .entry p (entries-within records (v .tokens) p (v .entries) (v .stand)) .kind
 
-    pub nothing-left : (x : ℕ) → k ≡ 20 → find (v .entries) x ≡ none
+    pub nothing-left : (x : ℕ) → k ≡ kindNo END → find (v .entries) x ≡ none
     unfolding find
     nothing-left x e = go (v .entries) (v .stand)
       where
@@ -183,7 +183,7 @@ module _ {records values : List ℕ} {p number : ℕ} (v : ChoiceView records va
         go no-entry s = refl
         go (entry c g t) s = absurd (s .1 .0 (sym (kindAt-kindNo (tokenAt (v .tokens) p .kind)) ∙ ap kindAt (sym kind-there ∙ sym is-kind ∙ e)))
 
-    pub front : (k ≡ 20 → ⊥) → Front records (v .tokens) p number (v .entries)
+    pub front : (k ≡ kindNo END → ⊥) → Front records (v .tokens) p number (v .entries)
     front n = go (v .entries) (v .stand) (v .counted)
       where
         go : (t : Entries) → EntriesStand records (v .tokens) p t → Counted number t → Front records (v .tokens) p number t
@@ -201,7 +201,7 @@ module _ {records values : List ℕ} {p number : ℕ} (v : ChoiceView records va
           tail-counted = q .1;
         }
 
-    module _ (n : k ≡ 20 → ⊥) where
+    module _ (n : k ≡ kindNo END → ⊥) where
       abbrev ahead : Front records (v .tokens) p number (v .entries)
       ahead = front n
 
@@ -238,10 +238,10 @@ pub record Left (records values : List ℕ) (x found at number : ℕ) : Type 0 w
   pub same : placeNo (find (rest .entries) x) ≡ found
 
 module _ {records values : List ℕ} {x found at number : ℕ} (l : Left records values x found at number) {k : ℕ} (is-kind : k ≡ kindByte records at) where
-  pub walk-ends : k ≡ 20 → 0 ≡ found
+  pub walk-ends : k ≡ kindNo END → 0 ≡ found
   walk-ends e = sym (ap placeNo (nothing-left (l .rest) is-kind x e)) ∙ l .same
 
-  module _ (n : k ≡ 20 → ⊥) {r : Bool} (answer : (u : CaseView records values (at + 1) number) → r ≡ takes (u .case) x) where
+  module _ (n : k ≡ kindNo END → ⊥) {r : Bool} (answer : (u : CaseView records values (at + 1) number) → r ≡ takes (u .case) x) where
     pub walk-finds : r ≡ true → {g : ℕ} → g ≡ insideCell records at → g ≡ found
     walk-finds e q = q ∙ found-here (l .rest) is-kind n x answer e ∙ l .same
 

@@ -9,7 +9,7 @@ use mathlib.Core.Option.{Option, none, some}
 use native.Mathlib.Omega.{arith}
 use lib.ListN.{length, drop}
 use Rattle.cells.specs.Cells.{cell}
-use Rattle.rules.specs.Text.Tokens.{Kind, Name, LPar, Equals, kindNo, Info, tk}
+use Rattle.rules.specs.Text.Tokens.{Kind, Name, LPar, Equals, kindNo, Info, tk, IF, DECODE, STOP}
 use Rattle.rules.specs.Grammar.Trees.{Tokens, Bits, all-bits, bits, bitsTokens, Subscript, no-subscript, subscript, subscriptTokens, Joined, alone, joined, joinedTokens}
 use Rattle.rules.specs.Grammar.Precedence.{Expr}
 use Rattle.rules.specs.Selectors.{takes}
@@ -24,7 +24,7 @@ use Rattle.rules.specs.Steps.Runs.{moved, tested, perform}
 use Rattle.laws_grammar.specs.Cited.Kinds.{kindAt}
 use Rattle.laws_grammar.specs.Grammar.Kinds.{kindAt-kindNo}
 use Rattle.laws_orders.specs.Cited.Flat.{Link, at, exit, Entries, no-entry, entry, Instr, ifI, decodeI, goI, callI, stopI, moveI, pc, broken, go, push, find, picked, workM, nextM, Machine, put, putAfter}
-use Rattle.table.specs.Holds.{kindByte, placeCell, tokenAt, insideCell, linkCell}
+use Rattle.records.specs.Holds.{kindByte, placeCell, tokenAt, insideCell, linkCell}
 use Rattle.table.specs.Laws.Positions.{here, record-within}
 use Rattle.promise.specs.Instructions.{linkNo, ExpressionStands, DestinationStands, Counted, EntriesStand, Jump, a-repeat, a-leave, a-restart, a-no-op, InstructionHolds}
 use Rattle.promise.specs.Reached.{Leads, EntryAt}
@@ -99,7 +99,7 @@ module _ {records values decls carriers : List ℕ} {n : ℕ} (v : StepAt record
   kind-of : kindByte records n ≡ kindNo (tokenAt ts n .kind)
   kind-of = v .scene .holds .entry n (v .within) .kind
 
-  jump-kind : {k : Kind} → Jump records decls ts (v .scene .outer) (v .scene .table) (v .code) k → (24 < kindNo k) × (kindNo k ≡ 29 → ⊥)
+  jump-kind : {k : Kind} → Jump records decls ts (v .scene .outer) (v .scene .table) (v .code) k → (24 < kindNo k) × (kindNo k ≡ kindNo STOP → ⊥)
   jump-kind a-repeat = (omega arith, λ e. omega arith)
   jump-kind a-leave = (omega arith, λ e. omega arith)
   jump-kind a-restart = (omega arith, λ e. omega arith)
@@ -116,7 +116,7 @@ module _ {records values decls carriers : List ℕ} {n : ℕ} (v : StepAt record
     inside : insideCell records n ≡ goes
     link : linkCell records n ≡ linkNo behind
 
-  an-if : kindByte records n ≡ 22 → AnIf
+  an-if : kindByte records n ≡ kindNo IF → AnIf
   an-if k = by (v .code .instr n) refl (v .holds)
     where
       by : (i : Instr) → v .code .instr n ≡ i → Held-instruction i → AnIf
@@ -139,7 +139,7 @@ module _ {records values decls carriers : List ℕ} {n : ℕ} (v : StepAt record
     stand : EntriesStand records ts (end + 1) entries
     counted : Counted 0 entries
 
-  a-decode : kindByte records n ≡ 23 → ADecode
+  a-decode : kindByte records n ≡ kindNo DECODE → ADecode
   a-decode k = by (v .code .instr n) refl (v .holds)
     where
       by : (i : Instr) → v .code .instr n ≡ i → Held-instruction i → ADecode
@@ -166,7 +166,7 @@ module _ {records values decls carriers : List ℕ} {n : ℕ} (v : StepAt record
     is : v .code .instr n ≡ goI behind
     link : linkCell records n ≡ linkNo behind
 
-  a-go : (kindByte records n ≡ 0 → ⊥) → (kindByte records n ≡ 22 → ⊥) → (kindByte records n ≡ 23 → ⊥) → (kindByte records n ≡ 29 → ⊥) → AGo
+  a-go : (kindByte records n ≡ kindNo Name → ⊥) → (kindByte records n ≡ kindNo IF → ⊥) → (kindByte records n ≡ kindNo DECODE → ⊥) → (kindByte records n ≡ kindNo STOP → ⊥) → AGo
   a-go n₀ n₂₂ n₂₃ n₂₉ = by (v .code .instr n) refl (v .holds)
     where
       by : (i : Instr) → v .code .instr n ≡ i → Held-instruction i → AGo
@@ -177,7 +177,7 @@ module _ {records values decls carriers : List ℕ} {n : ℕ} (v : StepAt record
       by stopI q h = absurd (n₂₉ (kind-of ∙ ap kindNo h))
       by (moveI d e l) q h = absurd (n₀ (kind-of ∙ ap kindNo (h .0)))
 
-  a-stop : kindByte records n ≡ 29 → v .code .instr n ≡ stopI
+  a-stop : kindByte records n ≡ kindNo STOP → v .code .instr n ≡ stopI
   a-stop k = by (v .code .instr n) refl (v .holds)
     where
       by : (i : Instr) → v .code .instr n ≡ i → Held-instruction i → v .code .instr n ≡ stopI
@@ -196,16 +196,16 @@ module _ {records values decls carriers : List ℕ} {n : ℕ} (v : StepAt record
   leads-by : {i : Instr} → v .code .instr n ≡ i → (g : ℕ) → Leads (v .code) i g → 0 < g
   leads-by q g l = v .leads g (subst (λ i. Leads (v .code) i g) (sym q) l)
 
-  pub go-answer : (kindByte records n ≡ 0 → ⊥) → (kindByte records n ≡ 22 → ⊥) → (kindByte records n ≡ 23 → ⊥) → (kindByte records n ≡ 29 → ⊥)
+  pub go-answer : (kindByte records n ≡ kindNo Name → ⊥) → (kindByte records n ≡ kindNo IF → ⊥) → (kindByte records n ≡ kindNo DECODE → ⊥) → (kindByte records n ≡ kindNo STOP → ⊥)
       → {l : ℕ} → l ≡ linkCell records n → StepAnswer v carriers (Go l)
   go-answer n₀ n₂₂ n₂₃ n₂₉ {l} e =
       let a = a-go n₀ n₂₂ n₂₃ n₂₉ in
       answer _ (a .is) carriers (Go l) (λ σ. ap (put words words) (link-goes (a .behind) (leads-by (a .is)) σ ∙ ap (λ k. onward k σ) (sym (e ∙ a .link)))) tt (λ x. x)
 
-  pub stop-answer : kindByte records n ≡ 29 → StepAnswer v carriers Stop
+  pub stop-answer : kindByte records n ≡ kindNo STOP → StepAnswer v carriers Stop
   stop-answer k = answer stopI (a-stop k) carriers Stop (λ σ. refl) tt (λ x. x)
 
-  module _ (k : kindByte records n ≡ 22) where
+  module _ (k : kindByte records n ≡ kindNo IF) where
     pub if-test : TestAt records values carriers n
     if-test = let a = an-if k in record { scene = v .scene; behind = a .end; expression = a .test; stands = a .stands }
 
@@ -242,7 +242,7 @@ module _ {records values decls carriers : List ℕ} {n : ℕ} (v : StepAt record
           acts zero z σ = absurd (z refl)
           acts (suc x) z σ = refl
 
-  module _ (k : kindByte records n ≡ 23) where
+  module _ (k : kindByte records n ≡ kindNo DECODE) where
     pub decode-test : TestAt records values carriers n
     decode-test = let a = a-decode k in record { scene = v .scene; behind = a .end; expression = a .test; stands = a .stands }
 
@@ -335,7 +335,7 @@ module _ {records values decls carriers : List ℕ} {n : ℕ} (v : StepAt record
   paren-within : tokenAt ts (n + 1) .kind ≡ LPar → n + 1 < length ts
   paren-within e = mark-within ts (n + 1) (omega (arith, ap kindNo e))
 
-  pub name-room : kindByte records n ≡ 0 → 8 * (n + 1) + 8 ≤ length records
+  pub name-room : kindByte records n ≡ kindNo Name → 8 * (n + 1) + 8 ≤ length records
   name-room k = record-within (v .scene .holds) (n + 1) (by (v .code .instr n) (v .holds))
     where
       by : (i : Instr) → Held-instruction i → n + 1 < length ts
@@ -350,14 +350,14 @@ module _ {records values decls carriers : List ℕ} {n : ℕ} (v : StepAt record
   next-kind l = v .scene .holds .entry (n + 1) l .kind
 
   -- behind the name with which a transfer begins stands no `(`
-  pub no-move : (kindByte records n ≡ 0 → kindByte records (n + 1) ≡ 3) → (d : List Access) (e : Expr) (l : Link) → v .code .instr n ≡ moveI d e l → ⊥
+  pub no-move : (kindByte records n ≡ kindNo Name → kindByte records (n + 1) ≡ kindNo LPar) → (d : List Access) (e : Expr) (l : Link) → v .code .instr n ≡ moveI d e l → ⊥
   no-move o d e l q =
       let h : Held-instruction (moveI d e l) = subst Held-instruction q (v .holds) in
       let z = h .1 .1 .1 .0 in
       let w = two-within ts n (z .name) (z .subscript) (z .bits) (z .joined) (z .equals) (z .rest) (z .reads) in
       h .1 .0 (sym (kindAt-kindNo (tokenAt ts (n + 1) .kind)) ∙ ap kindAt (sym (next-kind w) ∙ o (kind-of ∙ ap kindNo (h .0))))
 
-  a-call : kindByte records n ≡ 0 → kindByte records (n + 1) ≡ 3 → ACall
+  a-call : kindByte records n ≡ kindNo Name → kindByte records (n + 1) ≡ kindNo LPar → ACall
   a-call k o = by (v .code .instr n) refl (v .holds)
     where
       by : (i : Instr) → v .code .instr n ≡ i → Held-instruction i → ACall
@@ -376,7 +376,7 @@ module _ {records values decls carriers : List ℕ} {n : ℕ} (v : StepAt record
       by stopI q h = absurd (omega (arith, kind-of, ap kindNo h))
       by (moveI d e l) q h = absurd (no-move (λ z. o) d e l q)
 
-  a-move : kindByte records n ≡ 0 → (kindByte records (n + 1) ≡ 3 → ⊥) → AMove
+  a-move : kindByte records n ≡ kindNo Name → (kindByte records (n + 1) ≡ kindNo LPar → ⊥) → AMove
   a-move k o = by (v .code .instr n) refl (v .holds)
     where
       by : (i : Instr) → v .code .instr n ≡ i → Held-instruction i → AMove
@@ -396,8 +396,8 @@ module _ {records values decls carriers : List ℕ} {n : ℕ} (v : StepAt record
         stands = h .1 .1 .1 .1 .1;
       }
 
-  module _ (k : kindByte records n ≡ 0) where
-    module _ (o : kindByte records (n + 1) ≡ 3) where
+  module _ (k : kindByte records n ≡ kindNo Name) where
+    module _ (o : kindByte records (n + 1) ≡ kindNo LPar) where
       pub call-declared : 2 * insideCell records n + 2 ≤ length decls
       call-declared = omega (arith, a-call k o .declared, v .room)
 
@@ -410,7 +410,7 @@ module _ {records values decls carriers : List ℕ} {n : ℕ} (v : StepAt record
           answer _ (a .is) carriers (Call f l) (λ σ. ap (put words words) (ap (λ f. pc f (push (a .behind) σ)) (sym (e ∙ a .first))
           ∙ ap (pc f) (link-pushes (a .behind) (λ g s. leads-by (a .is) g (inr s)) σ ∙ ap (λ l. returning l σ) (sym (w ∙ a .link))))) tt tt
 
-    module _ (o : kindByte records (n + 1) ≡ 3 → ⊥) where
+    module _ (o : kindByte records (n + 1) ≡ kindNo LPar → ⊥) where
       pub move-at : TransferAt records values carriers n
       move-at = let a = a-move k o in record { scene = v .scene; to = a .to; right = a .right; behind = a .end; destination = a .destination; value = a .stands }
 

@@ -14,7 +14,7 @@ use Rattle.rules.specs.Stores.{Entry, entriesOf, stored, ifGiven, made}
 use Rattle.rules.specs.Steps.Actions.{Access, access, transferPlace, joinedAccesses}
 use Rattle.rules.specs.Steps.Control.{moves}
 use Rattle.rules.specs.Steps.Evaluation.{Carriers, Outcome, gives, faulty, then, Field, evaluate, evaluateAccesses, transferred}
-use Rattle.table.specs.Holds.{placeCell, insideCell}
+use Rattle.records.specs.Holds.{placeCell, insideCell}
 use Rattle.table.specs.Laws.Positions.{here, record-within}
 use Rattle.operands.specs.declared.accesses.Located.{Located}
 use Rattle.operands.specs.declared.accesses.Located.the-variants.{Field as located, Fault as outside}

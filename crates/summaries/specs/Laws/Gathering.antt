@@ -10,7 +10,7 @@ use lib.Dec.{ltb}
 use Rattle.rules.specs.Text.Tokens.{Comma, kindNo}
 use Rattle.rules.specs.Grammar.Trees.{Literal, Range, single, to}
 use Rattle.rules.specs.Selectors.{Item, between, lowest, highestDigits, itemOf, highest}
-use Rattle.table.specs.Holds.{kindByte}
+use Rattle.records.specs.Holds.{kindByte}
 use Rattle.patterns.specs.declared.items.Item as code
 use Rattle.summaries.specs.declared.Summary.{Summary}
 use Rattle.patterns.specs.Items.{meant}

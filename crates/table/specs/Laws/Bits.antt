@@ -10,7 +10,7 @@ use Rattle.rules.specs.Grammar.Trees.{Tokens, bit, upto, Bits, all-bits, bits, 
 use Rattle.rules.specs.Declarations.{mainNames}
 use Rattle.laws_grammar.specs.Cited.Kinds.{kindAt}
 use Rattle.laws_grammar.specs.Grammar.Kinds.{kindAt-kindNo}
-use Rattle.table.specs.Holds.{kindByte, valueCell, Holds}
+use Rattle.records.specs.Holds.{kindByte, valueCell, Holds}
 use Rattle.table.specs.Laws.Positions.{kind-far, value-far}
 use Rattle.table.specs.Shown.{shownBits}
 use Rattle.table.specs.declared.views.Names.the-variants.{Missing, Unnamed, Span}

@@ -12,8 +12,8 @@ use Rattle.rules.specs.Text.Tokens.{Name, Token, tk}
 use Rattle.rules.specs.Text.Scan.{sameBytes}
 use Rattle.rules.specs.Grammar.Trees.{Tokens, Declaration}
 use Rattle.rules.specs.Declarations.{declaredOf, numberFrom}
-use Rattle.table.specs.Holds.{Holds, tokenAt}
-use Rattle.table.specs.Words.{NameAt, wordAt, TwoNames, sameWords}
+use Rattle.records.specs.Holds.{Holds, tokenAt}
+use Rattle.records.specs.Words.{NameAt, wordAt, TwoNames, sameWords}
 use Rattle.table.specs.Laws.Views.{name-token}
 use Rattle.table.specs.Lookups.{DeclsHold, Nth, nth}
 

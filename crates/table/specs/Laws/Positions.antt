@@ -11,7 +11,7 @@ use Rattle.rules.specs.Text.Scan.{plainInfo}
 use Rattle.rules.specs.Grammar.Trees.{Tokens}
 use Rattle.laws_grammar.specs.Grammar.Positions.{Writes}
 use Rattle.laws_grammar.specs.Cited.Positions.{Stands}
-use Rattle.table.specs.Holds.{kindByte, valueCell, tokenAt, Holds}
+use Rattle.records.specs.Holds.{kindByte, valueCell, tokenAt, Holds}
 
 -- the token i is t, and `rest` stands behind it
 pub record Here (ts : Tokens) (i : ℕ) (t : Token) (rest : Tokens) : Type 0 where

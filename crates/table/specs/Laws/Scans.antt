@@ -116,9 +116,9 @@ module _ {g : ℕ} (goal : Goal g) (d : ℕ) where
   past-expression o t = expressed (expression-written o t 0)
 
 -- a selector has no `:=`; its commas stand inside a block
-pub past-selector : (s : Selector) (ts : Tokens) → scan 12 0 (selectorTokens s ts) ≡ scan 12 0 ts
+pub past-selector : (s : Selector) (ts : Tokens) → scan (kindNo Becomes) 0 (selectorTokens s ts) ≡ scan (kindNo Becomes) 0 ts
 unfolding scan halts stops deeper
-past-selector s = chosen-passes (λ m. scan 12 0) level refl (selector-written s 0)
+past-selector s = chosen-passes (λ m. scan (kindNo Becomes) 0) level refl (selector-written s 0)
 
 inner-selector : (d : ℕ) (s : Selector) (ts : Tokens) → scan 0 (suc d) (selectorTokens s ts) ≡ scan 0 (suc d) ts
 unfolding scan halts stops separates member deeper

@@ -12,7 +12,7 @@ use Rattle.rules.specs.Declarations.{Target, namesOf, declaredOf, mainNames}
 use Rattle.laws_grammar.specs.Cited.Kinds.{kindAt}
 use Rattle.laws_grammar.specs.Grammar.Kinds.{kindAt-kindNo}
 use Rattle.laws_grammar.specs.Grammar.Positions.{action-writes}
-use Rattle.table.specs.Holds.{kindByte, valueCell, tokenAt, Holds}
+use Rattle.records.specs.Holds.{kindByte, valueCell, tokenAt, Holds}
 use Rattle.table.specs.Laws.Positions.{Here, here, behind-far, stands-here, kind-far, value-far}
 use Rattle.table.specs.Bits.{BitsView, bitsSize}
 use Rattle.table.specs.Laws.Bits.{bits-within}

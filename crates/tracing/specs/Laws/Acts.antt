@@ -3,11 +3,12 @@
 use Prim.Native.Nat.{ℕ, _+_}
 use mathlib.Core.Path.{_≡_, refl, sym, subst}
 use mathlib.Core.List.{List, []}
+use Rattle.rules.specs.Text.Tokens.{kindNo, Name, LPar}
 use Rattle.rules.specs.Stores.{Entry, made}
 use Rattle.rules.specs.Declarations.{Table}
 use Rattle.rules.specs.Steps.Evaluation.{Carriers}
 use Rattle.laws_orders.specs.Cited.Flat.{Instr, ifI, decodeI, goI, callI, stopI, moveI, workM}
-use Rattle.table.specs.Holds.{kindByte}
+use Rattle.records.specs.Holds.{kindByte}
 use Rattle.evaluation.specs.declared.transfers.Transferred.{Transferred}
 use Rattle.evaluation.specs.declared.transfers.Transferred.the-variants.{Stored, Fault as unstored}
 use Rattle.evaluation.specs.Transfers.{TransferAt}
@@ -15,7 +16,7 @@ use Rattle.stepping.specs.declared.steps.Moved.{Moved}
 use Rattle.stepping.specs.declared.steps.Moved.the-variants.{Go, Fault}
 use Rattle.stepping.specs.Steps.{StepAt, StepAnswer}
 use Rattle.stepping.specs.Laws.Steps.{no-move, move-at, move-made, move-faults, move-goes}
-use Rattle.table.specs.Holds.{linkCell}
+use Rattle.records.specs.Holds.{linkCell}
 use Rattle.matching.specs.Matching.{toldAll}
 use Rattle.matching.specs.Room.{Sound}
 use Rattle.storing.specs.Parts.{Tells}
@@ -24,7 +25,7 @@ use Rattle.tracing.specs.Acts.{ActTold}
 
 module _ {records values decls carriers : List ℕ} {n : ℕ} (v : StepAt records values decls carriers n) where
   -- what is no transfer stores nothing
-  quiet : (kindByte records n ≡ 0 → kindByte records (n + 1) ≡ 3) → (ds : Table) (s : Carriers) → made ds (workM (v .code .instr n)) s ≡ []
+  quiet : (kindByte records n ≡ kindNo Name → kindByte records (n + 1) ≡ kindNo LPar) → (ds : Table) (s : Carriers) → made ds (workM (v .code .instr n)) s ≡ []
   quiet o ds s = by (v .code .instr n) refl
     where
       by : (i : Instr) → v .code .instr n ≡ i → made ds (workM i) s ≡ []
@@ -35,12 +36,12 @@ module _ {records values decls carriers : List ℕ} {n : ℕ} (v : StepAt record
       by stopI q = refl
       by (moveI d e k) q = absurd (no-move v o d e k q)
 
-  pub quiet-told : (kindByte records n ≡ 0 → kindByte records (n + 1) ≡ 3) → {l : List Entry} {room : List ℕ} → Sound l room → {after : List ℕ} {r : Moved}
+  pub quiet-told : (kindByte records n ≡ kindNo Name → kindByte records (n + 1) ≡ kindNo LPar) → {l : List Entry} {room : List ℕ} → Sound l room → {after : List ℕ} {r : Moved}
       → ((w : StepAt records values decls carriers n) → StepAnswer w after r) → ActTold v after l room room r
   unfolding toldAll
   quiet-told o {l} {room} s a = record { answer = a v; tells = subst (Tells l room room) (sym (quiet o _ _)) (record { sound = s; is = refl }) }
 
-  module _ (k : kindByte records n ≡ 0) (o : kindByte records (n + 1) ≡ 3 → ⊥) {l : List Entry} {after room room′ : List ℕ} where
+  module _ (k : kindByte records n ≡ kindNo Name) (o : kindByte records (n + 1) ≡ kindNo LPar → ⊥) {l : List Entry} {after room room′ : List ℕ} where
     transfer-told : (r : Transferred) {m : Moved} → ((t : TransferAt records values carriers n) → TransferTold t after l room room′ r) → StepAnswer v after m → ActTold v after l room room′ m
     transfer-told r h a = record { answer = a; tells = subst (Tells l room room′) (move-made v k o) (h (move-at v k o) .1) }
 

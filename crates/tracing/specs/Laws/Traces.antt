@@ -36,7 +36,8 @@ use Rattle.telling.specs.Standing.{Activations}
 use Rattle.telling.specs.Decides.{MainPlace, main-first, main-next, main-stack, main-active, openAt, main-groups, main-opens, main-moves}
 use Rattle.members.specs.Cells.{cellsIn}
 use Rattle.matching.specs.Matching.{Matching, untold, toldAll}
-use Rattle.matching.specs.Room.{mostGroups, matchingIn, Sound, Stands}
+use Rattle.matching.specs.Room.{matchingIn, Sound, Stands}
+use Rattle.room.specs.Trace.{mostGroups}
 use Rattle.passing.specs.Ways.{groupingIn, into}
 use Rattle.passing.specs.Depth.{depthAfter}
 use Rattle.passing.specs.Laws.Depth.{depth-told}

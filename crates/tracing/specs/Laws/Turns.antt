@@ -22,7 +22,8 @@ use Rattle.traces.specs.Cited.Entries.{Block}
 use Rattle.telling.specs.Cited.Passing.{Grouping, Passing, groupEvent}
 use Rattle.telling.specs.Cited.Tracing.{Told, linkOf, resume, return, follow, Report, passes, storeReport, groupIn, groupsOf, Stepped}
 use Rattle.matching.specs.Matching.{Matching, toldAll}
-use Rattle.matching.specs.Room.{mostGroups, matchingIn}
+use Rattle.matching.specs.Room.{matchingIn}
+use Rattle.room.specs.Trace.{mostGroups}
 use Rattle.passing.specs.Depth.{depthAfter}
 use Rattle.passing.specs.Laws.Telling.{told-append}
 use Rattle.turning.specs.declared.ways.Turned.{Turned}

@@ -7,7 +7,7 @@ use native.Mathlib.Omega.{arith}
 use lib.ListN.{length, getD, set}
 use Rattle.rules.specs.Stores.{Entry}
 use Rattle.laws_orders.specs.Cited.Flat.{Link, at, exit, Code, pc}
-use Rattle.table.specs.Holds.{linkCell}
+use Rattle.records.specs.Holds.{linkCell}
 use Rattle.promise.specs.Instructions.{linkNo}
 use Rattle.stepping.specs.declared.steps.Moved.{Moved}
 use Rattle.stepping.specs.declared.steps.Moved.the-variants.{Go, Call, Stop, Fault}
@@ -16,7 +16,8 @@ use Rattle.runner.specs.Laws.Runs.{stack-pushed}
 use Rattle.telling.specs.Cited.Passing.{Grouping, Passing, groupEvent}
 use Rattle.telling.specs.Cited.Tracing.{Told, told, behindAll, linkOf, resume, return, follow}
 use Rattle.matching.specs.Matching.{Matching, toldAll}
-use Rattle.matching.specs.Room.{mostGroups, matchingIn, Sound, Stands}
+use Rattle.matching.specs.Room.{matchingIn, Sound, Stands}
+use Rattle.room.specs.Trace.{mostGroups}
 use Rattle.passing.specs.Depth.{depthAfter}
 use Rattle.passing.specs.Ways.{groupingIn, between, into, outOf}
 use Rattle.passing.specs.Laws.Depth.{depth-told, depth-append}

@@ -8,10 +8,11 @@ use borrow.Author.Tests.{eq-eqb, ne-eqb}
 use lib.Dec.{eqb, ltb}
 use lib.ListN.{length, drop}
 use Rattle.cells.specs.Cells.{cell}
+use Rattle.rules.specs.Text.Tokens.{kindNo, Name, LPar, Comma, BEGIN, END}
 use Rattle.rules.specs.Limits.{deepest}
 use Rattle.bounds.specs.Cited.Counts.{endless}
-use Rattle.table.specs.Holds.{kindByte}
-use Rattle.table.specs.Words.{wordAt}
+use Rattle.records.specs.Holds.{kindByte}
+use Rattle.records.specs.Words.{wordAt}
 use Rattle.reading.specs.Kinds.{nextNo}
 use Rattle.reading.specs.Reading.{Kinded, Reading, tableOf}
 use Rattle.reading.specs.Laws.Reading.{kinded}
@@ -32,8 +33,8 @@ module _ {records table room : List ℕ} {m n i : ℕ} {x : Nest} (a : Acting re
   standing = (a .state, a .shows)
 
   -- an activation
-  module _ (name : kindByte records i ≡ 0) {k inside : ℕ}
-      (index : (decls : List ℕ) (n : ℕ) (v : Reading records decls m n) → i < n → kindByte records i ≡ 0 → k ≡ indexOf (tableOf v) (wordAt (v .tokens) i))
+  module _ (name : kindByte records i ≡ kindNo Name) {k inside : ℕ}
+      (index : (decls : List ℕ) (n : ℕ) (v : Reading records decls m n) → i < n → kindByte records i ≡ kindNo Name → k ≡ indexOf (tableOf v) (wordAt (v .tokens) i))
       (is : inside ≡ cell 8 table k) where
     inside-is : (g : Scene records table m n) → inside ≡ g .counts (word g i)
     inside-is g = is ∙ (ap (cell 8 table) (index (g .decls) n (g .reading) (a .within) name) ∙ g .knows (word g i))
@@ -62,10 +63,10 @@ module _ {records table room : List ℕ} {m n i : ℕ} {x : Nest} (now : Acting 
     at-start {r} b g room e d z s =
         subst (λ q. Shows room r (named (g .counts) q (word g i) (behind g i) z)) (sym start) (subst (λ c. Shows room r (acting (g .counts) c (word g i) z)) (sym e) (d z s))
 
-    pub name-rests : (k ≡ 3 → ⊥) → Named records table m n i mode x x
+    pub name-rests : (k ≡ kindNo LPar → ⊥) → Named records table m n i mode x x
     name-rests h g room = at-start false g room (ne-eqb (behind g i) 3 (λ e. h (next (kinded (g .reading)) ∙ e))) (λ z s. s)
 
-    pub name-activates : {r : Nest} → k ≡ 3 → Activates records table m n i x r → Named records table m n i mode x r
+    pub name-activates : {r : Nest} → k ≡ kindNo LPar → Activates records table m n i x r → Named records table m n i mode x r
     name-activates h d g room = at-start true g room (eq-eqb (behind g i) 3 (sym (next (kinded (g .reading))) ∙ h)) (d g room)
 
 -- the arms by kinds
@@ -81,25 +82,25 @@ module _ {records table old : List ℕ} {m n i : ℕ} {x : Nest} (now : Acting r
     by-kind : (q : ℕ) → kind ≡ q → ((g : Scene records table m n) → Does (done g q) old x new r) → Acted records table old new m n i mode x r
     by-kind q e d = arm (λ g z s. subst (λ k. Shows new r (done g k z)) (sym e) (d g z s))
 
-    pub begin-acts : kind ≡ 19 → Does (λ z. opened (ltb (length (z .frames)) deepest) z) old x new r → Acted records table old new m n i mode x r
+    pub begin-acts : kind ≡ kindNo BEGIN → Does (λ z. opened (ltb (length (z .frames)) deepest) z) old x new r → Acted records table old new m n i mode x r
     unfolding acted
     begin-acts e d = by-kind 19 e (λ g. d)
 
-    pub end-acts : kind ≡ 20 → Does (λ z. closed (z .frames) z) old x new r → Acted records table old new m n i mode x r
+    pub end-acts : kind ≡ kindNo END → Does (λ z. closed (z .frames) z) old x new r → Acted records table old new m n i mode x r
     unfolding acted
     end-acts e d = by-kind 20 e (λ g. d)
 
-    pub comma-acts : kind ≡ 9 → Does (λ z. another (z .frames) z) old x new r → Acted records table old new m n i mode x r
+    pub comma-acts : kind ≡ kindNo Comma → Does (λ z. another (z .frames) z) old x new r → Acted records table old new m n i mode x r
     unfolding acted
     comma-acts e d = by-kind 9 e (λ g. d)
 
   module _ {r : Nest} where
-    pub name-acts : kind ≡ 0 → Named records table m n i mode x r → Acted records table old old m n i mode x r
+    pub name-acts : kind ≡ kindNo Name → Named records table m n i mode x r → Acted records table old old m n i mode x r
     unfolding acted
     name-acts e d = by-kind 0 e (λ g. d g old)
 
   -- what is no name, BEGIN, END or comma
-  module _ (a : kind ≡ 0 → ⊥) (b : kind ≡ 19 → ⊥) (c : kind ≡ 20 → ⊥) (d : kind ≡ 9 → ⊥) where
+  module _ (a : kind ≡ kindNo Name → ⊥) (b : kind ≡ kindNo BEGIN → ⊥) (c : kind ≡ kindNo END → ⊥) (d : kind ≡ kindNo Comma → ⊥) where
     abbrev chosen : Bool → Bool → State → State
     chosen t w z = elim t [ true ↦ counted 1 z | false ↦ elim w [ true ↦ turned z | false ↦ z ] ]
 

@@ -6,7 +6,7 @@ use mathlib.Core.List.{List, [], _∷_}
 use native.Mathlib.Omega.{arith}
 use lib.ListN.{length, drop}
 use Rattle.rules.specs.Grammar.Trees.{Tokens}
-use Rattle.table.specs.Holds.{kindByte, tokenAt}
+use Rattle.records.specs.Holds.{kindByte, tokenAt}
 use Rattle.table.specs.Scans.{no as kindOf}
 use Rattle.reading.specs.Kinds.{mode as modeOf}
 use Rattle.reading.specs.Laws.Reading.{kinded, next-token, no-more}

@@ -12,7 +12,7 @@ use Rattle.laws_grammar.specs.Grammar.Positions.{action-writes}
 use Rattle.laws_grammar.specs.Cited.Heads.{headKind}
 use Rattle.laws_code.specs.Cited.Code.{actionSize, firstOf}
 use Rattle.laws_code.specs.Links.Numbers.{size-before}
-use Rattle.table.specs.Holds.{kindByte}
+use Rattle.records.specs.Holds.{kindByte}
 use Rattle.table.specs.Laws.Positions.{here, behind-far}
 use Rattle.ways.specs.Seeking.{Ground, Starts}
 use Rattle.ways.specs.Laws.Forms.{block-is, label-is, first-here, not-kind, action-within, head-byte, head-is, second-within, second-byte, second-is}

@@ -14,7 +14,7 @@ use Rattle.laws_grammar.specs.Grammar.Kinds.{kindAt-kindNo}
 use Rattle.laws_grammar.specs.Cited.Heads.{headKind}
 use Rattle.laws_grammar.specs.Grammar.Heads.{behindHead, action-head, secondKind, a-block, a-label, a-test, a-choice, a-loop, a-leave, a-restart, an-activation, a-stop, a-no-op, a-transfer, namedForm, formOf, Is, view}
 use Rattle.laws_code.specs.Cited.Code.{firstOf}
-use Rattle.table.specs.Holds.{kindByte, Holds}
+use Rattle.records.specs.Holds.{kindByte, Holds}
 use Rattle.table.specs.Laws.Positions.{here, kind-here}
 
 pub kind-of : (k : Kind) (n : ℕ) → kindNo k ≡ n → k ≡ kindAt n

@@ -19,17 +19,18 @@ use Rattle.laws_grammar.specs.Cited.Nesting.{actionNest}
 use Rattle.laws_orders.specs.Cited.Flat.{at, bind}
 use Rattle.laws_code.specs.Cited.Code.{actionSize, firstOf}
 use Rattle.laws_code.specs.Links.Numbers.{size-before}
-use Rattle.table.specs.Holds.{kindByte}
+use Rattle.records.specs.Holds.{kindByte}
 use Rattle.table.specs.Laws.Positions.{here, behind-far}
 use Rattle.table.specs.Laws.Scans.{arrow, past-expression}
 use Rattle.table.specs.Scans.{scan, halts, stops}
 use Rattle.ways.specs.Seeking.{Ground, Seeks, Starts}
 use Rattle.ways.specs.Laws.Seeking.{found-at}
 use Rattle.ways.specs.Laws.Forms.{test-is, loop-is, label-is, kind-of, action-within, head-byte, head-is, second-within, second-byte}
-use Rattle.table.specs.Kept.{LinkPut, InsidePut}
-use Rattle.table.specs.Laws.Kept.{kept-none, kept-then, kept-wide, holds-kept}
+use Rattle.records.specs.Kept.{LinkPut, InsidePut}
+use Rattle.records.specs.Laws.Kept.{kept-none, kept-then, kept-wide, holds-kept}
 use Rattle.ways.specs.Laws.Stack.{labels-none, labels-then, labelled-more}
-use Rattle.ways.specs.Stack.{mostLabels, hintsEnd, Pushed}
+use Rattle.ways.specs.Stack.{Pushed}
+use Rattle.room.specs.Links.{mostLabels, hintsEnd}
 use Rattle.ways.specs.Standing.{ActionAt}
 use Rattle.ways.specs.Laws.Standing.{within, meant-kept, meant-later}
 use Rattle.ways.specs.Prefixes.{prefixed, TestAt, TestPut, TurnAt, TurnPut, Prefixed}

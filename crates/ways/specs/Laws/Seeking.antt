@@ -11,7 +11,7 @@ use Rattle.rules.specs.Grammar.Trees.{Tokens}
 use Rattle.laws_grammar.specs.Grammar.Positions.{Writes}
 use Rattle.laws_code.specs.Cited.Code.{size}
 use Rattle.laws_code.specs.Links.Numbers.{size-before}
-use Rattle.table.specs.Holds.{kindByte}
+use Rattle.records.specs.Holds.{kindByte}
 use Rattle.table.specs.Laws.Positions.{here, kind-here}
 use Rattle.table.specs.Scans.{no, halts, deeper, scan}
 use Rattle.table.specs.Laws.Scans.{scan-found, scan-on, scan-end}

@@ -9,16 +9,17 @@ use native.Mathlib.Omega.{arith}
 use native.Mathlib.Decide.{decLt, ℕ-discrete}
 use lib.ListN.{length}
 use Rattle.cells.specs.Cells.{cell, putCell}
-use Rattle.cells.specs.Laws.{length-put, le-put-same, le-put-below, le-put-above}
+use Rattle.cells.specs.Laws.{length-put, le-put-same, cell-other}
 use Rattle.rules.specs.Text.Scan.{sameBytes}
 use Rattle.rules.specs.Declarations.{Word}
 use Rattle.laws_orders.specs.Cited.Flat.{Link, at, Labels, outer, bind, leaveTo, restartTo}
 use Rattle.laws_code.specs.Cited.Code.{target}
-use Rattle.table.specs.Holds.{linkCell}
-use Rattle.table.specs.Words.{NameAt, wordAt, TwoNames, sameWords}
+use Rattle.records.specs.Holds.{linkCell}
+use Rattle.records.specs.Words.{NameAt, wordAt, TwoNames, sameWords}
 use Rattle.promise.specs.Instructions.{linkNo}
 use Rattle.ways.specs.Seeking.{Ground}
-use Rattle.ways.specs.Stack.{mostLabels, hintsFrom, hintsEnd, hintCell, LabelsKept, LabelsHold, Entered, Pushed, aims, JumpAt, Looking, Labelled, part}
+use Rattle.ways.specs.Stack.{LabelsKept, LabelsHold, Entered, Pushed, aims, JumpAt, Looking, Labelled, part}
+use Rattle.room.specs.Links.{mostLabels, hintsFrom, hintsEnd, hintCell}
 
 pub labels-none : (old : List ℕ) (n : ℕ) → LabelsKept old old n
 labels-none old n = record { long = refl; each = λ j h. refl; hints = λ m c l h k. k }
@@ -47,13 +48,6 @@ labels-kept k g (bind l f q ρ) m h e =
       labels-kept k g ρ (e .0) (omega arith) (e .3),
     )
 
-put-elsewhere : (b : List ℕ) (i v j : ℕ) → (j ≡ i → ⊥) → cell 2 (putCell 2 b i v) j ≡ cell 2 b j
-put-elsewhere b i v j n = by (decLt j i)
-  where
-    by : Dec (j < i) → cell 2 (putCell 2 b i v) j ≡ cell 2 b j
-    by (yes l) = le-put-below 2 2 b (2 * i) v (2 * j) (omega arith)
-    by (no l) = le-put-above 2 2 b (2 * i) v (2 * j) (omega arith)
-
 module _ (a b c d : List ℕ) (n p first link : ℕ) (room : 6 * n + 6 ≤ length a) (h : p < 65536) (i : first < 65536) (j : link < 65536)
     (e : b ≡ putCell 2 a (3 * n) p) (f : c ≡ putCell 2 b (3 * n + 1) first) (g : d ≡ putCell 2 c (3 * n + 2) link) where
   sizes : (length b ≡ length a) × (length c ≡ length a) × (length d ≡ length a)
@@ -63,10 +57,10 @@ module _ (a b c d : List ℕ) (n p first link : ℕ) (room : 6 * n + 6 ≤ lengt
       (x, y, ap length g ∙ (length-put 2 c (2 * (3 * n + 2)) link ∙ y))
 
   above : (k : ℕ) → (k ≡ 3 * n + 2 → ⊥) → cell 2 d k ≡ cell 2 c k
-  above k l = ap (λ (x : List ℕ). cell 2 x k) g ∙ put-elsewhere c (3 * n + 2) link k l
+  above k l = ap (λ (x : List ℕ). cell 2 x k) g ∙ cell-other 2 c (3 * n + 2) link k l
 
   middle : (k : ℕ) → (k ≡ 3 * n + 1 → ⊥) → cell 2 c k ≡ cell 2 b k
-  middle k l = ap (λ (x : List ℕ). cell 2 x k) f ∙ put-elsewhere b (3 * n + 1) first k l
+  middle k l = ap (λ (x : List ℕ). cell 2 x k) f ∙ cell-other 2 b (3 * n + 1) first k l
 
   pub entered : Entered a d n p first link
   entered =
@@ -75,7 +69,7 @@ module _ (a b c d : List ℕ) (n p first link : ℕ) (room : 6 * n + 6 ≤ lengt
         long = s .2;
         others = λ k l.
             above k (λ q. l (omega arith) (omega arith)) ∙ (middle k (λ q. l (omega arith) (omega arith))
-            ∙ (ap (λ (x : List ℕ). cell 2 x k) e ∙ put-elsewhere a (3 * n) p k (λ q. l (omega arith) (omega arith))));
+            ∙ (ap (λ (x : List ℕ). cell 2 x k) e ∙ cell-other 2 a (3 * n) p k (λ q. l (omega arith) (omega arith))));
         is-name =
             above (3 * n) (λ q. omega arith) ∙ (middle (3 * n) (λ q. omega arith)
             ∙ (ap (λ (x : List ℕ). cell 2 x (3 * n)) e ∙ le-put-same 2 a (2 * (3 * n)) p (omega arith) h));
@@ -101,14 +95,14 @@ pushed records {old} {mid} {now} {n} {p} {first} {link} {at} few room x is low h
 }
   where
     others : (j : ℕ) → j < hintsFrom → cell 2 now j ≡ cell 2 mid j
-    others j l = ap (λ (b : List ℕ). cell 2 b j) e ∙ put-elsewhere mid at n j (λ q. omega arith)
+    others j l = ap (λ (b : List ℕ). cell 2 b j) e ∙ cell-other 2 mid at n j (λ q. omega arith)
 
     here : cell 2 now at ≡ n
     here = ap (λ (b : List ℕ). cell 2 b at) e ∙ le-put-same 2 mid (2 * at) n (omega (arith, x .long)) (omega arith)
 
     by : (m c : ℕ) → m ≤ n → m ≤ cell 2 old c → Dec (c ≡ at) → cell 2 mid c ≡ cell 2 old c → m ≤ cell 2 now c
     by m c l k (yes q) z = omega (arith, here, ap (cell 2 now) q)
-    by m c l k (no q) z = omega (arith, ap (λ (b : List ℕ). cell 2 b c) e, put-elsewhere mid at n c q)
+    by m c l k (no q) z = omega (arith, ap (λ (b : List ℕ). cell 2 b c) e, cell-other 2 mid at n c q)
 
 -- one label more
 pub labelled-more : {records old now : List ℕ} {n p f l : ℕ} (g : Ground) (ρ : Labels) (w : Word) (k : Link) → Pushed records old now n p f l → LabelsHold old g n ρ

@@ -8,7 +8,7 @@ use lib.ListN.{length}
 use Rattle.ways.specs.Seeking.{Ground, Starts}
 use Rattle.ways.specs.Laws.Forms.{action-within}
 use Rattle.ways.specs.Laws.Firsts.{first-fits}
-use Rattle.table.specs.Kept.{Kept}
+use Rattle.records.specs.Kept.{Kept}
 use Rattle.ways.specs.Standing.{ActionAt, Meant}
 
 module _ {g : Ground} {records labels : List ℕ} {at link count first depth : ℕ} (v : ActionAt g records labels at link count first depth) where

@@ -17,15 +17,15 @@ use Rattle.laws_grammar.specs.Grammar.Heads.{headInfo, behindHead, action-head}
 use Rattle.laws_grammar.specs.Cited.Nesting.{actionNest, alternativesNest, selectedNest}
 use Rattle.laws_orders.specs.Cited.Flat.{Link, Labels}
 use Rattle.laws_code.specs.Cited.Code.{firstOf}
-use Rattle.table.specs.Holds.{kindByte}
+use Rattle.records.specs.Holds.{kindByte}
 use Rattle.table.specs.Laws.Positions.{here, kind-here}
 use Rattle.table.specs.Scans.{no, separates, halts, stops, deeper, scan}
 use Rattle.table.specs.Laws.Scans.{past-selector}
 use Rattle.ways.specs.Laws.Ends.{end-sought, end-place}
 use Rattle.ways.specs.Seeking.{Ground, Seeks, Starts}
 use Rattle.ways.specs.Laws.Seeking.{found-at, found-within}
-use Rattle.table.specs.Kept.{LinkPut, InsidePut}
-use Rattle.table.specs.Laws.Kept.{kept-then}
+use Rattle.records.specs.Kept.{LinkPut, InsidePut}
+use Rattle.records.specs.Laws.Kept.{kept-then}
 use Rattle.ways.specs.Linked.{AlternativesLinked, SelectedLinked}
 use Rattle.ways.specs.Turns.{Lead, More, Turn, chosen, selecting, other, last, no-lead, counting, turnTokens, moreNest, TurnLinked, moreTokens, LaterLinked, selects, leadTokens, leadEnd, AlternativeAt, Behind-lead, Extends}
 

@@ -10,7 +10,7 @@ use Rattle.rules.specs.Grammar.Precedence.{tightness, Factor}
 use Rattle.rules.specs.Limits.{mostBits, longestText}
 use Rattle.rules.specs.Faults.Bodies.{Judged}
 use Rattle.laws_grammar.specs.Cited.Shunting.{Waiting, looser, settled}
-use Rattle.table.specs.Holds.{tokenAt, kindByte, placeCell}
+use Rattle.records.specs.Holds.{tokenAt, kindByte, placeCell}
 use Rattle.table.specs.Laws.Positions.{kind-here, record-within}
 use Rattle.weighing.specs.Weights.{Weighs, operated}
 use Rattle.weighing.specs.Chains.{WaitsAt, Wait}

@@ -12,8 +12,8 @@ use Rattle.rules.specs.Limits.{mostBits, longestText}
 use Rattle.rules.specs.Faults.Fault.{Fault, fault}
 use Rattle.rules.specs.Faults.Bodies.{Judged, judgedAs, soundBits, over}
 use Rattle.values.specs.Laws.Results.{result-some}
-use Rattle.table.specs.Keys.{key, noKey, leastBy, leastKey, Smalls, none-small, also-small}
-use Rattle.table.specs.Laws.Keys.{by-place, smalls-append, least-bounded, least-append, no-fault}
+use Rattle.keys.specs.Keys.{key, noKey, leastBy, leastKey, Smalls, none-small, also-small}
+use Rattle.keys.specs.Laws.Keys.{by-place, smalls-append, least-bounded, least-append, no-fault}
 use Rattle.weighing.specs.Weights.{Weighs, operated}
 
 -- faults and their least key

@@ -4,7 +4,7 @@ use mathlib.Core.Path.{sym}
 use native.Mathlib.Omega.{arith}
 use lib.ListN.{length-take}
 use lib.Seq.{length-take-le}
-use Rattle.table.specs.Room.{labelsFrom}
+use Rattle.room.specs.Whole.{labelsFrom}
 use Rattle.whole.specs.Laws.Whole.{gathered-in}
 use Rattle.whole.proofs.gather_in.Statement.{statement}
 use Rattle.whole.proofs.gather_in.Tie as tie

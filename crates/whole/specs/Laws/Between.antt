@@ -16,9 +16,9 @@ use Rattle.rules.specs.Whole.Sets.{Sets, touched, mayStop}
 use Rattle.rules.specs.Faults.Fault.{Fault, fault, when}
 use Rattle.rules.specs.Faults.Bodies.{firstPlace}
 use Rattle.rules.specs.Faults.Whole.{Scope, labelled-in, aimsOut, hasMore, racesAny, memberFaults, memberScope, groupFaults, membersOf, alternativesGroups, countedGroups, selectedGroups, moreGroups, mains, beginsChain, chains, bodyGroups, groupsFaults, faults50}
-use Rattle.table.specs.Holds.{tokenAt}
+use Rattle.records.specs.Holds.{tokenAt}
 use Rattle.table.specs.Declarations.{LedBy, nameTokens}
-use Rattle.table.specs.Keys.{noKey, leastBy, leastNumberKey, Smalls, none-small, also-small}
+use Rattle.keys.specs.Keys.{noKey, leastBy, leastNumberKey, Smalls, none-small, also-small}
 use Rattle.laws_orders.specs.Orders.Tests.{impossible}
 use Rattle.reading.specs.Reading.{Reading, tableOf}
 use Rattle.reading.specs.Meanings.{declares}

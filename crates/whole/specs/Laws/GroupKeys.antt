@@ -14,9 +14,9 @@ use Rattle.rules.specs.Grammar.Trees.{Tokens}
 use Rattle.rules.specs.Whole.Sets.{Sets, sets, union, bodySets, member, meet, race}
 use Rattle.rules.specs.Limits.{longestChain}
 use Rattle.rules.specs.Faults.Fault.{fault, when}
-use Rattle.table.specs.Holds.{placeCell, tokenAt}
-use Rattle.table.specs.Keys.{noKey, numberKey, leastNumberKey}
-use Rattle.table.specs.Laws.Keys.{least-append, least-bounded, least-none}
+use Rattle.records.specs.Holds.{placeCell, tokenAt}
+use Rattle.keys.specs.Keys.{noKey, numberKey, leastNumberKey}
+use Rattle.keys.specs.Laws.Keys.{least-append, least-bounded, least-none}
 use Rattle.laws_orders.specs.Orders.Tests.{member-append}
 use Rattle.reading.specs.Kinds.{nextNo}
 use Rattle.reading.specs.Reading.{Reading, tableOf, Kinded}
@@ -123,11 +123,11 @@ module _ {records decls memo : List ℕ} {m n : ℕ} (i : ℕ) (r w : List ℕ) 
 no-onward : (ds : Table) (u : Sets) (ts : Tokens) → (nextNo ts ≡ kindNo Semi → ⊥) → onward ds u ts ≡ []
 unfolding onward
 no-onward ds u [] n = refl
-no-onward ds u (t ∷ ts) n = rw (ne-eqb (number t) 10 n, onward)
+no-onward ds u (t ∷ ts) n = rw (ne-eqb (number t) (kindNo Semi) n, onward)
 
 onward-semi : (ds : Table) (u : Sets) (t : Token) (ts : Tokens) → number t ≡ 10 → onward ds u (t ∷ ts) ≡ membersAt ds u ts
 unfolding onward
-onward-semi ds u t ts e = rw (eq-eqb (number t) 10 e, onward)
+onward-semi ds u t ts e = rw (eq-eqb (number t) (kindNo Semi) e, onward)
 
 -- the members of the group at `from`, up to the one at i
 pub record Comparing (records decls memo : List ℕ) (m n from : ℕ) (r w : List ℕ) (key i : ℕ) : Type 0 where

@@ -10,16 +10,16 @@ use lib.Dec.{eqb}
 use lib.ListN.{length, getElem?, take, drop, length-take, length-drop, drop-of-length-le}
 use lib.Seq.{length-take-le, take-all, drop-at}
 use borrow.Rule.Slice.PartMut.{midOf, putMid, take-put, same-len-mid}
-use Rattle.table.specs.Room.{labelsFrom}
+use Rattle.room.specs.Whole.{labelsFrom, roomSize}
 use Rattle.rules.specs.Text.Tokens.{END, kindNo}
 use Rattle.rules.specs.Grammar.Trees.{Tokens, Action, actionTokens}
 use Rattle.rules.specs.Declarations.{Declared, Table, bodyNumber}
 use Rattle.rules.specs.Faults.Fault.{Fault}
 use Rattle.rules.specs.Faults.Whole.{Scope, groupFaults, bodyGroups, groupsFaults}
 use Rattle.laws_accepted.specs.Accepted.Named.{and-both}
-use Rattle.table.specs.Holds.{kindByte, tokenAt}
-use Rattle.table.specs.Keys.{noKey, numberKey, leastNumberKey}
-use Rattle.table.specs.Laws.Keys.{least-append, least-bounded, least-none}
+use Rattle.records.specs.Holds.{kindByte, tokenAt}
+use Rattle.keys.specs.Keys.{noKey, numberKey, leastNumberKey}
+use Rattle.keys.specs.Laws.Keys.{least-append, least-bounded, least-none}
 use Rattle.reading.specs.Kinds.{closes}
 use Rattle.reading.specs.Reading.{Reading, tableOf, Kinded}
 use Rattle.reading.specs.Laws.Reading.{next-token, no-more}
@@ -69,7 +69,7 @@ module _ {text records decls room : List ℕ} {m n i kind top : ℕ} (x : Faulty
 pub all-labels : (room : List ℕ) → take (length room - labelsFrom) (drop labelsFrom room) ≡ labelsOf room
 all-labels room = take-all (length room - labelsFrom) (drop labelsFrom room) (omega (arith, length-drop labelsFrom room))
 
-pub turned-in : {text records : List ℕ} {n i depth base top depth₁ base₁ top₁ : ℕ} (old new : List ℕ) → 51200 ≤ length old → length new ≡ length
+pub turned-in : {text records : List ℕ} {n i depth base top depth₁ base₁ top₁ : ℕ} (old new : List ℕ) → roomSize ≤ length old → length new ≡ length
     (midOf labelsFrom (length old - labelsFrom) old)
     → Turned text records (midOf labelsFrom (length old - labelsFrom) old) new n i depth base top depth₁ base₁ top₁
     → TurnedIn text records old (putMid labelsFrom (length old - labelsFrom) old new) n i depth base top depth₁ base₁ top₁

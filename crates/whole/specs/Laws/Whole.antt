@@ -8,7 +8,7 @@ use native.Mathlib.Omega.{arith}
 use native.Mathlib.Decide.{decLt}
 use lib.ListN.{length, take, drop}
 use lib.Seq.{take-at, length-take-le, length-front}
-use Rattle.table.specs.Room.{labelsFrom}
+use Rattle.room.specs.Whole.{labelsFrom, roomSize}
 use Rattle.rules.specs.Grammar.Trees.{Action}
 use Rattle.rules.specs.Declarations.{Word, Table, bodyOf}
 use Rattle.rules.specs.Steps.Runs.{bodyAct}
@@ -16,8 +16,8 @@ use Rattle.rules.specs.Whole.Sets.{anyName, callsIn, chainOver}
 use Rattle.rules.specs.Limits.{longestChain}
 use Rattle.rules.specs.Faults.Fault.{when}
 use Rattle.rules.specs.Faults.Whole.{mains, beginsChain, chains, groupsFaults, faults50}
-use Rattle.table.specs.Keys.{noKey, numberKey, leastNumberKey}
-use Rattle.table.specs.Laws.Keys.{least-append, least-bounded, by-number, no-fault}
+use Rattle.keys.specs.Keys.{noKey, numberKey, leastNumberKey}
+use Rattle.keys.specs.Laws.Keys.{least-append, least-bounded, by-number, no-fault}
 use Rattle.laws_accepted.specs.Accepted.Faultless.{when-empty, each-empty}
 use Rattle.laws_accepted.specs.Accepted.Named.{found-body}
 use Rattle.reading.specs.Reading.{Reading, tableOf}
@@ -83,7 +83,7 @@ module _ {records decls : List ℕ} {m n a b first : ℕ} (of50 : (v : Reading r
     told-last e h v = h v ∙ sym (all-three v ∙ omega (arith, least-bounded numberKey (groupsFaults (whole v) (whole v))))
 
 -- the front of the room takes what is gathered
-pub gathered-in : {records decls : List ℕ} {m n : ℕ} (old new : List ℕ) → 51200 ≤ length old → length new ≡ length (take labelsFrom old)
+pub gathered-in : {records decls : List ℕ} {m n : ℕ} (old new : List ℕ) → roomSize ≤ length old → length new ≡ length (take labelsFrom old)
     → Complete records decls new m n
     → Roomy records decls (new ++ drop labelsFrom old) m n
 gathered-in {records} {decls} {m} {n} old new h e c = record {

@@ -12,7 +12,7 @@ use Rattle.rules.specs.Grammar.Precedence.{Index}
 use Rattle.rules.specs.Declarations.{Names as Span-of, BitNames}
 use Rattle.rules.specs.Faults.Fault.{fault}
 use Rattle.rules.specs.Faults.Bodies.{accessJudged}
-use Rattle.table.specs.Keys.{key, noKey}
+use Rattle.keys.specs.Keys.{key, noKey}
 use Rattle.table.specs.declared.views.Names.{Names}
 use Rattle.weighing.specs.Weights.{Weighs}
 use Rattle.accesses.specs.Lengths.{Short, accessLength}

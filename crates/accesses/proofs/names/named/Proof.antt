@@ -14,8 +14,8 @@ use Rattle.rules.specs.Grammar.Precedence.{Index}
 use Rattle.rules.specs.Declarations.{Names as Span-of, BitNames, declaredOf, mainNames}
 use Rattle.rules.specs.Faults.Fault.{fault}
 use Rattle.rules.specs.Faults.Bodies.{accessJudged}
-use Rattle.table.specs.Holds.{placeCell, insideCell}
-use Rattle.table.specs.Keys.{key}
+use Rattle.records.specs.Holds.{placeCell, insideCell}
+use Rattle.keys.specs.Keys.{key}
 use Rattle.table.specs.Meaning.{unknownName, outerOnly}
 use Rattle.table.specs.Bits.{BitsView, bitsSize}
 use Rattle.table.specs.Laws.Bits.{bits-within}

@@ -24,7 +24,7 @@ use Rattle.destinations.specs.Owners.{NameHere, Owns}
 use Rattle.destinations.specs.Laws.Owners.{owner-none, owner-found, owner-bitless, owner-own, owner-storage, owner-under}
 use Rattle.destinations.proofs.owners.owner.Statement.{statement}
 use Rattle.destinations.proofs.owners.owner.Tie as tie
-use Rattle.table.specs.Holds.{insideCell}
+use Rattle.records.specs.Holds.{insideCell}
 
 no-target : (ts : Tokens) (r : ℕ) (g : Option Target) → TargetAt ts r g → r ≡ 0 → g ≡ none
 no-target ts r none a z = refl

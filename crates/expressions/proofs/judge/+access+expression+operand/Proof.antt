@@ -18,13 +18,13 @@ use Rattle.expressions.proofs.judge.+access+expression+operand.Lts-expr
 use Rattle.expressions.proofs.judge.operand.Reads as operand
 use Rattle.expressions.proofs.judge.operand.Kinds as operand-kinds
 use Rattle.expressions.proofs.judge.+access+expression+operand.Lts-operand as operand-lts
-use Rattle.expressions.proofs.judge.behind_nots.Reads as behind-nots-reads
+use Rattle.nots.proofs.behind_nots.Reads as behind-nots-reads
 use Rattle.accesses.proofs.names.named.Reads as named-reads
 use Rattle.weighing.proofs.operators.settle.Reads as settle-reads
 use Rattle.table.proofs.operators.tightness_of.Reads as tightness-of-reads
-use Rattle.table.proofs.keys.earlier.Reads as earlier-reads
-use Rattle.table.proofs.records.kind_at.Reads as kind-at-reads
-use Rattle.table.proofs.records.size_at.Reads as size-at-reads
+use Rattle.keys.proofs.earlier.Reads as earlier-reads
+use Rattle.records.proofs.fields.kind_at.Reads as kind-at-reads
+use Rattle.records.proofs.fields.size_at.Reads as size-at-reads
 use Rattle.expressions.proofs.judge.+access+expression+operand.{statement}
 use Rattle.expressions.proofs.judge.+access+expression+operand.Tie.{close}
 

@@ -15,7 +15,7 @@ use Rattle.reading.proofs.calls.next_call.Reads as next-call-reads
 use Rattle.gathering.proofs.memory.mark_in.Reads as mark-in-reads
 use Rattle.gathering.proofs.memory.nothing.Reads as nothing-reads
 use Rattle.gathering.proofs.memory.remember.Reads as remember-reads
-use Rattle.table.proofs.records.inside_at.Reads as inside-at-reads
+use Rattle.records.proofs.fields.inside_at.Reads as inside-at-reads
 use Rattle.gathering.proofs.touches.touched.Reads as touched-reads
 use Rattle.reading.specs.Laws.Reading.{kinded}
 use Rattle.gathering.specs.Laws.Filling.{fill-unknown, fill-done, fill-bodiless, fill-body, still-carrying, chain-down, some-left, Descending, go-down, descended, call-short, call-name, call-fewer, call-done, token-room, entry-room, few-declared}

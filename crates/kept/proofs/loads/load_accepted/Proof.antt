@@ -5,7 +5,7 @@ use native.Mathlib.Omega.{arith}
 use Prim.Native.Nat.{ℕ, _*_}
 use mathlib.Core.Path.{sym, ap, _∙_}
 use Rattle.rules.specs.Images.{imageSize}
-use Rattle.kept.specs.Kept.{tableOf}
+use Rattle.table.specs.Ready.{tableOf}
 use Rattle.kept.specs.Laws.Cases.{load-60, load-62, load-block, load-sound, judged-refused, judged-fine}
 use Rattle.kept.proofs.loads.load_accepted.Statement.{statement}
 use Rattle.kept.proofs.loads.load_accepted.Tie as tie

@@ -5,8 +5,8 @@ use native.Mathlib.Omega.{arith}
 use mathlib.Core.Path.{ap, _∙_}
 use lib.ListN.{length-take}
 use Rattle.rules.specs.Images.{imageSize}
+use Rattle.table.specs.Ready.{tableOf}
 use Rattle.starts.specs.Laws.Cases.{declines-by, begins-by}
-use Rattle.kept.specs.Kept.{tableOf}
 use Rattle.kept.specs.Laws.Cases.{same-held, taken-declined, taken-done}
 use Rattle.kept.proofs.loads.load_sound.Statement.{statement}
 use Rattle.kept.proofs.loads.load_sound.Tie as tie

@@ -4,8 +4,8 @@ use borrow.Author.Needs.{needs}
 use mathlib.Core.Path.{subst}
 use mathlib.Core.List.{List}
 use Prim.Native.Nat.{ℕ}
+use Rattle.table.specs.Ready.{tableOf}
 use Rattle.starts.specs.Starts.{Starts}
-use Rattle.kept.specs.Kept.{tableOf}
 use Rattle.kept.proofs.loads.start_held.Statement.{statement}
 use Rattle.kept.proofs.loads.start_held.Tie as tie
 

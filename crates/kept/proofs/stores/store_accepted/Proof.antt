@@ -1,9 +1,9 @@
 -- `kept::stores::store_accepted` meets its contract.
 -- Assumes nothing.
 use borrow.Author.Needs.{needs}
+use Rattle.table.specs.Ready.{tableOf}
 use Rattle.starts.specs.Laws.Cases.{declines-by, begins-by}
 use Rattle.kept.specs.Laws.Cases.{store-declined, store-begun, small-carriers}
-use Rattle.kept.specs.Kept.{tableOf}
 use Rattle.kept.proofs.stores.store_accepted.Statement.{statement}
 use Rattle.kept.proofs.stores.store_accepted.Tie as tie
 

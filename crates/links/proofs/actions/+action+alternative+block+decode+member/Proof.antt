@@ -34,7 +34,7 @@ use Rattle.ways.proofs.prefixes.behind_prefixes.Reads as behind-prefixes-reads
 use Rattle.ways.proofs.scans.first_of.Reads as first-of-reads
 use Rattle.ways.proofs.scans.seek.Reads as seek-reads
 use Rattle.ways.proofs.separators.separator.Reads as separator-reads
-use Rattle.table.proofs.records.kind_at.Reads as kind-at-reads
+use Rattle.records.proofs.fields.kind_at.Reads as kind-at-reads
 use Rattle.links.proofs.actions.+action+alternative+block+decode+member.{statement}
 use Rattle.links.proofs.actions.+action+alternative+block+decode+member.Tie.{close}
 

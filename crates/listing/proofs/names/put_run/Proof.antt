@@ -2,7 +2,7 @@
 -- Assumes nothing.
 use borrow.Author.Needs.{needs}
 use Prim.Native.Nat.{_+_, _-_}
-use Rattle.table.specs.Holds.{foldedAt}
+use Rattle.records.specs.Holds.{foldedAt}
 use Rattle.lines.specs.Laws.Appended.{Left}
 use Rattle.listing.proofs.Spelling.{run-starts, run-room, run-less, run-done}
 use Rattle.listing.proofs.names.put_run.Statement.{statement}

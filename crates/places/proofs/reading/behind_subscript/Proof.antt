@@ -6,7 +6,7 @@ use mathlib.Core.Path.{_≡_, refl, sym, ap, _∙_}
 use mathlib.Core.List.{List}
 use Prim.Native.Nat.{ℕ, _+_, _*_, _-_, _<_, _≤_}
 use lib.ListN.{length, drop}
-use Rattle.table.specs.Holds.{kindByte}
+use Rattle.records.specs.Holds.{kindByte}
 use Rattle.places.specs.Tabled.{Tabled}
 use Rattle.places.specs.Laws.Tabled.{few, record-there, kind-there, next-token, no-more}
 use Rattle.places.specs.Brackets.{opened, past}

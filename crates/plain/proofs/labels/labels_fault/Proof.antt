@@ -7,8 +7,8 @@ use mathlib.Core.Path.{_≡_, _∙_}
 use mathlib.Core.List.{List}
 use Prim.Native.Nat.{ℕ, _-_, _*_, _≤_}
 use lib.ListN.{length}
-use Rattle.table.specs.Keys.{noKey}
-use Rattle.stacks.specs.Stacks.{indexEnd}
+use Rattle.keys.specs.Keys.{noKey}
+use Rattle.room.specs.Bodies.{indexEnd}
 use Rattle.plain.specs.Labels.{LabelsView}
 use Rattle.plain.specs.Laws.Passes.{Passing, pass-starts, pass-ends, pass-room, pass-on, pass-label, pass-push, pass-pushed}
 use Rattle.plain.proofs.labels.labels_fault.Statement.{statement}

@@ -8,7 +8,7 @@ use Prim.Native.Nat.{ℕ, _-_, _≤_}
 use Rattle.stacks.specs.Stacks.{Kept}
 use Rattle.stacks.specs.Laws.Kept.{kept-all, kept-then, kept-less}
 use Rattle.plain.specs.Actions.{ActionView}
-use Rattle.choices.specs.Room.{labelCells}
+use Rattle.room.specs.Bodies.{labelCells}
 use Rattle.plain.specs.Prefixes.{Ahead}
 use Rattle.plain.specs.Laws.Prefixes.{ahead-starts, ahead-inside, ahead-first, ahead-second, ahead-loop, ahead-test, ahead-push, ahead-label, ahead-bare}
 use Rattle.plain.proofs.prefixes.prefixes.Statement.{statement}

@@ -6,7 +6,7 @@ use mathlib.Core.Path.{_≡_, sym, ap, _∙_}
 use mathlib.Core.List.{List}
 use Prim.Native.Nat.{ℕ, _+_, _-_, _/_, _%_, _^_, _<_, _≤_}
 use lib.ListN.{length, getD}
-use Rattle.table.specs.Holds.{foldedAt}
+use Rattle.records.specs.Holds.{foldedAt}
 use Rattle.spelling.specs.Trees.{bitOf}
 use Rattle.spelling.specs.Laws.Letters.{letters}
 use Rattle.spelling.proofs.letters.bit_of.Statement.{statement}

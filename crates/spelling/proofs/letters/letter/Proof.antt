@@ -6,7 +6,7 @@ use mathlib.Core.List.{List}
 use Prim.Native.Nat.{ℕ, _+_, _<_, _≤_}
 use lib.ListN.{length, getD}
 use Rattle.rules.specs.Text.Bytes.{fold}
-use Rattle.table.specs.Holds.{foldedAt}
+use Rattle.records.specs.Holds.{foldedAt}
 use Rattle.spelling.specs.Laws.Letters.{letter-at, no-letter}
 use Rattle.spelling.proofs.letters.letter.Statement.{statement}
 use Rattle.spelling.proofs.letters.letter.Tie as tie

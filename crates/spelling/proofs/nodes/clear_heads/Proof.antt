@@ -7,7 +7,8 @@ use mathlib.Core.List.{List}
 use Prim.Native.Nat.{ℕ, _+_, _-_, _<_, _≤_}
 use lib.ListN.{length}
 use Rattle.cells.specs.Cells.{putCell}
-use Rattle.spelling.specs.Trees.{noNode, heads, roomSize}
+use Rattle.spelling.specs.Trees.{noNode}
+use Rattle.room.specs.Spelling.{heads, roomSize}
 use Rattle.spelling.specs.Spelling.{Cleared}
 use Rattle.spelling.specs.Laws.Cells.{none-cleared, cleared-more}
 use Rattle.spelling.proofs.nodes.clear_heads.Statement.{statement}

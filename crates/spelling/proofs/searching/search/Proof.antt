@@ -3,7 +3,7 @@
 use borrow.Author.Needs.{needs}
 use native.Mathlib.Omega.{arith}
 use Prim.Native.Nat.{_+_, _*_, _-_}
-use Rattle.spelling.specs.Trees.{heads}
+use Rattle.room.specs.Spelling.{heads}
 use Rattle.spelling.proofs.Walks.{Inv, in-text, begins, ends-empty, both-names, ends-same, goes-on, closer, record-inside, cell-inside, depth-small}
 use Rattle.spelling.proofs.searching.search.Statement.{statement}
 use Rattle.spelling.proofs.searching.search.Tie as tie

@@ -5,7 +5,7 @@ use mathlib.Core.Path.{_≡_, ap₂, _∙_}
 use mathlib.Core.List.{List}
 use Prim.Native.Nat.{ℕ}
 use lib.Dec.{eqb}
-use Rattle.table.specs.Holds.{linkCell}
+use Rattle.records.specs.Holds.{linkCell}
 use Rattle.spelling.specs.Spelled.{TwoSpelled, spelledAlike}
 use Rattle.spelling.proofs.words.same_spelling.Statement.{statement}
 use Rattle.spelling.proofs.words.same_spelling.Tie as tie

@@ -4,7 +4,7 @@ use borrow.Author.Needs.{needs}
 use native.Mathlib.Omega.{arith}
 use mathlib.Core.Path.{ap, _∙_}
 use Rattle.cells.specs.Cells.{cell}
-use Rattle.table.specs.Holds.{linkCell}
+use Rattle.records.specs.Holds.{linkCell}
 use Rattle.stepping.specs.Laws.Steps.{call-declared, call-body, call-answer}
 use Rattle.stepping.proofs.steps.call_step.Statement.{statement}
 use Rattle.stepping.proofs.steps.call_step.Tie as tie

@@ -7,7 +7,7 @@ use mathlib.Core.List.{List}
 use Prim.Native.Nat.{ℕ, _+_, _<_}
 use lib.ListN.{length}
 use Rattle.rules.specs.Text.Tokens.{Less, kindNo}
-use Rattle.table.specs.Holds.{kindByte}
+use Rattle.records.specs.Holds.{kindByte}
 use Rattle.table.specs.Bits.{BitsView}
 use Rattle.table.specs.Laws.Bits.{seen, bits-within, size-open, size-none, size-unnamed, size-pair, size-single}
 use Rattle.table.proofs.views.bits_size.Statement.{statement}

@@ -10,7 +10,7 @@ use Rattle.rules.specs.Faults.Fault.{fault}
 use Rattle.rules.specs.Faults.Bodies.{Judged}
 use Rattle.values.specs.Operators.{opAt}
 use Rattle.values.specs.Laws.Operators.{opAt-kind}
-use Rattle.table.specs.Keys.{key, noKey}
+use Rattle.keys.specs.Keys.{key, noKey}
 use Rattle.weighing.specs.Weights.{Weighs, operated}
 use Rattle.weighing.specs.Laws.Weights.{operated-unsound, operated-long, operated-short}
 use Rattle.weighing.proofs.operators.combined.Statement.{statement}

@@ -9,7 +9,7 @@ use lib.ListN.{length, getD}
 use Rattle.rules.specs.Text.Tokens.{Info, Op, opKind, kindNo}
 use Rattle.rules.specs.Grammar.Precedence.{Factor, tightness}
 use Rattle.rules.specs.Faults.Bodies.{Judged, judgedAs}
-use Rattle.table.specs.Holds.{kindByte, placeCell}
+use Rattle.records.specs.Holds.{kindByte, placeCell}
 use Rattle.table.specs.Operators.{tightnessAt}
 use Rattle.table.specs.Laws.Operators.{tightness-at}
 use Rattle.weighing.specs.Weights.{Weighs, operated}

@@ -3,7 +3,7 @@ use borrow.Author.Needs.{needs}
 use mathlib.Core.Path.{sym}
 use native.Mathlib.Omega.{arith}
 use lib.Seq.{length-take-le}
-use Rattle.table.specs.Room.{labelsFrom}
+use Rattle.room.specs.Whole.{labelsFrom}
 use Rattle.whole.specs.Laws.Written.{reading, worded}
 use Rattle.whole.specs.Laws.WalkKeys.{memo-room, all-labels, fault-group, told-group, fault-jump, told-nothing}
 use Rattle.whole.proofs.walks.fault_at.Statement.{statement}

@@ -1,0 +1,3 @@
+-- The laws of a list that is compared with a run.
+pub mod Laid
+pub mod Traced

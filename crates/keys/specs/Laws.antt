@@ -1,0 +1,2 @@
+-- The laws of the keys of faults.
+pub mod Keys

@@ -1,0 +1,2 @@
+-- The laws of NOTs.
+pub mod Nots

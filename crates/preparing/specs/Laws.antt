@@ -1,0 +1,3 @@
+-- The laws of an accepted description's run.
+pub mod Prepared
+pub mod Outcome

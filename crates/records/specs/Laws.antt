@@ -1,0 +1,3 @@
+-- The laws of records and words.
+pub mod Words
+pub mod Kept

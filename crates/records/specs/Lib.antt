@@ -1,0 +1,4 @@
+pub mod Holds
+pub mod Words
+pub mod Kept
+pub mod Laws

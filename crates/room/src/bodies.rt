@@ -1,0 +1,9 @@
+// While bodies are judged: the names around an action, one cell each; from STARTS on the starts of alternatives, STARTS_SIZE for each open DECODE, as many as
+// are compared; and from INDEX on the index of the names, a cell for each spelling.
+use rules::limits::MOST_ALTERNATIVES;
+
+pub const STARTS: usize = 8192;
+
+pub const STARTS_SIZE: usize = MOST_ALTERNATIVES;
+
+pub const INDEX: usize = 10240;

@@ -1,0 +1,7 @@
+// While paths are walked: the flags, of which there are as many as stand before FRAMES; from FRAMES on six cells for each open BEGIN; from LABELS on two for
+// each label around an action; and from HINTS on the hints, a cell for each spelling.
+pub const FRAMES: usize = 64;
+
+pub const LABELS: usize = 256;
+
+pub const HINTS: usize = 16640;
