@@ -425,38 +425,52 @@ static void long_labels(void)
     finish();
 }
 
-/* Labels up to half of all tokens behind what comes before them, and LEAVEs of the first below them. */
-static void leaves_below(const char *before, unsigned before_count, unsigned first, const char *leave, unsigned leave_count, const char *after, unsigned after_count)
+/* Labels up to half of all tokens. */
+static void labels_to_the_half(unsigned first)
 {
-    start();
-    add(before, before_count);
     for (unsigned i = first; tokens < MOST_TOKENS / 2; i++)
         add_with("L%x:=", i, 2);
+}
+
+/* A block of LEAVEs below them, and the ends around it. */
+static void leaves(const char *leave, unsigned count)
+{
     add("BEGIN ", 1);
-    add_until_full(leave, leave_count);
-    add(after, after_count);
+    add_until_full(leave, count);
+    add("NO.OP() END END END", 6);
 }
 
 static void leaves_below_labels(void)
 {
-    leaves_below("", 0, 0, "LEAVE L0 NEXT ", 3, "NO.OP() END END END", 6);
+    start();
+    labels_to_the_half(0);
+    leaves("LEAVE L0 NEXT ", 3);
 }
 
 static void leaves_in_a_member(void)
 {
-    leaves_below("NO.OP();", 4, 0, "LEAVE L0 NEXT ", 3, "NO.OP() END END END", 6);
+    start();
+    add("NO.OP();", 4);
+    labels_to_the_half(0);
+    leaves("LEAVE L0 NEXT ", 3);
 }
 
 /* Each of them is reached. */
 static void leaves_behind_tests(void)
 {
-    leaves_below("", 0, 0, "IF A=>LEAVE L0 NEXT ", 6, "NO.OP() END END END", 6);
+    start();
+    labels_to_the_half(0);
+    leaves("IF A=>LEAVE L0 NEXT ", 6);
 }
 
 /* The label that they leave is around the member: each is a fault, and the first counts. */
 static void leaves_out_of_a_member(void)
 {
-    leaves_below("L0:=BEGIN NO.OP();", 7, 1, "LEAVE L0 NEXT ", 3, "NO.OP() END END END END", 7);
+    start();
+    add("L0:=BEGIN NO.OP();", 7);
+    labels_to_the_half(1);
+    leaves("LEAVE L0 NEXT ", 3);
+    add(" END", 1);
 }
 
 /* ---- Selectors ---- */
