@@ -1,2 +1,3 @@
 -- The laws of the runner.
 pub mod Runs
+pub mod Turns

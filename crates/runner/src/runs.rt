@@ -1,6 +1,7 @@
 // The run from left to right, with a budget of steps.
+use crate::turns::Turned;
+use crate::turns::onward;
 use rules::limits::LONGEST_CHAIN;
-use stepping::steps::Moved;
 use stepping::steps::step;
 ghost use Prim.Native.Nat.{_≤_};
 ghost use lib.ListN.{length};
@@ -34,33 +35,21 @@ pub fn run(
     let mut steps: u32 = 0;
     while steps < budget {
         let moved = step(records, values, decls, carriers, scratch, at);
-        match moved {
-            Moved::Fault(number, place) => {
+        let turned = onward(&mut stack, depth, moved);
+        match turned {
+            Turned::Fault(number, place) => {
                 return Ended::Fault(number, place, steps);
             }
-            Moved::Stop => {
+            Turned::Stop => {
                 return Ended::Stopped(steps + 1);
             }
-            Moved::Call(first, behind) => {
-                steps += 1;
-                at = first;
-                if behind == 0 {
-                    continue;
-                }
-                stack[depth] = behind;
-                depth += 1;
+            Turned::Over => {
+                return Ended::Done(steps + 1);
             }
-            Moved::Go(next) => {
+            Turned::At(next, high) => {
                 steps += 1;
-                if next != 0 {
-                    at = next;
-                    continue;
-                }
-                if depth == 0 {
-                    return Ended::Done(steps);
-                }
-                depth -= 1;
-                at = stack[depth];
+                at = next;
+                depth = high;
             }
         }
     }

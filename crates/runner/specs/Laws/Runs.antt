@@ -10,7 +10,7 @@ use lib.Seq.{getD-set-same, getD-set-other}
 use Rattle.rules.specs.Declarations.{Table, totalWords}
 use Rattle.rules.specs.Steps.Evaluation.{Carriers, Outcome, gives, faulty}
 use Rattle.rules.specs.Steps.Runs.{Worked, perform, Run, runWith, done, halted, faulted, run}
-use Rattle.laws_orders.specs.Cited.Flat.{Code, At, pc, over, halt, broken, return, nextM, workM, Machine, runs, ended, stood, broke, put, putAfter, stepM}
+use Rattle.laws_orders.specs.Cited.Flat.{Code, At as Control, pc, over, halt, broken, return, nextM, workM, Machine, runs, ended, stood, broke, put, putAfter, stepM}
 use Rattle.laws_orders.specs.Orders.Flat.{runM}
 use Rattle.laws_orders.specs.Orders.Simulate.{machine-agrees}
 use Rattle.laws_orders.specs.Orders.Places.{Place, place-first, place-next, place-stack}
@@ -21,7 +21,10 @@ use Rattle.runner.specs.declared.runs.Ended.the-variants.{Done, Stopped,
 use Rattle.stepping.specs.declared.steps.Moved.{Moved}
 use Rattle.stepping.specs.declared.steps.Moved.the-variants.{Go, Call, Stop, Fault}
 use Rattle.stepping.specs.Steps.{returning, control, Keeps, StepAt, StepAnswer}
+use Rattle.runner.specs.declared.turns.Turned.{Turned}
+use Rattle.runner.specs.declared.turns.Turned.the-variants.{At, Over, Stop as Standing, Fault as Faulty}
 use Rattle.runner.specs.Runs.{stackOf, RunAt, RunAnswer}
+use Rattle.runner.specs.Turns.{turnedTo, Room, Turns}
 
 -- THE STACK
 pub stack-length : (links : List ℕ) (d : ℕ) → length (stackOf links d) ≡ d
@@ -49,6 +52,10 @@ unfolding stackOf
 popped links zero n = absurd (n refl)
 popped links (suc d) n = let less : suc d - 1 ≡ d = omega arith in ap (λ k. pc (getD links k 0) (stackOf links k)) (sym less)
 
+pub pushes : (b : ℕ) (σ : List ℕ) → (b ≡ 0 → ⊥) → returning b σ ≡ b ∷ σ
+pushes zero σ z = absurd (z refl)
+pushes (suc b) σ z = refl
+
 -- A STEP of the machine's run
 abbrev onwardM : Table → Code → ℕ → ℕ → Machine → Run
 onwardM ds C b k m =
@@ -63,15 +70,24 @@ step-onward : (ds : Table) (C : Code) (b k n : ℕ) (σ : List ℕ) (s : Carrier
 unfolding runM
 step-onward ds C b k n σ s m e = ap (onwardM ds C b k) e
 
-from-put : (s u t : Carriers) (x : At) (n : ℕ) (σ : List ℕ) → put s u x ≡ runs n σ t → x ≡ pc n σ
+from-put : (s u t : Carriers) (x : Control) (n : ℕ) (σ : List ℕ) → put s u x ≡ runs n σ t → x ≡ pc n σ
 from-put s u t (pc m τ) n σ e = cc
 from-put s u t over n σ e = absurd (let z : _≡_ {A = ℕ} 0 1 = cc in omega arith)
 from-put s u t halt n σ e = absurd (let z : _≡_ {A = ℕ} 0 1 = cc in omega arith)
 from-put s u t (broken m p) n σ e = absurd (let z : _≡_ {A = ℕ} 0 1 = cc in omega arith)
 
-from-after : (s t : Carriers) (f : ℕ → At) (o : Outcome Worked) (n : ℕ) (σ : List ℕ) → putAfter s f o ≡ runs n σ t → (v : ℕ) × (f v ≡ pc n σ)
+from-after : (s t : Carriers) (f : ℕ → Control) (o : Outcome Worked) (n : ℕ) (σ : List ℕ) → putAfter s f o ≡ runs n σ t → (v : ℕ) × (f v ≡ pc n σ)
 from-after s t f (gives w) n σ e = (w .number, from-put s (w .carriers) t (f (w .number)) n σ e)
 from-after s t f (faulty m p) n σ e = absurd (let z : _≡_ {A = ℕ} 0 1 = cc in omega arith)
+
+-- just a fault leads to a fault, and there the carriers are kept
+faulted-kept : {before after : List ℕ} (r : Moved) (σ : List ℕ) {m p : ℕ} → Keeps r before after → control r σ ≡ broken m p → after ≡ before
+faulted-kept (Go zero) [] k e = absurd (let z : _≡_ {A = ℕ} 0 1 = cc in omega arith)
+faulted-kept (Go zero) (n ∷ σ) k e = absurd (let z : _≡_ {A = ℕ} 0 1 = cc in omega arith)
+faulted-kept (Go (suc n)) σ k e = absurd (let z : _≡_ {A = ℕ} 0 1 = cc in omega arith)
+faulted-kept (Call f b) σ k e = absurd (let z : _≡_ {A = ℕ} 0 1 = cc in omega arith)
+faulted-kept Stop σ k e = absurd (let z : _≡_ {A = ℕ} 0 1 = cc in omega arith)
+faulted-kept (Fault m p) σ k e = k
 
 -- THE LOOP: at an instruction, with a stack, the machine has the rest of the run to do
 pub record Running {records values decls before : List ℕ} {start : ℕ} (v : RunAt records values decls before start) (budget : ℕ) (carriers σ : List ℕ) (at steps : ℕ) : Type 0 where
@@ -144,30 +160,8 @@ module _ {records values decls before : List ℕ} {start : ℕ} (v : RunAt recor
       goes-on = sym (g .same) ∙ ap (λ b. runM (v .table) (v .code) b steps at σ now-words) one-left
           ∙ step-onward (v .table) (v .code) (budget - (steps + 1)) steps at σ now-words _ comes
 
-      pub faults-there : {m p : ℕ} → r ≡ Fault m p → RunAnswer v budget after (Broken m p steps)
-      unfolding step-at
-      faults-there {m} {p} e =
-          let k : after ≡ carriers = subst (λ r. Keeps r carriers after) e (told step-at .kept) in
-          record {
-            same = goes-on ∙ ap (λ r. onwardM (v .table) (v .code) (budget - (steps + 1)) steps (put now-words after-words (control r σ))) e
-                ∙ ap (λ c. runWith (faulted m p) steps (carrierWords (totalWords (v .table)) c)) (sym k);
-          }
-
-      pub stops-there : r ≡ Stop → RunAnswer v budget after (Stopped (steps + 1))
-      stops-there e = record {
-        same = goes-on ∙ ap (λ r. onwardM (v .table) (v .code) (budget - (steps + 1)) steps (put now-words after-words (control r σ))) e
-            ∙ ap (λ k. runWith halted k after-words) (sym (add-one steps));
-      }
-
-      pub ends-there : {n : ℕ} → r ≡ Go n → n ≡ 0 → σ ≡ [] → RunAnswer v budget after (Done (steps + 1))
-      ends-there q n₀ z = record {
-        same = goes-on ∙ ap (λ r. onwardM (v .table) (v .code) (budget - (steps + 1)) steps (put now-words after-words (control r σ))) (q ∙ ap Go n₀)
-            ∙ ap (λ τ. onwardM (v .table) (v .code) (budget - (steps + 1)) steps (put now-words after-words (return τ))) z
-            ∙ ap (λ k. runWith done k after-words) (sym (add-one steps));
-      }
-
       -- control is at another instruction
-      pub runs-on : {n : ℕ} {τ : List ℕ} → control r σ ≡ pc n τ → Running v budget after τ n (steps + 1)
+      runs-on : {n : ℕ} {τ : List ℕ} → control r σ ≡ pc n τ → Running v budget after τ n (steps + 1)
       runs-on {n} {τ} e =
           let w = from-after now-words after-words (nextM (v .code) (v .code .instr at) σ) (perform (v .table) (workM (v .code .instr at)) now-words) n τ
           (comes ∙ ap (put now-words after-words) e) in
@@ -180,25 +174,9 @@ module _ {records values decls before : List ℕ} {start : ℕ} (v : RunAt recor
                 ∙ sym (goes-on ∙ ap (λ x. onwardM (v .table) (v .code) (budget - (steps + 1)) steps (put now-words after-words x)) e);
           }
 
-      pub call-last : {f b : ℕ} → r ≡ Call f b → b ≡ 0 → Running v budget after σ f (steps + 1)
-      call-last {f} e z = runs-on (ap (λ r. control r σ) e ∙ ap (λ b. pc f (returning b σ)) z)
-
-      pub call-more : {f b : ℕ} → r ≡ Call f b → (b ≡ 0 → ⊥) → Running v budget after (b ∷ σ) f (steps + 1)
-      call-more {f} {b} e z = runs-on (ap (λ r. control r σ) e ∙ ap (pc f) (pushes b z))
-        where
-          pushes : (b : ℕ) → (b ≡ 0 → ⊥) → returning b σ ≡ b ∷ σ
-          pushes zero z = absurd (z refl)
-          pushes (suc b) z = refl
-
-      pub goes-there : {n : ℕ} → r ≡ Go n → (n ≡ 0 → ⊥) → Running v budget after σ n (steps + 1)
-      goes-there {n} e z = runs-on (ap (λ r. control r σ) e ∙ goes n z)
-        where
-          goes : (n : ℕ) → (n ≡ 0 → ⊥) → control (Go n) σ ≡ pc n σ
-          goes zero z = absurd (z refl)
-          goes (suc n) z = refl
-
-      pub goes-back : {n m : ℕ} {τ : List ℕ} → r ≡ Go n → n ≡ 0 → return σ ≡ pc m τ → Running v budget after τ m (steps + 1)
-      goes-back e z q = runs-on (ap (λ r. control r σ) (e ∙ ap Go z) ∙ q)
+      -- an activation that leaves a return address
+      calls-on : (f b : ℕ) → r ≡ Call f b → (b ≡ 0 → ⊥) → Running v budget after (b ∷ σ) f (steps + 1)
+      calls-on f b e z = runs-on (ap (λ r. control r σ) e ∙ ap (pc f) (pushes b σ z))
 
     pub pauses : budget ≤ steps → steps ≤ budget → RunAnswer v budget carriers (Paused steps)
     unfolding runM
@@ -208,13 +186,39 @@ module _ {records values decls before : List ℕ} {start : ℕ} (v : RunAt recor
   unfolding stackOf
   run-begins links = run-starts
 
-  module _ (links : List ℕ) (depth : ℕ) {carriers : List ℕ} {at steps : ℕ} where
-    pub stack-room : Running v budget carriers (stackOf links depth) at steps → length carriers ≡ length before → depth ≤ 16
-    stack-room g long = omega (arith, short g long, stack-length links depth)
+  -- the return address of a step finds room
+  pub turn-room : {carriers : List ℕ} {at steps : ℕ} (links : List ℕ) (depth : ℕ) → Running v budget carriers (stackOf links depth) at steps → length carriers ≡ length before
+      → steps < budget → {after : List ℕ} {r : Moved} → ((u : StepAt records values decls carriers at) → StepAnswer u after r) → length after ≡ length carriers → length links ≡ 16
+      → Room links r depth
+  turn-room links depth g long more told same size = record {
+    long = size;
+    high = omega (arith, short g long, stack-length links depth);
+    more = λ f k e z. omega (arith, short (calls-on g long more told f k e z) (same ∙ long), stack-length links depth);
+  }
 
-    module _ {b : ℕ} (g : Running v budget carriers (b ∷ stackOf links depth) at steps) (long : length carriers ≡ length before) where
-      pub push-room : depth < 16
-      push-room = omega (arith, short g long, stack-length links depth)
+  -- a turn, by where control is then
+  module _ {links : List ℕ} {depth : ℕ} {carriers : List ℕ} {at steps : ℕ} (g : Running v budget carriers (stackOf links depth) at steps) (long : length carriers ≡ length before)
+      (more : steps < budget) {after : List ℕ} {r : Moved} (told : (u : StepAt records values decls carriers at) → StepAnswer u after r) {stack : List ℕ} {t : Turned}
+      (turns : Turns links r depth stack t) where
+    control-is : {u : Turned} → t ≡ u → control r (stackOf links depth) ≡ turnedTo u stack
+    control-is e = sym (turns .to) ∙ ap (λ t. turnedTo t stack) e
 
-      pub pushed : length links ≡ 16 → Running v budget carriers (stackOf (set links depth b) (depth + 1)) at steps
-      pushed l = subst (λ σ. Running v budget carriers σ at steps) (sym (stack-pushed links b depth (omega (arith, push-room)))) g
+    comes-to : (u : Turned) → t ≡ u → run (v .table) (v .main) budget words₀ ≡ onwardM (v .table) (v .code) (budget - (steps + 1)) steps
+        (put (carrierWords (totalWords (v .table)) carriers) (carrierWords (totalWords (v .table)) after) (turnedTo u stack))
+    comes-to u e = goes-on g long more told ∙ ap (λ x. onwardM (v .table) (v .code) (budget - (steps + 1)) steps (put (carrierWords (totalWords (v .table)) carriers)
+        (carrierWords (totalWords (v .table)) after) x)) (control-is e)
+
+    pub faults-there : {m p : ℕ} → t ≡ Faulty m p → RunAnswer v budget after (Broken m p steps)
+    unfolding step-at
+    faults-there {m} {p} e =
+        let k : after ≡ carriers = faulted-kept r (stackOf links depth) (told (step-at g long) .kept) (control-is e) in
+        record { same = comes-to (Faulty m p) e ∙ ap (λ c. runWith (faulted m p) steps (carrierWords (totalWords (v .table)) c)) (sym k) }
+
+    pub stops-there : t ≡ Standing → RunAnswer v budget after (Stopped (steps + 1))
+    stops-there e = record { same = comes-to Standing e ∙ ap (λ k. runWith halted k (carrierWords (totalWords (v .table)) after)) (sym (add-one steps)) }
+
+    pub ends-there : t ≡ Over → RunAnswer v budget after (Done (steps + 1))
+    ends-there e = record { same = comes-to Over e ∙ ap (λ k. runWith done k (carrierWords (totalWords (v .table)) after)) (sym (add-one steps)) }
+
+    pub goes-there : {n d : ℕ} → t ≡ At n d → Running v budget after (stackOf stack d) n (steps + 1)
+    goes-there e = runs-on g long more told (control-is e)
