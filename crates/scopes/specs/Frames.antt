@@ -45,6 +45,12 @@ pub record Surrounding (labels : List ℕ) (depth limit base top : ℕ) : Type 0
   pub outermost : depth ≡ 0 → (base ≡ limit + 1) × (top ≡ limit)
   pub inside : (depth ≡ 0 → ⊥) → (base ≡ cell 2 labels (scopeCell depth)) × (top ≡ cell 2 labels (scopeCell depth + 1))
 
+-- a scope without labels
+pub record Fresh (depth top depth₁ base₁ top₁ : ℕ) : Type 0 where
+  pub depth-is : depth₁ ≡ depth
+  pub base-is : base₁ ≡ top
+  pub top-is : top₁ ≡ top
+
 -- whether the group that begins behind the token i, of this kind, has two members or more
 pub record Told (records : List ℕ) (n i kind : ℕ) (several : Bool) : Type 0 where
   pub tells : (v : Kinded records n) → opens kind ≡ true → several ≡ more (drop (i + 1) (v .tokens))

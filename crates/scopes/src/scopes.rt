@@ -11,10 +11,10 @@ use rules::kinds::END;
 use rules::kinds::NEXT;
 use rules::kinds::SEMI;
 ghost use mathlib.Core.Path.{_≡_};
-ghost use Prim.Native.Nat.{_<_, _≤_};
+ghost use Prim.Native.Nat.{_-_, _<_, _≤_};
 ghost use lib.ListN.{length};
 ghost use Rattle.room.specs.Whole.{labelsSize};
-ghost use Rattle.scopes.specs.Frames.{FramePushed, Surrounding, Opened, Followed, Turning, Turned};
+ghost use Rattle.scopes.specs.Frames.{FramePushed, Surrounding, Opened, Followed, Turning, Turned, Fresh};
 
 // How many blocks are open, and where the labels of the scope begin and end; where they end before they begin there is no scope.
 pub struct Nest {
@@ -73,17 +73,37 @@ fn surrounding(labels: &[u8], depth: usize, top: usize) -> Nest
     }
 }
 
+// A scope without labels.
+fn fresh(depth: usize, top: usize) -> Nest
+    ensures { λ r. ⌜ Fresh depth top (r .depth) (r .base) (r .top) ⌝ }
+{
+    Nest {
+        depth,
+        base: top,
+        top,
+    }
+}
+
+// Behind an END.
+fn closed(labels: &[u8], depth: usize, top: usize) -> Nest
+    requires { ⌜ (labelsSize ≤ length (now labels)) × ((0 < depth) × ((depth < 8192) × (top < 65536))) ⌝ }
+    ensures { λ r. ⌜ (r .depth ≡ depth - 1) × Surrounding (now (labels .entry)) depth top (r .base) (r .top) ⌝ }
+{
+    let around = surrounding(labels, depth, top);
+    Nest {
+        depth: depth - 1,
+        base: around.base,
+        top: around.top,
+    }
+}
+
 // Behind a NEXT.
 fn next_group(labels: &[u8], several: bool, depth: usize, top: usize) -> Nest
     requires { ⌜ (labelsSize ≤ length (now labels)) × ((depth < 8192) × (top < 65536)) ⌝ }
     ensures { λ r. ⌜ Followed several (now (labels .entry)) depth top (r .depth) (r .base) (r .top) ⌝ }
 {
     if several {
-        return Nest {
-            depth,
-            base: top,
-            top,
-        };
+        return fresh(depth, top);
     }
     surrounding(labels, depth, top)
 }
@@ -108,19 +128,10 @@ pub fn turn(
         return opened(labels, several, depth, base, top);
     }
     if kind == END {
-        let around = surrounding(labels, depth, top);
-        return Nest {
-            depth: depth - 1,
-            base: around.base,
-            top: around.top,
-        };
+        return closed(labels, depth, top);
     }
     if kind == SEMI {
-        return Nest {
-            depth,
-            base: top,
-            top,
-        };
+        return fresh(depth, top);
     }
     if kind == NEXT {
         return next_group(labels, several, depth, top);

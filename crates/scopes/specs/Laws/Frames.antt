@@ -23,7 +23,7 @@ use Rattle.scopes.specs.Laws.Walks.{walk-begin, walk-end, walk-semi, wal
 use Rattle.room.specs.Whole.{scopesEnd, scopeCell, openedCell, labelsSize}
 use Rattle.scopes.specs.Labels.{Labelled, Scoped, namesFrom, Pushed}
 use Rattle.scopes.specs.Laws.Labels.{by-kinds, scope-kept}
-use Rattle.scopes.specs.Frames.{Frames, no-frames, frame, FramePushed, Surrounding, Turning, Opened, GroupBase, Followed, NextGroup, Stack, Turned, Standing, Onward}
+use Rattle.scopes.specs.Frames.{Frames, no-frames, frame, FramePushed, Surrounding, Turning, Opened, GroupBase, Followed, NextGroup, Stack, Turned, Standing, Onward, Fresh}
 
 frames-kept : {ts : Tokens} {old new : List ℕ} {depth limit : ℕ} {σ : List Scope} → depth ≤ 8192 → ((j : ℕ) → j < limit → cell 2 new j ≡ cell 2 old j)
     → ((j : ℕ) → scopeCell depth ≤ j → j < scopesEnd → cell 2 new j ≡ cell 2 old j) → Frames ts old depth limit σ → Frames ts new depth limit σ
@@ -98,6 +98,9 @@ module _ {text records labels : List ℕ} {n i kind : ℕ} {several : Bool} {dep
   pub to-read : (labelsSize ≤ length labels) × ((depth < 8192) × (top < 65536))
   to-read = (x .stack .space, (omega (arith, x .few), omega (arith, x .few)))
 
+  pub to-close : kind ≡ kindNo END → (labelsSize ≤ length labels) × ((0 < depth) × ((depth < 8192) × (top < 65536)))
+  to-close e = (x .stack .space, (omega (arith, x .inner e), (omega (arith, x .few), omega (arith, x .few))))
+
   pub to-open : (labelsSize ≤ length labels) × ((depth < 8192) × ((base < 65536) × (top < 65536)))
   to-open = (x .stack .space, (omega (arith, x .few), (omega (arith, x .few, x .stack .edge), omega (arith, x .few))))
 
@@ -112,8 +115,8 @@ module _ {several : Bool} {old new : List ℕ} {depth base top : ℕ} (p : Frame
   opened-one e = record { pushed = p; deeper = refl; same = refl; scope = subst (λ (c : Bool). GroupBase c base top base) (sym e) refl }
 
 module _ {several : Bool} (labels : List ℕ) {depth limit : ℕ} where
-  pub followed-more : several ≡ true → Followed several labels depth limit depth limit limit
-  followed-more e = record { same = refl; group = subst (λ (c : Bool). NextGroup c labels depth limit limit limit) (sym e) (refl, refl) }
+  pub followed-more : {depth₁ base₁ top₁ : ℕ} → several ≡ true → Fresh depth limit depth₁ base₁ top₁ → Followed several labels depth limit depth₁ base₁ top₁
+  followed-more {base₁ = base₁} {top₁} e f = record { same = f .depth-is; group = subst (λ (c : Bool). NextGroup c labels depth limit base₁ top₁) (sym e) (f .base-is, f .top-is) }
 
   pub followed-one : {depth₁ base₁ top₁ : ℕ} → several ≡ false → depth₁ ≡ depth → Surrounding labels depth limit base₁ top₁
       → Followed several labels depth limit depth₁ base₁ top₁
@@ -178,8 +181,8 @@ module _ {text records old : List ℕ} {n i kind : ℕ} {several : Bool} {depth 
           };
     })
 
-    pub turned-end : kind ≡ kindNo END → Turned text records old old n i depth base top (depth - 1) base₁ top₁
-    turned-end e = record {
+    pub turned-end : {depth₁ : ℕ} → kind ≡ kindNo END → depth₁ ≡ depth - 1 → Turned text records old old n i depth base top depth₁ base₁ top₁
+    turned-end e d = rw d (record {
       stack = around-stack;
       grown = omega (arith, around-lower);
       on = λ ds v σ s z.
@@ -190,14 +193,14 @@ module _ {text records old : List ℕ} {n i kind : ℕ} {several : Bool} {depth 
             standing = record { scoped = y .scoped; frames = y .outer };
             walks = from-here ds v σ s ∙ walk-end ds σ s _ _ _ (kind-here v e) (inner-open (x .inner e) (z .frames));
           };
-    }
+    })
 
   -- a scope without labels
   fresh-stack : Stack records old n top top
   fresh-stack = record { labelled = x .stack .labelled; edge = omega arith; space = x .stack .space }
 
-  pub turned-semi : kind ≡ kindNo Semi → Turned text records old old n i depth base top depth top top
-  turned-semi e = record {
+  pub turned-semi : {depth₁ base₁ top₁ : ℕ} → kind ≡ kindNo Semi → Fresh depth top depth₁ base₁ top₁ → Turned text records old old n i depth base top depth₁ base₁ top₁
+  turned-semi e f = rw (f .depth-is, f .base-is, f .top-is) (record {
     stack = fresh-stack;
     grown = omega arith;
     on = λ ds v σ s z. record {
@@ -206,7 +209,7 @@ module _ {text records old : List ℕ} {n i kind : ℕ} {several : Bool} {depth 
       standing = record { scoped = scoped-empty refl; frames = z .frames };
       walks = from-here ds v σ s ∙ walk-semi ds σ s _ _ _ (kind-here v e);
     };
-  }
+  })
 
   pub turned-next : {depth₁ base₁ top₁ : ℕ} → kind ≡ kindNo NEXT → Followed several old depth top depth₁ base₁ top₁
       → Turned text records old old n i depth base top depth₁ base₁ top₁

@@ -6,4 +6,4 @@ use Rattle.scopes.proofs.scopes.next_group.Tie as tie
 
 pub next-group-spec : {M : Type 1} → statement M
 next-group-spec =
-    tie.close (tie.spec (λ c. search (needs, followed-more)) (λ c κs. search needs) (λ c. search (needs, followed-one)))
+    tie.close (tie.spec (λ c κs. search needs) (λ c. search (needs, followed-more)) (λ c κs. search needs) (λ c. search (needs, followed-one)))
