@@ -3,7 +3,7 @@
 use Prim.Native.Nat.{ℕ, _≤_}
 use mathlib.Core.Path.{_≡_}
 use mathlib.Core.List.{List, [], _∷_}
-use lib.ListN.{length, getD}
+use lib.ListN.{length, getD, set}
 use Rattle.rules.specs.Text.Tokens.{opKind, kindNo}
 use Rattle.rules.specs.Grammar.Precedence.{Expr}
 use Rattle.rules.specs.Values.{value}
@@ -44,3 +44,9 @@ pub record SettleAt (ops numbers lengths : List ℕ) (count b n tight : ℕ) : T
 pub record Settles {ops numbers lengths : List ℕ} {count₀ b₀ n₀ tight : ℕ} (v : SettleAt ops numbers lengths count₀ b₀ n₀ tight) (count b n : ℕ) : Type 0 where
   pub left : count ≡ length (treeLeft tight (v .waits) (v .tree))
   pub comes : evaluate (v .table) (v .words) (treeSettled tight (v .waits) (v .tree)) ≡ gives (value n b)
+
+-- the operator of the kind k waits behind `count` others, with its left operand x of l bits
+pub record Waited (ops numbers lengths : List ℕ) (count x l k : ℕ) (ops′ numbers′ lengths′ : List ℕ) : Type 0 where
+  pub op : ops′ ≡ set ops count k
+  pub number : numbers′ ≡ set numbers count x
+  pub bits : lengths′ ≡ set lengths count l

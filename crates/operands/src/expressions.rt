@@ -6,6 +6,7 @@ use crate::accesses::read;
 use crate::accesses::subscripted;
 use crate::operators::Settled;
 use crate::operators::settle;
+use crate::operators::wait;
 use nots::behind_nots;
 use records::fields::kind_at;
 use records::fields::size_at;
@@ -158,13 +159,18 @@ fn pair(
             if tightness_of(kind_at(records, next)) == 0 {
                 return Evaluated::Value(operate(op, m, a, n, b), operate_bits(op, m, n), next);
             }
-            chain(records, values, carriers, op, a, m, b, n, next, depth)
+            let last = Settled {
+                count: 1,
+                number: b,
+                bits: n,
+            };
+            chain(records, values, carriers, op, a, m, last, next, depth)
         }
     }
 }
 
 // A chain of more operators from p on: each waits until one that binds no tighter, or the end, settles it. At most five wait, since each binds tighter
-// than the one before. At first `op` waits, with its left operand a of m bits, and its right operand is b of n bits.
+// than the one before. At first `op` waits, with its left operand a of m bits, and its right operand is `first`.
 fn chain(
     records: &[u8],
     values: &[u8],
@@ -172,22 +178,17 @@ fn chain(
     op: u8,
     a: u64,
     m: u32,
-    b: u64,
-    n: u32,
+    first: Settled,
     p: usize,
     depth: usize,
 ) -> Evaluated
-    requires { ⌜ ChainAt (now records) (now values) (now carriers) op a m b n p depth ⌝ }
-    ensures { λ r. ⌜ ((v : ChainAt (now (records .entry)) (now (values .entry)) (now (carriers .entry)) op a m b n p depth) → ChainAnswer v r) ⌝ }
+    requires { ⌜ ChainAt (now records) (now values) (now carriers) op a m (first .number) (first .bits) p depth × (first .count ≡ 1) ⌝ }
+    ensures { λ r. ⌜ ((v : ChainAt (now (records .entry)) (now (values .entry)) (now (carriers .entry)) op a m (first .number) (first .bits) p depth) → ChainAnswer v r) ⌝ }
 {
     let mut ops = [op, 0, 0, 0, 0];
     let mut numbers = [a, 0, 0, 0, 0];
     let mut lengths = [m, 0, 0, 0, 0];
-    let mut last = Settled {
-        count: 1,
-        number: b,
-        bits: n,
-    };
+    let mut last = first;
     let mut at = p;
     loop {
         let kind = kind_at(records, at);
@@ -196,21 +197,16 @@ fn chain(
         if tight == 0 {
             return Evaluated::Value(left.number, left.bits, at);
         }
-        let slot = left.count;
-        ops[slot] = kind;
-        numbers[slot] = left.number;
-        lengths[slot] = left.bits;
+        wait(&mut ops, &mut numbers, &mut lengths, left, kind);
         let right = operand(records, values, carriers, at + 1, depth);
         match right {
             Evaluated::Fault(q) => {
                 return Evaluated::Fault(q);
             }
             Evaluated::Value(x, k, next) => {
-                last = Settled {
-                    count: slot + 1,
-                    number: x,
-                    bits: k,
-                };
+                last.count = left.count + 1;
+                last.number = x;
+                last.bits = k;
                 at = next;
             }
         }

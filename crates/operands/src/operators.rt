@@ -2,7 +2,8 @@
 use table::operators::tightness_of;
 use values::operate;
 use values::operate_bits;
-ghost use Rattle.operands.specs.Settling.{SettleAt, Settles};
+ghost use Prim.Native.Nat.{_<_};
+ghost use Rattle.operands.specs.Settling.{SettleAt, Settles, Waited};
 
 // How many operators still wait, and the value of what is settled.
 pub struct Settled {
@@ -47,4 +48,22 @@ pub fn settle(
         number,
         bits,
     }
+}
+
+// An operator of the kind `op` waits behind the others, with its left operand.
+pub fn wait(
+    ops: &mut [u8; 5],
+    numbers: &mut [u64; 5],
+    lengths: &mut [u32; 5],
+    left: Settled,
+    op: u8,
+)
+    requires { ⌜ left .count < 5 ⌝ }
+    ensures { λ _. ⌜ Waited (now (ops .entry)) (now (numbers .entry)) (now (lengths .entry)) (left .count) (left .number) (left .bits) op
+        (now (ops .exit)) (now (numbers .exit)) (now (lengths .exit)) ⌝ }
+{
+    let slot = left.count;
+    ops[slot] = op;
+    numbers[slot] = left.number;
+    lengths[slot] = left.bits;
 }

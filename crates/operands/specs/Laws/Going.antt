@@ -4,7 +4,7 @@ use Prim.Native.Nat.{ℕ, _+_, _-_, _*_, _<_, _≤_}
 use mathlib.Core.Path.{_≡_, refl, sym, ap, _∙_, subst}
 use mathlib.Core.List.{List, [], _∷_}
 use native.Mathlib.Omega.{arith}
-use lib.ListN.{length, set, drop, length-set}
+use lib.ListN.{length, drop, length-set}
 use Rattle.rules.specs.Limits.{mostTokens}
 use Rattle.rules.specs.Grammar.Trees.{Tail, no-more, with-op, tailTokens}
 use Rattle.rules.specs.Grammar.Precedence.{tightness, Expr, leaf, node, factorOf, linksOf, exprOf}
@@ -24,7 +24,7 @@ use Rattle.operands.specs.Laws.Scene.{OperandTold}
 use Rattle.operands.specs.Laws.Waits.{Under, under-few, looser-all, under-looser, settled-all}
 use Rattle.operands.specs.Trees.{Waits, treeLeft, treeSettled}
 use Rattle.operands.specs.Laws.Trees.{treeOf, tree-is, sized-parts, tree-faults}
-use Rattle.operands.specs.Settling.{Wait, SettleAt, Settles}
+use Rattle.operands.specs.Settling.{Wait, SettleAt, Settles, Waited}
 use Rattle.operands.specs.Laws.Settling.{waits-given, wait-push}
 use Rattle.operands.specs.Chains.{TailAt}
 use Rattle.operands.specs.Laws.Chains.{tail-room, tail-small, tailTight, tail-tight, tail-over, Operator, tail-operator, OperandIn, operand-at, tail-at}
@@ -52,13 +52,13 @@ module _ {records values carriers : List ℕ} {k a m b n p depth : ℕ} (v : Cha
     pub builds : treeOf waits tree (linksOf tail) ≡ whole
 
   -- at first one operator waits
-  pub going : Going (k ∷ 0 ∷ 0 ∷ 0 ∷ 0 ∷ []) (a ∷ 0 ∷ 0 ∷ 0 ∷ 0 ∷ []) (m ∷ 0 ∷ 0 ∷ 0 ∷ 0 ∷ []) 1 b n p
+  pub going : {count : ℕ} → count ≡ 1 → Going (k ∷ 0 ∷ 0 ∷ 0 ∷ 0 ∷ []) (a ∷ 0 ∷ 0 ∷ 0 ∷ 0 ∷ []) (m ∷ 0 ∷ 0 ∷ 0 ∷ 0 ∷ []) count b n p
   unfolding evaluate linksOf chain looser settled
-  going = record {
+  going one = record {
     waits = waiting (v .op) (v .info) (leaf (factorOf (v .first))) ∷ [];
     tree = leaf (factorOf (v .right));
     tail = v .behind .tail;
-    counts = refl;
+    counts = one;
     ops-room = refl;
     numbers-room = refl;
     lengths-room = refl;
@@ -210,10 +210,11 @@ module _ {records values carriers : List ℕ} {k a m b n p depth : ℕ} {ops num
             ((value l′ x′, it-settles .comes), waits-given (v .scene .table) (wordsOf (v .scene)) ops numbers lengths (treeLeft tight (g .waits) (g .tree)) left-waits)
             (subst (OperandAnswer (operand-at next-in)) e (h (operand-at next-in)))
 
-        pub going-turn : {a : Evaluated} {y z q′ : ℕ} → OperandTold records values carriers (q + 1) depth a → a ≡ worked y z q′
-            → Going v (set ops count′ c) (set numbers count′ x′) (set lengths count′ l′) (count′ + 1) y z q′
+        pub going-turn : {ops′ numbers′ lengths′ : List ℕ} → Waited ops numbers lengths count′ x′ l′ c ops′ numbers′ lengths′ → {a : Evaluated} {y z q′ : ℕ}
+            → OperandTold records values carriers (q + 1) depth a → a ≡ worked y z q′
+            → Going v ops′ numbers′ lengths′ (count′ + 1) y z q′
         unfolding evaluate settle-at next-in tail-at
-        going-turn {a} {y} {z} {q′} h e = record {
+        going-turn w {a} {y} {z} {q′} h e = rw (w .op, w .number, w .bits) (record {
           waits = waits-next;
           tree = leaf (factorOf (o .right));
           tail = o .more;
@@ -231,4 +232,4 @@ module _ {records values carriers : List ℕ} {k a m b n p depth : ℕ} {ops num
           reads = tail-at next-in (next-known h e) .reads;
           shallow = omega (arith, g .shallow, ap tailNest (o .are));
           builds = next-builds;
-        }
+        })

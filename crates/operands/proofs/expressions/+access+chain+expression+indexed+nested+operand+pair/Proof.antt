@@ -3,7 +3,7 @@
 -- Assumes nothing.
 use borrow.Author.Needs.{needs}
 use native.Mathlib.Omega.{arith}
-use mathlib.Core.Path.{sym, _∙_}
+use mathlib.Core.Path.{refl, sym, _∙_}
 use Prim.Native.Nat.{ℕ, _+_, _-_, _*_, _<_}
 use lib.ListN.{length}
 use borrow.Fn.Kinds.{In}
@@ -43,6 +43,7 @@ use Rattle.nots.proofs.behind_nots.Reads as behind-nots-reads
 use Rattle.operands.proofs.expressions.closed_by.Reads as closed-by-reads
 use Rattle.operands.proofs.expressions.negated.Reads as negated-reads
 use Rattle.operands.proofs.operators.settle.Reads as settle-reads
+use Rattle.operands.proofs.operators.wait.Reads as wait-reads
 use Rattle.table.proofs.operators.tightness_of.Reads as tightness-of-reads
 use Rattle.records.proofs.fields.kind_at.Reads as kind-at-reads
 use Rattle.records.proofs.fields.size_at.Reads as size-at-reads
@@ -61,7 +62,7 @@ abbrev μ-access : Measures 3 access-kinds.ps ℕ
 μ-access κs a = a .1 .1 .1 .1 .0 * 16 + 1
 
 abbrev μ-chain : Measures 3 chain-kinds.ps ℕ
-μ-chain κs a = a .1 .1 .1 .1 .1 .1 .1 .1 .1 .0 * 16 + 6
+μ-chain κs a = a .1 .1 .1 .1 .1 .1 .1 .1 .0 * 16 + 6
 
 abbrev μ-expression : Measures 3 expression-kinds.ps ℕ
 μ-expression κs a = a .1 .1 .1 .1 .0 * 16 + 8
@@ -123,11 +124,11 @@ abbrev pair-below : ℕ → In 3 pair-kinds.ps
 pair-below t = and 3 pair-kinds.ps (falls 3 pair-kinds.ps _<_ μ-pair t) pair.Pre
 
 abbrev chain-Inv-loop : chain-lts.InvT-loop
-chain-Inv-loop records values carriers op a m b n p depth ops₀ numbers₀ lengths₀ last₀ at₀ ops numbers lengths last at =
-    (v : ChainAt records values carriers op a m b n p depth) → Going v ops numbers lengths (last .count) (last .number) (last .bits) at
+chain-Inv-loop records values carriers op a m p depth ops₀ numbers₀ lengths₀ last₀ at₀ ops numbers lengths last at =
+    (v : ChainAt records values carriers op a m (last₀ .number) (last₀ .bits) p depth) → Going v ops numbers lengths (last .count) (last .number) (last .bits) at
 
 abbrev chain-μ-loop : chain-lts.MeasureT-loop
-chain-μ-loop records values carriers op a m b n p depth ops₀ numbers₀ lengths₀ last₀ at₀ ops numbers lengths last at = length records - at
+chain-μ-loop records values carriers op a m p depth ops₀ numbers₀ lengths₀ last₀ at₀ ops numbers lengths last at = length records - at
 
 pub +access+chain+expression+indexed+nested+operand+pair-spec : {M : Type 1} → statement M
 +access+chain+expression+indexed+nested+operand+pair-spec =
@@ -160,6 +161,8 @@ pub +access+chain+expression+indexed+nested+operand+pair-spec : {M : Type 1} →
       tightness-of-reads.Learnt,
       settle-reads.Asked,
       settle-reads.Learnt,
+      wait-reads.Asked,
+      wait-reads.Learnt,
       operand-below t,
       operand.Post,
     )
@@ -167,24 +170,20 @@ pub +access+chain+expression+indexed+nested+operand+pair-spec : {M : Type 1} →
     chain.Post
     chain-Inv-loop
     chain-μ-loop
-    (λ c v. goings.going v)
-    (λ c κs. goings.going-room (c .loop .inv) (c .before .before .before .before .pre .1))
+    (λ c v. goings.going v (c .before .before .before .pre .1 .1))
+    (λ c κs. goings.going-room (c .loop .inv) (c .before .before .before .before .pre .1 .0))
     (λ c κs. search needs)
     (λ c κs. search goings.settle-at)
     (λ c v. goings.going-ends (c .before .before .before .before .before .before .before .loop .inv) v (c .before .before .before .before .before .before .kind-at .ensures) (c .before .before .before .before .before .tightness-of .ensures) (c .if1 .taken) (c .before .settle .ensures))
-    (λ c. omega (arith, goings.slot (c .before .before .before .before .before .before .before .loop .inv) (c .before .before .before .before .before .before .before .before .before .before .before .pre .1) (c .before .before .before .before .before .before .kind-at .ensures) (c .before .before .before .before .before .tightness-of .ensures) (c .if1 .left) (c .before .settle .ensures)))
-    (λ c. omega (arith, goings.slot (c .before .before .before .before .before .before .before .loop .inv) (c .before .before .before .before .before .before .before .before .before .before .before .pre .1) (c .before .before .before .before .before .before .kind-at .ensures) (c .before .before .before .before .before .tightness-of .ensures) (c .if1 .left) (c .before .settle .ensures)))
-    (λ c. omega (arith, goings.slot (c .before .before .before .before .before .before .before .loop .inv) (c .before .before .before .before .before .before .before .before .before .before .before .pre .1) (c .before .before .before .before .before .before .kind-at .ensures) (c .before .before .before .before .before .tightness-of .ensures) (c .if1 .left) (c .before .settle .ensures)))
-    (λ c. omega (arith, goings.slot (c .before .before .before .before .before .before .before .loop .inv) (c .before .before .before .before .before .before .before .before .before .before .before .pre .1) (c .before .before .before .before .before .before .kind-at .ensures) (c .before .before .before .before .before .tightness-of .ensures) (c .if1 .left) (c .before .settle .ensures)))
-    (λ c. omega (arith, goings.slot (c .before .before .before .before .before .before .before .loop .inv) (c .before .before .before .before .before .before .before .before .before .before .before .pre .1) (c .before .before .before .before .before .before .kind-at .ensures) (c .before .before .before .before .before .tightness-of .ensures) (c .if1 .left) (c .before .settle .ensures)))
-    (λ c. omega (arith, goings.going-small (c .before .before .before .before .before .before .before .loop .inv) (c .before .before .before .before .before .before .before .before .before .before .before .pre .1)))
-    (λ c κs. (omega (arith, not-first-small (c .before .before .before .before .before .before .before .before .before .before .before .args .records .now) (c .before .before .before .before .before .before .before .loop .at + 1), c .before .before .before .before .before .before .before .before .before .before .before .pre .0), goings.next-operand (c .before .before .before .before .before .before .before .loop .inv) (c .before .before .before .before .before .before .before .before .before .before .before .pre .1) (c .before .before .before .before .before .before .kind-at .ensures) (c .before .before .before .before .before .tightness-of .ensures) (c .if1 .left)))
+    (λ c κs. omega (arith, goings.slot (c .before .before .before .before .before .before .before .before .before .before .loop .inv) (c .before .before .before .before .before .before .before .before .before .before .before .before .before .before .pre .1 .0) (c .before .before .before .before .before .before .before .before .before .kind-at .ensures) (c .before .before .before .before .before .before .before .before .tightness-of .ensures) (c .before .before .before .if1 .left) (c .before .before .before .before .settle .ensures)))
+    (λ c. omega (arith, goings.going-small (c .before .before .before .before .before .before .before .before .before .before .before .loop .inv) (c .before .before .before .before .before .before .before .before .before .before .before .before .before .before .before .pre .1 .0)))
+    (λ c κs. (omega (arith, not-first-small (c .before .before .before .before .before .before .before .before .before .before .before .before .before .before .before .args .records .now) (c .before .before .before .before .before .before .before .before .before .before .before .loop .at + 1), c .before .before .before .before .before .before .before .before .before .before .before .before .before .before .before .pre .0), goings.next-operand (c .before .before .before .before .before .before .before .before .before .before .before .loop .inv) (c .before .before .before .before .before .before .before .before .before .before .before .before .before .before .before .pre .1 .0) (c .before .before .before .before .before .before .before .before .before .before .kind-at .ensures) (c .before .before .before .before .before .before .before .before .before .tightness-of .ensures) (c .before .before .before .before .if1 .left)))
     (λ c. search needs)
-    (λ c v. goings.going-faults (c .before .before .before .before .before .before .before .before .before .before .before .loop .inv) v (c .before .before .before .before .before .before .before .before .before .before .kind-at .ensures) (c .before .before .before .before .before .before .before .before .before .tightness-of .ensures) (c .before .before .before .before .if1 .left) (c .before .before .before .before .before .settle .ensures) (c .before .before .before .operand .ensures) (c .before .right .given .1))
+    (λ c v. goings.going-faults (c .before .before .before .before .before .before .before .before .before .before .before .before .before .before .before .loop .inv) v (c .before .before .before .before .before .before .before .before .before .before .before .before .before .before .kind-at .ensures) (c .before .before .before .before .before .before .before .before .before .before .before .before .before .tightness-of .ensures) (c .before .before .before .before .before .before .before .before .if1 .left) (c .before .before .before .before .before .before .before .before .before .settle .ensures) (c .before .before .before .operand .ensures) (c .before .right .given .1))
     (λ c. search needs)
-    (λ c. omega (arith, goings.slot (c .before .before .before .before .before .before .before .before .before .before .before .loop .inv) (c .before .before .before .before .before .before .before .before .before .before .before .before .before .before .before .pre .1) (c .before .before .before .before .before .before .before .before .before .before .kind-at .ensures) (c .before .before .before .before .before .before .before .before .before .tightness-of .ensures) (c .before .before .before .before .if1 .left) (c .before .before .before .before .before .settle .ensures)))
-    (λ c. goings.going-falls (c .before .before .before .before .before .before .before .before .before .before .before .loop .inv) (c .before .before .before .before .before .before .before .before .before .before .before .before .before .before .before .pre .1) (c .before .before .before .before .before .before .before .before .before .before .kind-at .ensures) (c .before .before .before .before .before .before .before .before .before .tightness-of .ensures) (c .before .before .before .before .if1 .left) (c .before .before .before .operand .ensures) (c .before .right2 .given .1))
-    (λ c v. goings.going-turn (c .before .before .before .before .before .before .before .before .before .before .before .loop .inv) v (c .before .before .before .before .before .before .before .before .before .before .kind-at .ensures) (c .before .before .before .before .before .before .before .before .before .tightness-of .ensures) (c .before .before .before .before .if1 .left) (c .before .before .before .before .before .settle .ensures) (c .before .before .before .operand .ensures) (c .before .right2 .given .1)))
+    (λ c. omega (arith, goings.slot (c .before .before .before .before .before .before .before .before .before .before .before .before .before .before .before .before .loop .inv) (c .before .before .before .before .before .before .before .before .before .before .before .before .before .before .before .before .before .before .before .before .pre .1 .0) (c .before .before .before .before .before .before .before .before .before .before .before .before .before .before .before .kind-at .ensures) (c .before .before .before .before .before .before .before .before .before .before .before .before .before .before .tightness-of .ensures) (c .before .before .before .before .before .before .before .before .before .if1 .left) (c .before .before .before .before .before .before .before .before .before .before .settle .ensures)))
+    (λ c. goings.going-falls (c .before .before .before .before .before .before .before .before .before .before .before .before .before .before .before .before .loop .inv) (c .before .before .before .before .before .before .before .before .before .before .before .before .before .before .before .before .before .before .before .before .pre .1 .0) (c .before .before .before .before .before .before .before .before .before .before .before .before .before .before .before .kind-at .ensures) (c .before .before .before .before .before .before .before .before .before .before .before .before .before .before .tightness-of .ensures) (c .before .before .before .before .before .before .before .before .before .if1 .left) (c .before .before .before .before .operand .ensures) (c .before .before .right2 .given .1))
+    (λ c v. goings.going-turn (c .before .before .before .before .before .before .before .before .before .before .before .before .before .before .before .before .loop .inv) v (c .before .before .before .before .before .before .before .before .before .before .before .before .before .before .before .kind-at .ensures) (c .before .before .before .before .before .before .before .before .before .before .before .before .before .before .tightness-of .ensures) (c .before .before .before .before .before .before .before .before .before .if1 .left) (c .before .before .before .before .before .before .before .before .before .before .settle .ensures) (c .before .before .before .before .before .wait .ensures) (c .before .before .before .before .operand .ensures) (c .before .before .right2 .given .1)))
     (λ t. expression-lts.spec (
       operand-below t,
       operand.Post,
@@ -302,6 +301,6 @@ pub +access+chain+expression+indexed+nested+operand+pair-spec : {M : Type 1} →
     (λ c κs. search expressions.pair-operands)
     (λ c κs. expressions.pair-lengths (c .before .before .before .before .before .before .before .before .before .before .before .before .pre .1) (c .before .before .before .before .before .before .before .operand .ensures) (c .before .before .before .before .before .right2 .given .1) (c .before .before .before .before .before .before .before .before .kind-at .ensures) (c .before .before .before .kind-at2 .ensures) (c .before .before .tightness-of .ensures) (c .before .if1 .taken))
     (λ c v. search expressions.pair-answer)
-    (λ c κs. (omega (arith, c .before .before .before .before .before .before .before .before .before .before .before .pre .0), search expressions.chain-at))
+    (λ c κs. (omega (arith, c .before .before .before .before .before .before .before .before .before .before .before .pre .0), (search expressions.chain-at, refl)))
     (λ c v. search expressions.pair-faults)
     (λ c v. search expressions.chain-answers)
