@@ -17,13 +17,23 @@ use Rattle.laws_code.specs.Cited.Placed.{descriptionCode}
 use Rattle.promise.specs.Promise.{Promise}
 use Rattle.operands.specs.Scene.{carrierWords}
 use Rattle.runner.specs.declared.runs.Ended.{Ended}
+use Rattle.runner.specs.declared.runs.Ended.the-variants.{Done, Stopped, Paused, Fault as Failed}
 use Rattle.runner.specs.Runs.{endingOf, stepsOf}
 use Rattle.telling.specs.Cited.Cells.{AllMarked}
 use Rattle.telling.specs.Cited.Tracing.{groupsOf, Traced, traceRun}
 use Rattle.members.specs.Cells.{cellsIn}
 use Rattle.matching.specs.Matching.{untold, toldAll}
 use Rattle.matching.specs.Room.{Stands}
+use Rattle.turning.specs.declared.ways.Turned.{Turned}
+use Rattle.turning.specs.declared.ways.Turned.the-variants.{At, Over, Stop, Fault}
 use Rattle.tracing.specs.Turns.{cellsAt, groupingAt}
+
+-- how a run stands behind k steps and one that leads there
+abbrev pub endedBy : Turned → ℕ → Ended
+endedBy (At n d) k = Paused (k + 1)
+endedBy Over k = Done (k + 1)
+endedBy Stop k = Stopped (k + 1)
+endedBy (Fault m p) k = Failed m p k
 
 -- an accepted text of n tokens whose MAIN begins at `start`; its carriers have `size` bytes, and nothing is told yet of the list in `entries`
 pub record TraceAt (records values decls memory room entries : List ℕ) (start n size : ℕ) : Type 0 where

@@ -4,13 +4,28 @@ use passing::enter;
 use rules::limits::LONGEST_CHAIN;
 use runner::runs::Ended;
 use turning::ways::Turned;
-ghost use Rattle.tracing.specs.Traces.{TraceAt, TraceTold};
+ghost use mathlib.Core.Path.{_≡_};
+ghost use Prim.Native.Nat.{_<_};
+ghost use Rattle.tracing.specs.Traces.{endedBy, TraceAt, TraceTold};
 
 // Where the cells of tokens begin in the memory, behind the room for the carriers.
 pub const CELLS: usize = 32768;
 
 // Bytes for the fields of a joined destination.
 const SCRATCH: usize = 512;
+
+// How a run stands behind so many steps and one that leads there: at an instruction it is paused.
+fn ended(turned: Turned, steps: u32) -> Ended
+    requires { ⌜ steps < 4294967295 ⌝ }
+    ensures { λ r. ⌜ r ≡ endedBy turned steps ⌝ }
+{
+    match turned {
+        Turned::At(_, _) => Ended::Paused(steps + 1),
+        Turned::Over => Ended::Done(steps + 1),
+        Turned::Stop => Ended::Stopped(steps + 1),
+        Turned::Fault(number, place) => Ended::Fault(number, place, steps),
+    }
+}
 
 // Runs MAIN, which begins at `start`. The first `size` bytes of the memory are the carriers, and from CELLS on the n tokens have their cells.
 pub fn trace(
@@ -50,22 +65,12 @@ pub fn trace(
             size,
             at,
         );
-        match turned {
-            Turned::Fault(number, place) => {
-                return Ended::Fault(number, place, steps);
-            }
-            Turned::Stop => {
-                return Ended::Stopped(steps + 1);
-            }
-            Turned::Over => {
-                return Ended::Done(steps + 1);
-            }
-            Turned::At(next, high) => {
-                steps += 1;
-                at = next;
-                depth = high;
-            }
-        }
+        let Turned::At(next, high) = turned else {
+            return ended(turned, steps);
+        };
+        steps += 1;
+        at = next;
+        depth = high;
     }
     Ended::Paused(steps)
 }

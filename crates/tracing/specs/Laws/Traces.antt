@@ -45,7 +45,7 @@ use Rattle.turning.specs.declared.ways.Turned.{Turned}
 use Rattle.turning.specs.declared.ways.Turned.the-variants.{At, Over, Stop as Stood, Fault as Broken}
 use Rattle.turning.specs.Ways.{turnedTo, Linked}
 use Rattle.tracing.specs.Turns.{cellsAt, groupingAt, TurnAt, Keeps, TurnTold}
-use Rattle.tracing.specs.Traces.{TraceAt, tableOf, codeOf, wordsIn, tracedBy, TraceTold}
+use Rattle.tracing.specs.Traces.{endedBy, TraceAt, tableOf, codeOf, wordsIn, tracedBy, TraceTold}
 use Rattle.tracing.specs.Laws.Steps.{put-same}
 use Rattle.tracing.specs.Laws.Turns.{passes-told, reports-told, stores-open}
 use Rattle.tracing.specs.Laws.Reached.{reached-next, All, each}
@@ -316,24 +316,34 @@ module _ {records values decls memory room entries : List ℕ} {start n size : �
       unfolding toldAll
       ends-with z e c q = record { run = sym (c .run) ∙ q; tells = record { sound = told-is .sound; is = c .told } }
 
-      pub ends-over : r ≡ Over → TraceTold v budget after room″ (Done (steps + 1))
+      ends-over : r ≡ Over → TraceTold v budget after room″ (Done (steps + 1))
       ends-over e =
           ends-with (runWith done (suc steps) (wordsIn v after)) (Done (steps + 1))
           (rest-comes (ended (wordsIn v after)) (machine-is ∙ ap (λ r. put (wordsIn v memory′) (wordsIn v after) (turnedTo r stack″)) e))
           (ap (λ k. runWith done k (wordsIn v after)) (sym (add-one steps)))
 
-      pub ends-stopped : r ≡ Stood → TraceTold v budget after room″ (Stopped (steps + 1))
+      ends-stopped : r ≡ Stood → TraceTold v budget after room″ (Stopped (steps + 1))
       ends-stopped e =
           ends-with (runWith halted (suc steps) (wordsIn v after)) (Stopped (steps + 1))
           (rest-comes (stood (wordsIn v after)) (machine-is ∙ ap (λ r. put (wordsIn v memory′) (wordsIn v after) (turnedTo r stack″)) e))
           (ap (λ k. runWith halted k (wordsIn v after)) (sym (add-one steps)))
 
-      pub ends-failed : {m p : ℕ} → r ≡ Broken m p → TraceTold v budget after room″ (Failed m p steps)
+      ends-failed : {m p : ℕ} → r ≡ Broken m p → TraceTold v budget after room″ (Failed m p steps)
       ends-failed {m} {p} e =
           let k : take size after ≡ take size memory′ = subst (λ r. Keeps r (take size memory′) (take size after)) e kept-is in
           ends-with (runWith (faulted m p) steps (wordsIn v memory′)) (Failed m p steps)
           (rest-comes (broke m p (wordsIn v memory′)) (machine-is ∙ ap (λ r. put (wordsIn v memory′) (wordsIn v after) (turnedTo r stack″)) e))
           (ap (λ c. runWith (faulted m p) steps (carrierWords (totalWords (tableOf v)) c)) (sym k))
+
+      -- control is at no instruction
+      pub ends : {e : Ended} → ((n d : ℕ) → r ≡ At n d → ⊥) → e ≡ endedBy r steps → TraceTold v budget after room″ e
+      ends off q = subst (TraceTold v budget after room″) (sym q) (by r refl)
+        where
+          by : (t : Turned) → r ≡ t → TraceTold v budget after room″ (endedBy t steps)
+          by (At n d) e = absurd (off n d e)
+          by Over e = ends-over e
+          by Stood e = ends-stopped e
+          by (Broken m p) e = ends-failed e
 
       -- control is at another instruction
       pub goes-on : {n′ d : ℕ} → r ≡ At n′ d → Tracing after room″ (stackOf stack″ d) n′ (steps + 1)

@@ -3,12 +3,15 @@
 use Prim.Native.Nat.{ℕ, _-_, _≤_}
 use borrow.Author.Needs.{needs}
 use native.Mathlib.Omega.{arith}
-use mathlib.Core.Path.{_≡_, refl}
+use mathlib.Core.Path.{_≡_, refl, ap}
+use mathlib.Core.Logic.{⊎-elim}
 use mathlib.Core.List.{List}
 use lib.ListN.{length}
+use denote.Enum.Declared.{tagOf}
 use Rattle.runner.specs.Runs.{stackOf}
+use Rattle.turning.proofs.ways.Turned.{the-type}
 use Rattle.tracing.specs.Traces.{TraceAt}
-use Rattle.tracing.specs.Laws.Traces.{Tracing, Entered, enters, tracing-begins, turn-at, ends-over, ends-stopped, ends-failed, goes-on, pauses}
+use Rattle.tracing.specs.Laws.Traces.{Tracing, Entered, enters, tracing-begins, turn-at, ends, goes-on, pauses}
 use Rattle.tracing.proofs.runs.trace.Statement.{statement}
 use Rattle.tracing.proofs.runs.trace.Tie as tie
 
@@ -51,53 +54,22 @@ turn-requires c κs =
 enum-known-turned : tie.Need-enum-known-turned Inv-loop μ-loop
 enum-known-turned c = search needs
 
+ended-requires : tie.Need-ended-requires Inv-loop μ-loop
+ended-requires c κs = omega (arith, c .before .before .before .before .before .before .before .before .before .before .before .before .loop-test .taken, c .before .before .before .before .before .before .before .before .before .before .before .before .before .before .before .before .before .before .before .before .before .before .before .before .before .before .fits .budget)
+
 same-length : tie.Need-same-length Inv-loop μ-loop
-same-length c = omega (arith, c .before .before .before .before .before .before .before .before .before .turn .kept .1 .1 .1 .0, c .before .before .before .before .before .before .before .before .before .before .before .before .before .before .before .loop .inv .1 .0)
+same-length c = omega (arith, c .before .before .before .before .before .before .before .before .turn .kept .1 .1 .1 .0, c .before .before .before .before .before .before .before .before .before .before .before .before .before .before .loop .inv .1 .0)
 
 same-length-2 : tie.Need-same-length-2 Inv-loop μ-loop
-same-length-2 c = omega (arith, c .before .before .before .before .before .before .before .before .before .turn .kept .1 .1 .1 .1 .1 .0, c .before .before .before .before .before .before .before .before .before .before .before .before .before .before .before .loop .inv .1 .1 .0, c .before .before .before .before .before .before .before .before .before .before .before .before .before .before .before .before .before .before .enter .kept .0)
+same-length-2 c = omega (arith, c .before .before .before .before .before .before .before .before .turn .kept .1 .1 .1 .1 .1 .0, c .before .before .before .before .before .before .before .before .before .before .before .before .before .before .loop .inv .1 .1 .0, c .before .before .before .before .before .before .before .before .before .before .before .before .before .before .before .before .before .enter .kept .0)
 
 returns : tie.Need-returns Inv-loop μ-loop
 returns c v =
-    let i = c .before .before .before .before .before .before .before .before .before .before .before .before .before .before .before .loop .inv in
-    ends-failed v _ _ _ (i .1 .1 .1 .1 .1 _ v (c .before .before .before .before .before .before .before .before .before .before .before .before .before .before .before .before .before .before .enter .ensures)) (i .1 .0) (i .1 .1 .1 .1 .0) (c .before .before .before .before .before .before .before .before .before .before .before .before .before .before .loop-test .taken) (c .before .before .before .before .before .before .before .before .before .turn .ensures) (c .before .turned .given .1)
-
-enum-told : tie.Need-enum-told Inv-loop μ-loop
-enum-told c = search needs
-
-add-t37 : tie.Need-add-t37 Inv-loop μ-loop
-add-t37 c = search needs
-
-same-length-3 : tie.Need-same-length-3 Inv-loop μ-loop
-same-length-3 c = omega (arith, c .before .before .before .before .before .before .before .before .turn .kept .1 .1 .1 .0, c .before .before .before .before .before .before .before .before .before .before .before .before .before .before .loop .inv .1 .0)
-
-same-length-4 : tie.Need-same-length-4 Inv-loop μ-loop
-same-length-4 c = omega (arith, c .before .before .before .before .before .before .before .before .turn .kept .1 .1 .1 .1 .1 .0, c .before .before .before .before .before .before .before .before .before .before .before .before .before .before .loop .inv .1 .1 .0, c .before .before .before .before .before .before .before .before .before .before .before .before .before .before .before .before .before .enter .kept .0)
-
-returns-2 : tie.Need-returns-2 Inv-loop μ-loop
-returns-2 c v =
     let i = c .before .before .before .before .before .before .before .before .before .before .before .before .before .before .loop .inv in
-    ends-stopped v _ _ _ (i .1 .1 .1 .1 .1 _ v (c .before .before .before .before .before .before .before .before .before .before .before .before .before .before .before .before .before .enter .ensures)) (i .1 .0) (i .1 .1 .1 .1 .0) (c .before .before .before .before .before .before .before .before .before .before .before .before .before .loop-test .taken) (c .before .before .before .before .before .before .before .before .turn .ensures) (c .enum-told .given .1)
-
-enum-told-2 : tie.Need-enum-told-2 Inv-loop μ-loop
-enum-told-2 c = search needs
-
-add-t38 : tie.Need-add-t38 Inv-loop μ-loop
-add-t38 c = search needs
-
-same-length-5 : tie.Need-same-length-5 Inv-loop μ-loop
-same-length-5 c = omega (arith, c .before .before .before .before .before .before .before .before .turn .kept .1 .1 .1 .0, c .before .before .before .before .before .before .before .before .before .before .before .before .before .before .loop .inv .1 .0)
-
-same-length-6 : tie.Need-same-length-6 Inv-loop μ-loop
-same-length-6 c = omega (arith, c .before .before .before .before .before .before .before .before .turn .kept .1 .1 .1 .1 .1 .0, c .before .before .before .before .before .before .before .before .before .before .before .before .before .before .loop .inv .1 .1 .0, c .before .before .before .before .before .before .before .before .before .before .before .before .before .before .before .before .before .enter .kept .0)
-
-returns-3 : tie.Need-returns-3 Inv-loop μ-loop
-returns-3 c v =
-    let i = c .before .before .before .before .before .before .before .before .before .before .before .before .before .before .loop .inv in
-    ends-over v _ _ _ (i .1 .1 .1 .1 .1 _ v (c .before .before .before .before .before .before .before .before .before .before .before .before .before .before .before .before .before .enter .ensures)) (i .1 .0) (i .1 .1 .1 .1 .0) (c .before .before .before .before .before .before .before .before .before .before .before .before .before .loop-test .taken) (c .before .before .before .before .before .before .before .before .turn .ensures) (c .enum-told2 .given .1)
-
-enum-known-turned-2 : tie.Need-enum-known-turned-2 Inv-loop μ-loop
-enum-known-turned-2 c = search needs
+    ends v _ _ _ (i .1 .1 .1 .1 .1 _ v (c .before .before .before .before .before .before .before .before .before .before .before .before .before .before .before .before .before .enter .ensures)) (i .1 .0) (i .1 .1 .1 .1 .0) (c .before .before .before .before .before .before .before .before .before .before .before .before .before .loop-test .taken) (c .before .before .before .before .before .before .before .before .turn .ensures)
+    (λ n d e.
+    let first = ap (tagOf the-type) e in
+    ⊎-elim (λ w. omega arith) (⊎-elim (λ w. omega arith) (λ w. omega arith)) (c .before .match .keys2)) (c .ended .ensures)
 
 add-steps : tie.Need-add-steps Inv-loop μ-loop
 add-steps c = record { fits = omega (arith, c .before .before .before .before .before .before .before .before .before .before .before .before .before .before .loop-test .taken, c .before .before .before .before .before .before .before .before .before .before .before .before .before .before .before .before .before .before .before .before .before .before .before .before .before .before .before .before .fits .budget) }
@@ -118,21 +90,21 @@ loop-again c =
             omega (arith, k .1 .1 .1 .1 .0, i .1 .1 .1 .0),
             (
               omega (arith, k .1 .1 .1 .1 .1 .1 .1 .0, i .1 .1 .1 .1 .0),
-              λ room₁ v e. goes-on v _ _ _ (i .1 .1 .1 .1 .1 room₁ v e) (i .1 .0) (i .1 .1 .1 .1 .0) (c .before .before .before .before .before .before .before .before .before .before .before .before .before .before .loop-test .taken) (c .before .before .before .before .before .before .before .before .before .turn .ensures) (c .before .turned2 .given .1),
+              λ room₁ v e. goes-on v _ _ _ (i .1 .1 .1 .1 .1 room₁ v e) (i .1 .0) (i .1 .1 .1 .1 .0) (c .before .before .before .before .before .before .before .before .before .before .before .before .before .before .loop-test .taken) (c .before .before .before .before .before .before .before .before .before .turn .ensures) (c .before .turned .given .1),
             ),
           ),
         ),
       ),
     )
 
-same-length-7 : tie.Need-same-length-7 Inv-loop μ-loop
-same-length-7 c = c .before .loop .inv .1 .0
+same-length-3 : tie.Need-same-length-3 Inv-loop μ-loop
+same-length-3 c = c .before .loop .inv .1 .0
 
-same-length-8 : tie.Need-same-length-8 Inv-loop μ-loop
-same-length-8 c = omega (arith, c .before .loop .inv .1 .1 .0, c .before .before .before .before .enter .kept .0)
+same-length-4 : tie.Need-same-length-4 Inv-loop μ-loop
+same-length-4 c = omega (arith, c .before .loop .inv .1 .1 .0, c .before .before .before .before .enter .kept .0)
 
-returns-4 : tie.Need-returns-4 Inv-loop μ-loop
-returns-4 c v =
+returns-2 : tie.Need-returns-2 Inv-loop μ-loop
+returns-2 c v =
     let i = c .before .loop .inv in
     pauses v _ _ _ (i .1 .1 .1 .1 .1 _ v (c .before .before .before .before .enter .ensures)) (i .1 .0) (i .1 .1 .1 .1 .0) (omega (arith, c .loop-test .left)) (i .0)
 
@@ -151,23 +123,13 @@ trace-spec =
     slice-aggregate-turn-2
     turn-requires
     enum-known-turned
+    ended-requires
     same-length
     same-length-2
     returns
-    enum-told
-    add-t37
-    same-length-3
-    same-length-4
-    returns-2
-    enum-told-2
-    add-t38
-    same-length-5
-    same-length-6
-    returns-3
-    enum-known-turned-2
     add-steps
     loop-less
     loop-again
-    same-length-7
-    same-length-8
-    returns-4)
+    same-length-3
+    same-length-4
+    returns-2)
