@@ -1,4 +1,4 @@
--- The alternatives of one DECODE: where they begin, in 64 cells of the room for each level of nesting, and what they come to.
+-- The alternatives of one DECODE: where they begin, in the cells of the room for its level of nesting, and what they come to.
 use Prim.Native.Nat.{ℕ, _+_, _*_, _<_, _≤_, min}
 use mathlib.Core.Path.{_≡_}
 use mathlib.Core.Bool.{true, false}

@@ -29,7 +29,7 @@ ghost use Rattle.keys.specs.Keys.{leastKey};
 ghost use Rattle.room.specs.Bodies.{levelBase};
 ghost use Rattle.choices.specs.Choices.{withStart, StartsView, OverlapAnswer, BehindView, BehindAnswer};
 
-// 45 for an alternative behind `number` others, where it is the 65th or a later one, or past the tested length.
+// 45 for an alternative behind `number` others, where it is one too many, or past the tested length.
 fn choice_fault(records: &[u8], at: usize, number: usize, past: bool) -> u32
     requires { ⌜ (8 * at + 8 ≤ length (now records)) × (placeCell (now records) at ≤ 32768) ⌝ }
     ensures { λ r. ⌜ r ≡ leastKey (when (leb mostAlternatives number || past) 45 (placeCell (now (records .entry)) at)) ⌝ }
@@ -68,7 +68,7 @@ pub fn selected_fault(records: &[u8], values: &[u8], at: usize, number: usize, b
     )
 }
 
-// Keeps where an alternative begins, for the 64 that are compared.
+// Keeps where an alternative begins, if it is one of those that are compared.
 pub fn keep_start(room: &mut [u8], depth: usize, number: usize, at: usize)
     requires { ⌜ (2 * levelBase (depth + 1) ≤ length (now room)) × (at < 65536) ⌝ }
     ensures { λ _. ⌜ now (room .exit) ≡ withStart (now (room .entry)) depth number at ⌝ }

@@ -1,4 +1,1 @@
-// The code of a description at its token numbers: see specs/. There is no code here; the one function stands for a crate that has none.
-pub fn edition() -> u32 {
-    1
-}
+// The code of a description at its token numbers: see specs/. There is no code here.

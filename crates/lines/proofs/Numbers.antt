@@ -22,26 +22,26 @@ decimal-short (suc k) n = by (ltb n 10) (decimal-short k (n / 10))
     by true h = omega arith
     by false h = omega (arith, length-append (decimalIn k (n / 10)) ((48 + n % 10) ∷ []))
 
-pub hex-long : (ten k n : ℕ) → length (hexIn ten k n) ≡ k
+pub hex-long : (k n : ℕ) → length (hexIn k n) ≡ k
 unfolding hexIn
-hex-long ten zero n = refl
-hex-long ten (suc k) n = omega (arith, length-append (hexIn ten k (n / 16)) (hexDigit ten (n % 16) ∷ []), hex-long ten k (n / 16))
+hex-long zero n = refl
+hex-long (suc k) n = omega (arith, length-append (hexIn k (n / 16)) (hexDigit (n % 16) ∷ []), hex-long k (n / 16))
 
 -- how far a number reaches
 pub decimal-put : (n : ℕ) {before after : List ℕ} {at r : ℕ} → Appended before after at r (decimalIn 20 n) → Appended before after at r (decimalIn 20 n) × (r ≤ at + 20)
 decimal-put n p = (p, omega (arith, p .size, decimal-short 20 n))
 
-pub hex-put : (ten n : ℕ) {before after : List ℕ} {at r : ℕ} → Appended before after at r (hexIn ten 16 n) → Appended before after at r (hexIn ten 16 n) × (r ≡ at + 16)
-hex-put ten n p = (p, omega (arith, p .size, hex-long ten 16 n))
+pub hex-put : (n : ℕ) {before after : List ℕ} {at r : ℕ} → Appended before after at r (hexIn 16 n) → Appended before after at r (hexIn 16 n) × (r ≡ at + 16)
+hex-put n p = (p, omega (arith, p .size, hex-long 16 n))
 
 -- behind the other digits there is room for the last
 pub room-for-digit : (k n : ℕ) {before between : List ℕ} {at next : ℕ} → (k ≡ 0 → ⊥) → Appended before between at next (decimalIn (k - 1) n) → at + k ≤ length before
     → next < length between
 room-for-digit k n h p z = let one : 0 < k = omega arith in omega (arith, p .size, p .room, decimal-short (k - 1) n)
 
-pub room-for-hex : (ten k n : ℕ) {before between : List ℕ} {at next : ℕ} → (k ≡ 0 → ⊥) → Appended before between at next (hexIn ten (k - 1) n) → at + k ≤ length before
+pub room-for-hex : (k n : ℕ) {before between : List ℕ} {at next : ℕ} → (k ≡ 0 → ⊥) → Appended before between at next (hexIn (k - 1) n) → at + k ≤ length before
     → next < length between
-room-for-hex ten k n h p z = let one : 0 < k = omega arith in omega (arith, p .size, p .room, hex-long ten (k - 1) n)
+room-for-hex k n h p z = let one : 0 < k = omega arith in omega (arith, p .size, p .room, hex-long (k - 1) n)
 
 pub no-digit : (k n : ℕ) {before : List ℕ} {at : ℕ} → k ≡ 0 → Appended before before at at (decimalIn k n)
 unfolding decimalIn
@@ -65,25 +65,25 @@ module _ (k n : ℕ) {before after : List ℕ} {at r : ℕ} where
       by zero h p = absurd (h refl)
       by (suc k) h p = let fewer : suc k - 1 ≡ k = omega arith in rw (decimalIn, le-ltb n 10 l) (and-then (rw fewer at p) q)
 
-pub no-hex : (ten k n : ℕ) {before : List ℕ} {at : ℕ} → k ≡ 0 → Appended before before at at (hexIn ten k n)
+pub no-hex : (k n : ℕ) {before : List ℕ} {at : ℕ} → k ≡ 0 → Appended before before at at (hexIn k n)
 unfolding hexIn
-no-hex ten k n e = rw (e, hexIn) nothing-more
+no-hex k n e = rw (e, hexIn) nothing-more
 
-module _ (ten k n : ℕ) {before after : List ℕ} {at r : ℕ} where
-  pub more-hex : {between : List ℕ} {next b : ℕ} → (k ≡ 0 → ⊥) → Appended before between at next (hexIn ten (k - 1) (n / 16)) → b ≡ hexDigit ten (n % 16)
-      → Appended between after next r (b ∷ []) → Appended before after at r (hexIn ten k n)
+module _ (k n : ℕ) {before after : List ℕ} {at r : ℕ} where
+  pub more-hex : {between : List ℕ} {next b : ℕ} → (k ≡ 0 → ⊥) → Appended before between at next (hexIn (k - 1) (n / 16)) → b ≡ hexDigit (n % 16)
+      → Appended between after next r (b ∷ []) → Appended before after at r (hexIn k n)
   unfolding hexIn
   more-hex {between} {next} {b} h p e q = by k h p
     where
-      by : (k : ℕ) → (k ≡ 0 → ⊥) → Appended before between at next (hexIn ten (k - 1) (n / 16)) → Appended before after at r (hexIn ten k n)
+      by : (k : ℕ) → (k ≡ 0 → ⊥) → Appended before between at next (hexIn (k - 1) (n / 16)) → Appended before after at r (hexIn k n)
       by zero h p = absurd (h refl)
       by (suc k) h p = let fewer : suc k - 1 ≡ k = omega arith in rw (hexIn, ← e) (and-then (rw fewer at p) q)
 
 -- a digit by its test
-pub low-digit : (ten d : ℕ) → d < 10 → 48 + d ≡ hexDigit ten d
+pub low-digit : (d : ℕ) → d < 10 → 48 + d ≡ hexDigit d
 unfolding hexDigit
-low-digit ten d h = rw (hexDigit, lt-ltb d 10 h)
+low-digit d h = rw (hexDigit, lt-ltb d 10 h)
 
-pub high-digit : (ten d : ℕ) → 10 ≤ d → ten + d % 10 ≡ hexDigit ten d
+pub high-digit : (d : ℕ) → 10 ≤ d → 65 + d % 10 ≡ hexDigit d
 unfolding hexDigit
-high-digit ten d h = rw (hexDigit, le-ltb d 10 h)
+high-digit d h = rw (hexDigit, le-ltb d 10 h)

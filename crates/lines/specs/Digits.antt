@@ -13,15 +13,15 @@ decimalIn (suc k) n = elim (ltb n 10) [ true ↦ (48 + n) ∷ [] | false ↦ dec
 abbrev pub decimalBytes : ℕ → List ℕ
 decimalBytes n = decimalIn 20 n
 
--- a digit below 16: `0` to `9`, then letters from `ten` on
-unfoldable pub hexDigit : ℕ → ℕ → ℕ
-hexDigit ten d = elim (ltb d 10) [ true ↦ 48 + d | false ↦ ten + d % 10 ]
+-- a digit below 16: `0` to `9`, then `A` to `F`
+unfoldable pub hexDigit : ℕ → ℕ
+hexDigit d = elim (ltb d 10) [ true ↦ 48 + d | false ↦ 65 + d % 10 ]
 
 -- the last k hexadecimal digits of n
-unfoldable pub hexIn : ℕ → ℕ → ℕ → List ℕ
-hexIn ten zero n = []
-hexIn ten (suc k) n = hexIn ten k (n / 16) ++ (hexDigit ten (n % 16) ∷ [])
+unfoldable pub hexIn : ℕ → ℕ → List ℕ
+hexIn zero n = []
+hexIn (suc k) n = hexIn k (n / 16) ++ (hexDigit (n % 16) ∷ [])
 
 -- a number of 64 bits in 16 digits, in capitals
 abbrev pub hexCapitals : ℕ → List ℕ
-hexCapitals n = hexIn 65 16 n
+hexCapitals n = hexIn 16 n

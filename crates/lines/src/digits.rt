@@ -28,32 +28,32 @@ pub fn put_decimal(out: &mut [u8], at: usize, n: u64) -> usize
     decimal_in(out, at, 20, n)
 }
 
-// A digit below 16, with letters from `ten` on.
-fn hex_digit(ten: u8, d: u64) -> u8
-    requires { ⌜ (d < 16) × (ten < 128) ⌝ }
-    ensures { λ r. ⌜ r ≡ hexDigit ten d ⌝ }
+// A digit below 16, in capitals.
+fn hex_digit(d: u64) -> u8
+    requires { ⌜ d < 16 ⌝ }
+    ensures { λ r. ⌜ r ≡ hexDigit d ⌝ }
 {
     if d < 10 {
         return 48 + d as u8;
     }
-    ten + (d % 10) as u8
+    b'A' + (d % 10) as u8
 }
 
 // The last k hexadecimal digits.
-fn hex_in(out: &mut [u8], at: usize, ten: u8, k: usize, n: u64) -> usize
-    requires { ⌜ (at + k ≤ length (now out)) × (ten < 128) ⌝ }
-    ensures { λ r. ⌜ Appended (now (out .entry)) (now (out .exit)) at r (hexIn ten k n) ⌝ }
+fn hex_in(out: &mut [u8], at: usize, k: usize, n: u64) -> usize
+    requires { ⌜ at + k ≤ length (now out) ⌝ }
+    ensures { λ r. ⌜ Appended (now (out .entry)) (now (out .exit)) at r (hexIn k n) ⌝ }
 {
     if k == 0 {
         return at;
     }
-    let next = hex_in(out, at, ten, k - 1, n / 16);
-    put_byte(out, next, hex_digit(ten, n % 16))
+    let next = hex_in(out, at, k - 1, n / 16);
+    put_byte(out, next, hex_digit(n % 16))
 }
 
 pub fn put_hex_capitals(out: &mut [u8], at: usize, n: u64) -> usize
     requires { ⌜ at + 16 ≤ length (now out) ⌝ }
     ensures { λ r. ⌜ Appended (now (out .entry)) (now (out .exit)) at r (hexCapitals n) × (r ≡ at + 16) ⌝ }
 {
-    hex_in(out, at, b'A', 16, n)
+    hex_in(out, at, 16, n)
 }

@@ -1,6 +1,6 @@
 -- The laws of places.
 pub mod Spans
-pub mod Tabled
+pub mod Valued
 pub mod Brackets
 pub mod Given
 pub mod Scene

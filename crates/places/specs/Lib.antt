@@ -1,5 +1,5 @@
 pub mod Spans
-pub mod Tabled
+pub mod Valued
 pub mod Brackets
 pub mod Given
 pub mod Packed

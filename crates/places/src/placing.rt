@@ -12,13 +12,13 @@ use rules::kinds::NAME;
 ghost use mathlib.Core.List.{List};
 ghost use Prim.Native.Nat.{ℕ, _*_, _+_, _<_, _≤_};
 ghost use lib.ListN.{length};
-ghost use Rattle.places.specs.Tabled.{Tabled};
+ghost use Rattle.places.specs.Valued.{Valued};
 ghost use Rattle.places.specs.Placing.{BehindIndex, Described, Placing, NameIn, PlacedBy, PlacedIn, AllPlaced};
 
 // The first token behind the subscript at p, if there is one.
 fn behind_index(records: &[u8], n: usize, p: usize) -> usize
-    requires { ⌜ ((values : List ℕ) × Tabled (now records) values n) × (p ≤ n) ⌝ }
-    ensures { λ r. ⌜ (r ≤ n) × ((values : List ℕ) (v : Tabled (now (records .entry)) values n) → BehindIndex (v .tokens) p r) ⌝ }
+    requires { ⌜ ((values : List ℕ) × Valued (now records) values n) × (p ≤ n) ⌝ }
+    ensures { λ r. ⌜ (r ≤ n) × ((values : List ℕ) (v : Valued (now (records .entry)) values n) → BehindIndex (v .tokens) p r) ⌝ }
 {
     if p == n {
         return p;

@@ -11,7 +11,7 @@ ghost use mathlib.Core.Path.{_≡_};
 ghost use mathlib.Core.List.{List};
 ghost use Prim.Native.Nat.{ℕ, _+_, _<_, _≤_};
 ghost use lib.ListN.{drop};
-ghost use Rattle.places.specs.Tabled.{Tabled};
+ghost use Rattle.places.specs.Valued.{Valued};
 ghost use Rattle.places.specs.Brackets.{opened, past};
 ghost use Rattle.places.specs.Given.{GivenNames};
 
@@ -34,8 +34,8 @@ fn opened(d: usize, kind: u8) -> usize
 
 // The first token behind the `]` of the `[` before p.
 pub fn behind_subscript(records: &[u8], n: usize, p: usize) -> usize
-    requires { ⌜ ((values : List ℕ) × Tabled (now records) values n) × (p ≤ n) ⌝ }
-    ensures { λ r. ⌜ (r ≤ n) × ((values : List ℕ) (v : Tabled (now (records .entry)) values n) → drop r (v .tokens) ≡ past 1 (drop p (v .tokens))) ⌝ }
+    requires { ⌜ ((values : List ℕ) × Valued (now records) values n) × (p ≤ n) ⌝ }
+    ensures { λ r. ⌜ (r ≤ n) × ((values : List ℕ) (v : Valued (now (records .entry)) values n) → drop r (v .tokens) ≡ past 1 (drop p (v .tokens))) ⌝ }
 {
     let mut d: usize = 1;
     let mut i = p;
@@ -51,8 +51,8 @@ pub fn behind_subscript(records: &[u8], n: usize, p: usize) -> usize
 
 // The names of the bits at p, of an access.
 pub fn given_names(records: &[u8], values: &[u8], n: usize, p: usize) -> Names
-    requires { ⌜ Tabled (now records) (now values) n × (p ≤ n) ⌝ }
-    ensures { λ r. ⌜ ((v : Tabled (now (records .entry)) (now (values .entry)) n) → GivenNames (v .tokens) p r) ⌝ }
+    requires { ⌜ Valued (now records) (now values) n × (p ≤ n) ⌝ }
+    ensures { λ r. ⌜ ((v : Valued (now (records .entry)) (now (values .entry)) n) → GivenNames (v .tokens) p r) ⌝ }
 {
     if n < p + 4 {
         return Names::Missing;

@@ -8,6 +8,7 @@ use Rattle.cells.specs.Cells.{cell}
 use Rattle.rules.specs.Text.Tokens.{Name, kindNo}
 use Rattle.rules.specs.Text.Scan.{sameBytes}
 use Rattle.rules.specs.Declarations.{Word}
+use Rattle.rules.specs.Limits.{mostTokens}
 use Rattle.paths.specs.Cited.Early.{Report}
 use Rattle.paths.specs.Cited.Marks.{Marks}
 use Rattle.paths.specs.Cited.Least.{least}
@@ -45,7 +46,7 @@ pub record Acting (records decls table room : List ℕ) (t : Task) (i : ℕ) (s 
   pub shows : Shows (book records (scene .written .tokens)) room i s state
   pub past : 0 < i
   pub within : i < t .n
-  pub few : i < 8192
+  pub few : i < mostTokens
   pub record-room : 8 * i + 8 ≤ length records
 
 -- what it did

@@ -1,4 +1,1 @@
-// Why a text is refused with 53 or 51: definitions and theorems, see specs/. There is no code here; the one function stands for a crate that has none.
-pub fn edition() -> u32 {
-    1
-}
+// Why a text is refused with 53 or 51: definitions and theorems, see specs/. There is no code here.

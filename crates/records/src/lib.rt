@@ -1,3 +1,3 @@
-// The record of a token and its value: the cells, who reads and who writes them, and the words of names.
+// The record of a token and its value: the cells, how they are read and written, and the words of names.
 pub mod fields;
 pub mod words;

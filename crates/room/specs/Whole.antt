@@ -5,7 +5,7 @@ use Prim.Native.Nat.{ℕ, _+_, _-_, _*_}
 abbrev pub labelsFrom : ℕ
 labelsFrom = 18432
 
--- the cells of the outermost scope, and what is behind them
+-- the first cell of the outermost scope, and what is behind its two cells
 abbrev pub firstScope : ℕ
 firstScope = 16382
 

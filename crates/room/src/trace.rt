@@ -7,8 +7,8 @@ pub const GROUPS: usize = 8192;
 
 pub const FLOOR: usize = 9216;
 
-pub const BAD: usize = 9217;
+pub const BAD: usize = FLOOR + 1;
 
-pub const DEPTH: usize = 9218;
+pub const DEPTH: usize = FLOOR + 2;
 
 pub const FIRST: usize = 10240;

@@ -5,6 +5,6 @@ pub const LABELS_BYTE: usize = 18432;
 // The scope of the outermost open block, before which the others stand, two cells each; what is behind it, where the hints begin; and how many hints there are.
 pub const FIRST_SCOPE: usize = 16382;
 
-pub const SCOPES_END: usize = 16384;
+pub const SCOPES_END: usize = FIRST_SCOPE + 2;
 
 pub const HINT_COUNT: usize = 7168;

@@ -1,3 +1,3 @@
 // Runs an accepted description from left to right, with a budget of steps.
 pub mod runs;
-mod turns;
+pub mod turns;

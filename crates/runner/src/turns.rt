@@ -8,7 +8,7 @@ ghost use Rattle.laws_orders.specs.Cited.Flat.{return};
 ghost use Rattle.runner.specs.Runs.{stackOf};
 ghost use Rattle.runner.specs.Turns.{turnedTo, Room, Turns};
 
-// Where control is behind a step: at an instruction, with so many return addresses; all has ended; at a STOP; or at a fault.
+// Where control is behind a step: at an instruction, with so many on the stack; all has ended; at a STOP; or at a fault.
 pub enum Turned {
     At(usize, usize),
     Over,
@@ -28,7 +28,7 @@ fn back(stack: &[usize; LONGEST_CHAIN], depth: usize) -> Turned
     Turned::At(stack[top], top)
 }
 
-// Behind a step that leads there. An activation that is the last thing in its body leaves no return address.
+// Where control goes behind a step. An activation that is the last thing in its body leaves no return address.
 pub fn onward(stack: &mut [usize; LONGEST_CHAIN], depth: usize, moved: Moved) -> Turned
     requires { ⌜ Room (now stack) moved depth ⌝ }
     ensures { λ r. ⌜ Turns (now (stack .entry)) moved depth (now (stack .exit)) r ⌝ }

@@ -9,6 +9,7 @@ use Rattle.rules.specs.Text.Tokens.{END, kindNo}
 use Rattle.rules.specs.Grammar.Trees.{Tokens}
 use Rattle.rules.specs.Declarations.{Table}
 use Rattle.rules.specs.Faults.Whole.{Scope}
+use Rattle.rules.specs.Limits.{mostTokens}
 use Rattle.records.specs.Holds.{kindByte, tokenAt, Tabled}
 use Rattle.reading.specs.Reading.{Kinded}
 use Rattle.reading.specs.Groups.{more}
@@ -64,7 +65,7 @@ pub record Turning (text records labels : List ℕ) (n i kind : ℕ) (several : 
   pub stack : Stack records labels n base top
   pub within : i < n
   pub later : 1 ≤ i
-  pub few : top + depth < 8192
+  pub few : top + depth < mostTokens
   pub kind-is : kind ≡ kindByte records i
   pub inner : kind ≡ kindNo END → 2 ≤ depth
   pub told : Told records n i kind several

@@ -13,6 +13,7 @@ use rules::kinds::SEMI;
 ghost use mathlib.Core.Path.{_≡_};
 ghost use Prim.Native.Nat.{_-_, _<_, _≤_};
 ghost use lib.ListN.{length};
+ghost use Rattle.rules.specs.Limits.{mostTokens};
 ghost use Rattle.room.specs.Whole.{labelsSize};
 ghost use Rattle.scopes.specs.Frames.{FramePushed, Surrounding, Opened, Followed, Turning, Turned, Fresh};
 
@@ -25,7 +26,7 @@ pub struct Nest {
 
 // Keeps the scope around a block that is opened with depth others around it.
 fn push_frame(labels: &mut [u8], depth: usize, base: usize, top: usize)
-    requires { ⌜ (labelsSize ≤ length (now labels)) × ((depth < 8192) × ((base < 65536) × (top < 65536))) ⌝ }
+    requires { ⌜ (labelsSize ≤ length (now labels)) × ((depth < mostTokens) × ((base < 65536) × (top < 65536))) ⌝ }
     ensures { λ _. ⌜ FramePushed (now (labels .entry)) (now (labels .exit)) depth base top ⌝ }
 {
     let at = FIRST_SCOPE - 2 * depth;
@@ -35,7 +36,7 @@ fn push_frame(labels: &mut [u8], depth: usize, base: usize, top: usize)
 
 // Behind a BEGIN.
 fn opened(labels: &mut [u8], several: bool, depth: usize, base: usize, top: usize) -> Nest
-    requires { ⌜ (labelsSize ≤ length (now labels)) × ((depth < 8192) × ((base < 65536) × (top < 65536))) ⌝ }
+    requires { ⌜ (labelsSize ≤ length (now labels)) × ((depth < mostTokens) × ((base < 65536) × (top < 65536))) ⌝ }
     ensures { λ r. ⌜ Opened several (now (labels .entry)) (now (labels .exit)) depth base top (r .depth) (r .base) (r .top) ⌝ }
 {
     push_frame(labels, depth, base, top);
@@ -55,7 +56,7 @@ fn opened(labels: &mut [u8], several: bool, depth: usize, base: usize, top: usiz
 
 // The scope around the innermost open block.
 fn surrounding(labels: &[u8], depth: usize, top: usize) -> Nest
-    requires { ⌜ (labelsSize ≤ length (now labels)) × ((depth < 8192) × (top < 65536)) ⌝ }
+    requires { ⌜ (labelsSize ≤ length (now labels)) × ((depth < mostTokens) × (top < 65536)) ⌝ }
     ensures { λ r. ⌜ (r .depth ≡ depth) × Surrounding (now (labels .entry)) depth top (r .base) (r .top) ⌝ }
 {
     if depth == 0 {
@@ -86,7 +87,7 @@ fn fresh(depth: usize, top: usize) -> Nest
 
 // Behind an END.
 fn closed(labels: &[u8], depth: usize, top: usize) -> Nest
-    requires { ⌜ (labelsSize ≤ length (now labels)) × ((0 < depth) × ((depth < 8192) × (top < 65536))) ⌝ }
+    requires { ⌜ (labelsSize ≤ length (now labels)) × ((0 < depth) × ((depth < mostTokens) × (top < 65536))) ⌝ }
     ensures { λ r. ⌜ (r .depth ≡ depth - 1) × Surrounding (now (labels .entry)) depth top (r .base) (r .top) ⌝ }
 {
     let around = surrounding(labels, depth, top);
@@ -99,7 +100,7 @@ fn closed(labels: &[u8], depth: usize, top: usize) -> Nest
 
 // Behind a NEXT.
 fn next_group(labels: &[u8], several: bool, depth: usize, top: usize) -> Nest
-    requires { ⌜ (labelsSize ≤ length (now labels)) × ((depth < 8192) × (top < 65536)) ⌝ }
+    requires { ⌜ (labelsSize ≤ length (now labels)) × ((depth < mostTokens) × (top < 65536)) ⌝ }
     ensures { λ r. ⌜ Followed several (now (labels .entry)) depth top (r .depth) (r .base) (r .top) ⌝ }
 {
     if several {

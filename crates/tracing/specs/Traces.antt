@@ -24,8 +24,8 @@ use Rattle.telling.specs.Cited.Tracing.{groupsOf, Traced, traceRun}
 use Rattle.members.specs.Cells.{cellsIn}
 use Rattle.matching.specs.Matching.{untold, toldAll}
 use Rattle.matching.specs.Room.{Stands}
-use Rattle.turning.specs.declared.ways.Turned.{Turned}
-use Rattle.turning.specs.declared.ways.Turned.the-variants.{At, Over, Stop, Fault}
+use Rattle.runner.specs.declared.turns.Turned.{Turned}
+use Rattle.runner.specs.declared.turns.Turned.the-variants.{At, Over, Stop, Fault}
 use Rattle.tracing.specs.Turns.{cellsAt, groupingAt}
 
 -- how a run stands behind k steps and one that leads there

@@ -16,9 +16,10 @@ use Rattle.matching.specs.Room.{matchingIn, Sound, Stands}
 use Rattle.room.specs.Trace.{mostGroups}
 use Rattle.passing.specs.Ways.{groupingIn}
 use Rattle.passing.specs.Depth.{depthAfter}
-use Rattle.turning.specs.declared.ways.Turned.{Turned}
-use Rattle.turning.specs.declared.ways.Turned.the-variants.{At, Over, Stop, Fault}
-use Rattle.turning.specs.Ways.{Linked, turnedTo}
+use Rattle.runner.specs.declared.turns.Turned.{Turned}
+use Rattle.runner.specs.declared.turns.Turned.the-variants.{At, Over, Stop, Fault}
+use Rattle.turning.specs.Ways.{Linked}
+use Rattle.runner.specs.Turns.{turnedTo}
 
 abbrev pub cellsAt : ℕ
 cellsAt = 32768

@@ -3,9 +3,10 @@ use crate::turns::turn;
 use passing::enter;
 use rules::limits::LONGEST_CHAIN;
 use runner::runs::Ended;
-use turning::ways::Turned;
+use runner::turns::Turned;
 ghost use mathlib.Core.Path.{_≡_};
 ghost use Prim.Native.Nat.{_<_};
+ghost use Rattle.rules.specs.Limits.{mostSteps};
 ghost use Rattle.tracing.specs.Traces.{endedBy, TraceAt, TraceTold};
 
 // Where the cells of tokens begin in the memory, behind the room for the carriers.
@@ -16,7 +17,7 @@ const SCRATCH: usize = 512;
 
 // How a run stands behind so many steps and one that leads there: at an instruction it is paused.
 fn ended(turned: Turned, steps: u32) -> Ended
-    requires { ⌜ steps < 4294967295 ⌝ }
+    requires { ⌜ steps < mostSteps ⌝ }
     ensures { λ r. ⌜ r ≡ endedBy turned steps ⌝ }
 {
     match turned {

@@ -1,7 +1,7 @@
 // One turn of the run: a step, whose stores are told, and then what control passes.
 use crate::acts::act;
 use crate::runs::CELLS;
-use turning::ways::Turned;
+use runner::turns::Turned;
 use turning::ways::onward;
 ghost use Prim.Native.Nat.{_≤_};
 ghost use lib.ListN.{length};

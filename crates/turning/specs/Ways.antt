@@ -5,13 +5,14 @@ use mathlib.Core.Path.{_≡_}
 use mathlib.Core.List.{List, [], _∷_, map}
 use lib.ListN.{length, getD}
 use Rattle.rules.specs.Stores.{Entry}
-use Rattle.laws_orders.specs.Cited.Flat.{Link, at, exit, Code, pc, over, halt, broken}
+use Rattle.laws_orders.specs.Cited.Flat.{Link, at, exit, Code, pc, halt, broken}
 use Rattle.laws_orders.specs.Cited.Flat as flat
 use Rattle.records.specs.Holds.{linkCell}
 use Rattle.promise.specs.Instructions.{linkNo}
 use Rattle.stepping.specs.declared.steps.Moved.{Moved}
 use Rattle.stepping.specs.declared.steps.Moved.the-variants.{Go, Call, Stop, Fault}
 use Rattle.runner.specs.Runs.{stackOf}
+use Rattle.runner.specs.Turns.{turnedTo}
 use Rattle.telling.specs.Cited.Passing.{Grouping, groupEvent, passage}
 use Rattle.telling.specs.Cited.Tracing.{Told, told, linkOf, follow}
 use Rattle.matching.specs.Matching.{toldAll}
@@ -19,8 +20,7 @@ use Rattle.matching.specs.Room.{matchingIn, Sound, Stands}
 use Rattle.room.specs.Trace.{mostGroups}
 use Rattle.passing.specs.Ways.{groupingIn}
 use Rattle.passing.specs.Depth.{depthAfter}
-use Rattle.turning.specs.declared.ways.Turned.{Turned}
-use Rattle.turning.specs.declared.ways.Turned.the-variants.{At, Over, Stop as Stood, Fault as Broken}
+use Rattle.runner.specs.declared.turns.Turned.{Turned}
 
 -- 0 leads out of the body
 abbrev pub linkTo : ℕ → Link
@@ -33,12 +33,6 @@ wayOf n (Go k) C M κ = follow C M (M .around n) (linkTo k) κ
 wayOf n (Call f k) C M κ = told (pc f (n ∷ κ)) (passage M [] (M .around f))
 wayOf n Stop C M κ = told halt []
 wayOf n (Fault m p) C M κ = told (broken m p) []
-
-abbrev pub turnedTo : Turned → List ℕ → flat.At
-turnedTo (At n d) stack = pc n (stackOf stack d)
-turnedTo Over stack = over
-turnedTo Stood stack = halt
-turnedTo (Broken m p) stack = broken m p
 
 -- the link behind an activation stands in the table
 pub record Linked (records : List ℕ) (C : Code) (m : ℕ) : Type 0 where

@@ -3,19 +3,12 @@ use passing::enter;
 use passing::leave;
 use passing::pass;
 use records::fields::link_at;
+use runner::turns::Turned;
 use stepping::steps::Moved;
 ghost use Prim.Native.Nat.{_<_};
 ghost use lib.ListN.{length};
 ghost use Rattle.telling.specs.Cited.Tracing.{return};
 ghost use Rattle.turning.specs.Ways.{wayOf, WayAt, WayTold};
-
-// Where control is behind a step: at an instruction, with so many activations that go on; all has ended; at a STOP; or at a fault.
-pub enum Turned {
-    At(usize, usize),
-    Over,
-    Stop,
-    Fault(u32, u16),
-}
 
 // Out of a body: control goes on behind its activation, or out of that body too.
 fn back(

@@ -1,4 +1,1 @@
-// Texts worked out by the definitions of `rules`: see specs/. There is no code here; the one function stands for a crate that has none.
-pub fn edition() -> u32 {
-    1
-}
+// Texts worked out by the definitions of `rules`: see specs/. There is no code here.

@@ -13,10 +13,10 @@ use Rattle.records.specs.Holds.{kindByte, valueCell}
 use Rattle.table.specs.Laws.Positions.{kind-far, value-far}
 use Rattle.table.specs.declared.views.Names.the-variants.{Missing, Span}
 use Rattle.promise.specs.Accesses.{EndsAccess}
-use Rattle.places.specs.Tabled.{Tabled}
+use Rattle.places.specs.Valued.{Valued}
 use Rattle.places.specs.Given.{GivenNames}
 
-module _ {records values : List ℕ} {n : ℕ} (p : ℕ) (v : Tabled records values n) where
+module _ {records values : List ℕ} {n : ℕ} (p : ℕ) (v : Valued records values n) where
   room : (xs : Tokens) → drop p (v .tokens) ≡ xs → p ≤ n → p + length xs ≡ n
   room xs e h = omega (arith, v .count, ap length e, length-drop p (v .tokens))
 

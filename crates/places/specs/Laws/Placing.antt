@@ -26,8 +26,8 @@ use Rattle.table.specs.Laws.Positions.{here, kind-far}
 use Rattle.table.specs.Ready.{Ready, Scene, outerOf, tableOf}
 use Rattle.table.specs.declared.views.Names.{Names}
 use Rattle.promise.specs.Accesses.{leftName, rightName, EndsAccess}
-use Rattle.places.specs.Tabled.{Tabled}
-use Rattle.places.specs.Laws.Tabled.{kind-there}
+use Rattle.places.specs.Valued.{Valued}
+use Rattle.places.specs.Laws.Valued.{kind-there}
 use Rattle.places.specs.Brackets.{past}
 use Rattle.places.specs.Laws.Brackets.{past-index}
 use Rattle.places.specs.Given.{GivenNames}
@@ -43,7 +43,7 @@ use Rattle.places.specs.Placing.{BehindIndex, Placing, NameIn, PlacedBy,
 pub kind-of : (t : Token) (k : ℕ) → kindNo (t .kind) ≡ k → t .kind ≡ kindAt k
 kind-of t k e = sym (kindAt-kindNo (t .kind)) ∙ ap kindAt e
 
-module _ {records values : List ℕ} {n : ℕ} (p : ℕ) (v : Tabled records values n) where
+module _ {records values : List ℕ} {n : ℕ} (p : ℕ) (v : Valued records values n) where
   bracketed : (s : Subscript) (b : Bits) (rest : Tokens) → drop p (v .tokens) ≡ subscriptTokens s (bitsTokens b rest) → EndsAccess rest
       → (kindByte records p ≡ kindNo LBra → ⊥) → drop p (v .tokens) ≡ bitsTokens b rest
   bracketed no-subscript b rest e x k = e
@@ -103,12 +103,12 @@ module _ {records values decls : List ℕ} {m : ℕ} (s : Scene records values d
       let h = small-reach x r q in
       record { first = h .0; left = h .1; right = h .2; fits = rw (← same) (a .fitting .fits) }
 
-abbrev pub tabled : {records values decls firsts : List ℕ} {n m : ℕ} → Placing records values decls firsts n m → Tabled records values n
+abbrev pub tabled : {records values decls firsts : List ℕ} {n m : ℕ} → Placing records values decls firsts n m → Valued records values n
 tabled v = record { text = v .scene .text; tokens = v .scene .tokens; holds = v .scene .ready .holds; count = v .count }
 
 -- the cell of one name
 module _ {records values decls firsts : List ℕ} {n m i : ℕ} where
-  pub behind-name : NameIn records values decls firsts n m i → ((values : List ℕ) × Tabled records values n) × (i + 1 ≤ n)
+  pub behind-name : NameIn records values decls firsts n m i → ((values : List ℕ) × Valued records values n) × (i + 1 ≤ n)
   behind-name v = ((values, tabled (v .placing)), omega (arith, v .placing .count, v .name .within))
 
   module _ {k : ℕ} (e : k ≡ insideCell records i) where
@@ -129,8 +129,8 @@ module _ {records values decls firsts : List ℕ} {n m i : ℕ} where
 
     pub place-here : (h : k < m) {base : Base}
         → ((w : BaseAt records values decls firsts m k) (r : Reach) → reachNumber (tableOf (w .scene)) (some k) ≡ some r → BaseShows base r)
-        → (p : ℕ) → ((values : List ℕ) (w : Tabled records values n) → BehindIndex (w .tokens) (i + 1) p)
-        → {given : Names} → ((w : Tabled records values n) → GivenNames (w .tokens) p given)
+        → (p : ℕ) → ((values : List ℕ) (w : Valued records values n) → BehindIndex (w .tokens) (i + 1) p)
+        → {given : Names} → ((w : Valued records values n) → GivenNames (w .tokens) p given)
         → {c : ℕ} → CellShows base given c
         → (v : NameIn records values decls firsts n m i) → PlacedBy v c
     place-here h based p behind names cell v x s b rest r q z f w =

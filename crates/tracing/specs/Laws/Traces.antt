@@ -41,9 +41,10 @@ use Rattle.room.specs.Trace.{mostGroups}
 use Rattle.passing.specs.Ways.{groupingIn, into}
 use Rattle.passing.specs.Depth.{depthAfter}
 use Rattle.passing.specs.Laws.Depth.{depth-told}
-use Rattle.turning.specs.declared.ways.Turned.{Turned}
-use Rattle.turning.specs.declared.ways.Turned.the-variants.{At, Over, Stop as Stood, Fault as Broken}
-use Rattle.turning.specs.Ways.{turnedTo, Linked}
+use Rattle.runner.specs.declared.turns.Turned.{Turned}
+use Rattle.runner.specs.declared.turns.Turned.the-variants.{At, Over, Stop as Stood, Fault as Broken}
+use Rattle.turning.specs.Ways.{Linked}
+use Rattle.runner.specs.Turns.{turnedTo}
 use Rattle.tracing.specs.Turns.{cellsAt, groupingAt, TurnAt, Keeps, TurnTold}
 use Rattle.tracing.specs.Traces.{endedBy, TraceAt, tableOf, codeOf, wordsIn, tracedBy, TraceTold}
 use Rattle.tracing.specs.Laws.Steps.{put-same}

@@ -26,10 +26,11 @@ use Rattle.matching.specs.Room.{matchingIn}
 use Rattle.room.specs.Trace.{mostGroups}
 use Rattle.passing.specs.Depth.{depthAfter}
 use Rattle.passing.specs.Laws.Telling.{told-append}
-use Rattle.turning.specs.declared.ways.Turned.{Turned}
-use Rattle.turning.specs.declared.ways.Turned.the-variants.{At, Over, Stop as Stood, Fault as Broken}
+use Rattle.runner.specs.declared.turns.Turned.{Turned}
+use Rattle.runner.specs.declared.turns.Turned.the-variants.{At, Over, Stop as Stood, Fault as Broken}
 use Rattle.tracing.specs.Acts.{ActTold}
-use Rattle.turning.specs.Ways.{linkTo, wayOf, turnedTo, WayAt, WayTold}
+use Rattle.turning.specs.Ways.{linkTo, wayOf, WayAt, WayTold}
+use Rattle.runner.specs.Turns.{turnedTo}
 use Rattle.tracing.specs.Turns.{cellsAt, groupingAt, TurnAt, Keeps, TurnTold}
 use Rattle.tracing.specs.Laws.Steps.{Calm, Takes, takes}
 

@@ -22,9 +22,10 @@ use Rattle.passing.specs.Depth.{depthAfter}
 use Rattle.passing.specs.Ways.{groupingIn, between, into, outOf}
 use Rattle.passing.specs.Laws.Depth.{depth-told, depth-append}
 use Rattle.passing.specs.Laws.Telling.{told-append}
-use Rattle.turning.specs.declared.ways.Turned.{Turned}
-use Rattle.turning.specs.declared.ways.Turned.the-variants.{At, Over, Stop as Stood, Fault as Broken}
-use Rattle.turning.specs.Ways.{linkTo, wayOf, turnedTo, Linked, WayAt, WayTold}
+use Rattle.runner.specs.declared.turns.Turned.{Turned}
+use Rattle.runner.specs.declared.turns.Turned.the-variants.{At, Over, Stop as Stood, Fault as Broken}
+use Rattle.turning.specs.Ways.{linkTo, wayOf, Linked, WayAt, WayTold}
+use Rattle.runner.specs.Turns.{turnedTo}
 
 -- what is told of some passings
 abbrev Tells : List Passing → List ℕ → List ℕ → Type 0

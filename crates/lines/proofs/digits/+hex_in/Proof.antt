@@ -14,7 +14,7 @@ use Rattle.lines.proofs.digits.+hex_in.{statement}
 use Rattle.lines.proofs.digits.+hex_in.Tie.{close}
 
 abbrev μ-hex-in : Measures 1 hex-in-kinds.ps ℕ
-μ-hex-in κs a = a .1 .1 .1 .0
+μ-hex-in κs a = a .1 .1 .0
 
 abbrev hex-in-at : ℕ → In 1 hex-in-kinds.ps
 hex-in-at t = and 1 hex-in-kinds.ps (is 1 hex-in-kinds.ps μ-hex-in t) hex-in.Pre

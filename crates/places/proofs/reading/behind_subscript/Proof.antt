@@ -7,8 +7,8 @@ use mathlib.Core.List.{List}
 use Prim.Native.Nat.{ℕ, _+_, _*_, _-_, _<_, _≤_}
 use lib.ListN.{length, drop}
 use Rattle.records.specs.Holds.{kindByte}
-use Rattle.places.specs.Tabled.{Tabled}
-use Rattle.places.specs.Laws.Tabled.{few, record-there, kind-there, next-token, no-more}
+use Rattle.places.specs.Valued.{Valued}
+use Rattle.places.specs.Laws.Valued.{few, record-there, kind-there, next-token, no-more}
 use Rattle.places.specs.Brackets.{opened, past}
 use Rattle.places.specs.Laws.Brackets.{past-all, past-none, past-one}
 use Rattle.places.proofs.reading.behind_subscript.Statement.{statement}
@@ -17,13 +17,13 @@ use Rattle.places.proofs.reading.behind_subscript.Tie as tie
 record Inv (records : List ℕ) (n p d i : ℕ) : Type 0 where
   pub within : i ≤ n
   pub shallow : d ≤ i + 1
-  pub left : (values : List ℕ) (v : Tabled records values n) → past d (drop i (v .tokens)) ≡ past 1 (drop p (v .tokens))
+  pub left : (values : List ℕ) (v : Valued records values n) → past d (drop i (v .tokens)) ≡ past 1 (drop p (v .tokens))
 
 start : (records : List ℕ) (n p : ℕ) → p ≤ n → Inv records n p 1 p
 start records n p h = record { within = h; shallow = omega arith; left = λ values v. refl }
 
 module _ {records : List ℕ} {n p d i : ℕ} (inv : Inv records n p d i) where
-  found : d ≡ 0 → (values : List ℕ) (v : Tabled records values n) → drop i (v .tokens) ≡ past 1 (drop p (v .tokens))
+  found : d ≡ 0 → (values : List ℕ) (v : Valued records values n) → drop i (v .tokens) ≡ past 1 (drop p (v .tokens))
   found z values v = sym (past-none d (drop i (v .tokens)) z) ∙ inv .left values v
 
   passed : {k e : ℕ} → i < n → (d ≡ 0 → ⊥) → k ≡ kindByte records i → (e ≡ opened d k) × (e ≤ d + 1) → Inv records n p e (i + 1)
@@ -35,13 +35,13 @@ module _ {records : List ℕ} {n p d i : ℕ} (inv : Inv records n p d i) where
         ∙ (sym (ap (past d) (next-token v h) ∙ past-one d _ _ z) ∙ inv .left values v);
   }
 
-  ended : n ≤ i → (values : List ℕ) (v : Tabled records values n) → drop i (v .tokens) ≡ past 1 (drop p (v .tokens))
+  ended : n ≤ i → (values : List ℕ) (v : Valued records values n) → drop i (v .tokens) ≡ past 1 (drop p (v .tokens))
   ended h values v = let x = no-more v h in x ∙ (sym (past-all d) ∙ (sym (ap (past d) x) ∙ inv .left values v))
 
-  small : (values : List ℕ) × Tabled records values n → i < n → d < 65536
+  small : (values : List ℕ) × Valued records values n → i < n → d < 65536
   small t h = omega (arith, inv .shallow, few (t .1))
 
-  room : (values : List ℕ) × Tabled records values n → i < n → 8 * i + 8 ≤ length records
+  room : (values : List ℕ) × Valued records values n → i < n → 8 * i + 8 ≤ length records
   room t h = record-there (t .1) h
 
 abbrev Inv-loop : tie.InvT-loop

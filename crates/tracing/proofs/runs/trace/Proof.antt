@@ -9,7 +9,7 @@ use mathlib.Core.List.{List}
 use lib.ListN.{length}
 use denote.Enum.Declared.{tagOf}
 use Rattle.runner.specs.Runs.{stackOf}
-use Rattle.turning.proofs.ways.Turned.{the-type}
+use Rattle.runner.proofs.turns.Turned.{the-type}
 use Rattle.tracing.specs.Traces.{TraceAt}
 use Rattle.tracing.specs.Laws.Traces.{Tracing, Entered, enters, tracing-begins, turn-at, ends, goes-on, pauses}
 use Rattle.tracing.proofs.runs.trace.Statement.{statement}

@@ -10,9 +10,9 @@ use lib.Seq.{drop-cons}
 use Rattle.rules.specs.Text.Tokens.{Name, kindNo, tk}
 use Rattle.rules.specs.Text.Scan.{plainInfo}
 use Rattle.records.specs.Holds.{kindByte, tokenAt}
-use Rattle.places.specs.Tabled.{Tabled}
+use Rattle.places.specs.Valued.{Valued}
 
-module _ {records values : List ℕ} {n : ℕ} (v : Tabled records values n) where
+module _ {records values : List ℕ} {n : ℕ} (v : Valued records values n) where
   pub few : n ≤ 8192
   few = omega (arith, v .count, v .holds .few)
 

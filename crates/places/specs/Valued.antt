@@ -6,7 +6,7 @@ use lib.ListN.{length}
 use Rattle.rules.specs.Grammar.Trees.{Tokens}
 use Rattle.records.specs.Holds.{Holds}
 
-pub record Tabled (records values : List ℕ) (n : ℕ) : Type 0 where
+pub record Valued (records values : List ℕ) (n : ℕ) : Type 0 where
   pub text : List ℕ
   pub tokens : Tokens
   pub holds : Holds text records values tokens
