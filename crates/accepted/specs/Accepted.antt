@@ -2,8 +2,8 @@
 use Rattle.std.specs.Prelude.{ℕ, ◌≤◌, ◌≡◌, List, [], length}
 use Rattle.rules.specs.Text.Scan.{scan}
 use Rattle.rules.specs.Grammar.Trees.{Description, flatten}
-use Rattle.rules.specs.Declarations.{Table, declarations, outerName, totalWords}
-use Rattle.rules.specs.Limits.{mostWords}
+use Rattle.rules.specs.Declarations.{Table, declarations, outer_name, total_words}
+use Rattle.rules.specs.Limits.{most_words}
 use Rattle.rules.specs.Faults.Bodies.{faults40}
 use Rattle.rules.specs.Faults.Whole.{faults50}
 use Rattle.rules.specs.Answers.{judgement, accepted, Checks}
@@ -22,19 +22,19 @@ pub record Declares (text records values decls : List ℕ) (m n : ℕ) : Type 0 
 -- a description without faults of the 30s and 40s
 pub record Lawful (text records values decls : List ℕ) (m n : ℕ) : Type 0 where
   pub declares : Declares text records values decls m n
-  pub sound : faults40 (outerName declares.description).word (declarations declares.description) (declarations declares.description) ≡ []
+  pub sound : faults40 (outer_name declares.description).word (declarations declares.description) (declarations declares.description) ≡ []
 
 -- a description that is accepted, and the table that holds it
 pub record Accepts (text records values decls : List ℕ) (m words n : ℕ) : Type 0 where
   pub lawful : Lawful text records values decls m n
   pub whole : faults50 (declarations lawful.declares.description) ≡ []
-  pub counted : words ≡ totalWords (declarations lawful.declares.description)
-  pub few_words : words ≤ mostWords
+  pub counted : words ≡ total_words (declarations lawful.declares.description)
+  pub few_words : words ≤ most_words
   pub verdict : Checks text (accepted m words)
 
 module _ {text records values decls : List ℕ} {m words n : ℕ} (v : Accepts text records values decls m words n) where
-  abbrev pub described-by : Description
-  described-by = v.lawful.declares.description
+  abbrev pub described_by : Description
+  described_by = v.lawful.declares.description
 
-  abbrev pub table-by : Table
-  table-by = declarations described-by
+  abbrev pub table_by : Table
+  table_by = declarations described_by

@@ -1,7 +1,7 @@
 -- The tables of an accepted declaration part, and the answer for what stands in them at a token.
 use Rattle.std.specs.Prelude.{ℕ, ◌<◌, ◌≡◌, List, drop}
 use Rattle.rules.specs.Grammar.Trees.{Tokens, Description}
-use Rattle.rules.specs.Declarations.{Word, Table, declarations, outerName}
+use Rattle.rules.specs.Declarations.{Word, Table, declarations, outer_name}
 use Rattle.rules.specs.Faults.Bodies.{Judged}
 use Rattle.table.specs.Ready.{Ready}
 use Rattle.weighing.specs.Weights.{Weighs}
@@ -15,8 +15,8 @@ pub record Scene (records values decls : List ℕ) : Type 0 where
   pub count : ℕ
   pub ready : Ready text records values decls tokens description count
 
-abbrev pub outerOf : {records values decls : List ℕ} → Scene records values decls → Word
-outerOf s = (outerName s.description).word
+abbrev pub outer_of : {records values decls : List ℕ} → Scene records values decls → Word
+outer_of s = (outer_name s.description).word
 
 abbrev pub table_of : {records values decls : List ℕ} → Scene records values decls → Table
 table_of s = declarations s.description

@@ -1,16 +1,16 @@
 // The length of an access, by the names of its bits.
 ghost use Rattle.std.specs.Prelude.{◌≡◌, ◌≤◌};
 ghost use Rattle.rules.specs.Declarations as rules;
-ghost use Rattle.rules.specs.Declarations.{howMany};
-ghost use Rattle.accesses.specs.Lengths.{Short, ownLength, partLength, accessLength};
+ghost use Rattle.rules.specs.Declarations.{how_many};
+ghost use Rattle.accesses.specs.Lengths.{Short, own_length, part_length, access_length};
 
 use spans::inside;
 use table::views::Names;
 
 // How many names there are from l to r: as many as a value has bits, at most.
 fn how_many(l: u64, r: u64) -> u32
-    requires { howMany (rules.names l r) ≤ 64 }
-    ensures { result ≡ howMany (rules.names l r) }
+    requires { how_many (rules.names l r) ≤ 64 }
+    ensures { result ≡ how_many (rules.names l r) }
 {
     if l <= r {
         return (r - l + 1) as u32;
@@ -21,7 +21,7 @@ fn how_many(l: u64, r: u64) -> u32
 // All bits of a declaration.
 fn own_length(own: Names) -> u32
     requires { Short own }
-    ensures { result ≡ ownLength own }
+    ensures { result ≡ own_length own }
 {
     match own {
         Names::Missing => 0,
@@ -33,7 +33,7 @@ fn own_length(own: Names) -> u32
 // The bits from l to r; 0 where they are outside or run the other way.
 fn part_length(own: Names, l: u64, r: u64) -> u32
     requires { Short own }
-    ensures { result ≡ partLength own l r }
+    ensures { result ≡ part_length own l r }
 {
     match own {
         Names::Missing => 0,
@@ -50,7 +50,7 @@ fn part_length(own: Names, l: u64, r: u64) -> u32
 // The length of an access to bits of a declaration, with or without names of its own.
 pub fn access_length(own: Names, given: Names) -> u32
     requires { Short own }
-    ensures { result ≡ accessLength own given }
+    ensures { result ≡ access_length own given }
 {
     match given {
         Names::Missing => own_length(own),

@@ -4,10 +4,10 @@ ghost use Rattle.std.proofs.Math.Option.{Option};
 ghost use Rattle.rules.specs.Grammar.Trees.{Bits};
 ghost use Rattle.rules.specs.Grammar.Precedence.{Index};
 ghost use Rattle.rules.specs.Declarations as rules;
-ghost use Rattle.rules.specs.Faults.Bodies.{accessJudged};
+ghost use Rattle.rules.specs.Faults.Bodies.{access_judged};
 ghost use Rattle.accesses.specs.Lengths.{Short};
 ghost use Rattle.weighing.specs.Weights.{Weighs};
-ghost use Rattle.accesses.specs.Names.{NamedAt, NamedAnswer, isMissing, fitsWords, Shows};
+ghost use Rattle.accesses.specs.Names.{NamedAt, NamedAnswer, is_missing, fits_words, Shows};
 
 use crate::Judged;
 use crate::lengths::access_length;
@@ -19,7 +19,7 @@ use table::views::{Names, bits_of, bits_size, names_at, words_of};
 use weighing::Weight;
 
 pub fn is_missing(names: Names) -> bool
-    ensures { result ≡ isMissing names }
+    ensures { result ≡ is_missing names }
 {
     match names {
         Names::Missing => true,
@@ -30,7 +30,7 @@ pub fn is_missing(names: Names) -> bool
 
 // Whether a subscript, given or not, fits the words of a declaration.
 fn fits_words(words: Names, given: bool) -> bool
-    ensures { result ≡ fitsWords words given }
+    ensures { result ≡ fits_words words given }
 {
     match words {
         Names::Missing => !given,
@@ -49,7 +49,7 @@ fn declared_weight(
 ) -> Weight
     requires { Short own × (place ≤ 32768) }
     ensures { (w : Option rules.Names) (b : Option rules.BitNames) (x : Index) (g : Bits) → Shows words own given subscripted w b x g
-        → Weighs result.key result.bits (accessJudged place w b x g) }
+        → Weighs result.key result.bits (access_judged place w b x g) }
 {
     if is_missing(own) {
         return Weight {

@@ -2,8 +2,8 @@
 ghost use Rattle.std.specs.Prelude.{◌≡◌, List, ℕ, ◌+◌};
 ghost use Rattle.stacks.specs.Stacks.{Kept};
 ghost use Rattle.plain.specs.Actions.{ActionView, ActionAnswer, IsBlock, IsDecode};
-ghost use Rattle.room.specs.Bodies.{levelBase};
-ghost use Rattle.actions.specs.Alternatives.{isSelector, ChoicesView, ChoicesAnswer, IsCounted, IsSelected};
+ghost use Rattle.room.specs.Bodies.{level_base};
+ghost use Rattle.actions.specs.Alternatives.{is_selector, ChoicesView, ChoicesAnswer, IsCounted, IsSelected};
 
 use choices::{behind_selector, counted_fault, keep_start, overlap_fault, selected_fault};
 use expressions::judge::expression;
@@ -16,7 +16,7 @@ use rules::kinds::{BEGIN, CONST, DECODE, END, LBRA, MASKED, OTHERWISE};
 
 // Whether a token of this kind begins a selector: a constant, `[` or OTHERWISE.
 fn has_selector(kind: u8) -> bool
-    ensures { result ≡ isSelector kind }
+    ensures { result ≡ is_selector kind }
 {
     (kind == CONST) | (kind == MASKED) | (kind == LBRA) | (kind == OTHERWISE)
 }
@@ -33,7 +33,7 @@ pub fn action(
     depth: usize,
 ) -> Walked
     requires { (text : List ℕ) × ActionView text records.now values.now decls.now room.old i count depth }
-    ensures kept { Kept records.now count (levelBase depth) room.old room.new }
+    ensures kept { Kept records.now count (level_base depth) room.old room.new }
     ensures answer { (text : List ℕ) (v : ActionView text records.now values.now decls.now room.old i count depth)
         → ActionAnswer v result }
 {
@@ -74,7 +74,7 @@ fn block(
     depth: usize,
 ) -> Walked
     requires { (text : List ℕ) × (v : ActionView text records.now values.now decls.now room.old i count depth) × IsBlock v.action }
-    ensures kept { Kept records.now count (levelBase depth) room.old room.new }
+    ensures kept { Kept records.now count (level_base depth) room.old room.new }
     ensures answer { (text : List ℕ) (v : ActionView text records.now values.now decls.now room.old i count depth)
         → IsBlock v.action → ActionAnswer v result }
 {
@@ -106,7 +106,7 @@ fn decode(
     depth: usize,
 ) -> Walked
     requires { (text : List ℕ) × (v : ActionView text records.now values.now decls.now room.old i count depth) × IsDecode v.action }
-    ensures kept { Kept records.now count (levelBase depth) room.old room.new }
+    ensures kept { Kept records.now count (level_base depth) room.old room.new }
     ensures answer { (text : List ℕ) (v : ActionView text records.now values.now decls.now room.old i count depth)
         → IsDecode v.action → ActionAnswer v result }
 {
@@ -140,7 +140,7 @@ fn counted(
     bits: u32,
 ) -> Walked
     requires { (text : List ℕ) × (v : ChoicesView text records.now values.now decls.now room.old i count depth bits) × IsCounted v.alternatives }
-    ensures kept { Kept records.now count (levelBase (depth + 1)) room.old room.new }
+    ensures kept { Kept records.now count (level_base (depth + 1)) room.old room.new }
     ensures answer { (text : List ℕ) (v : ChoicesView text records.now values.now decls.now room.old i count depth bits)
         → IsCounted v.alternatives → ChoicesAnswer v result }
 {
@@ -176,7 +176,7 @@ fn selected(
     bits: u32,
 ) -> Walked
     requires { (text : List ℕ) × (v : ChoicesView text records.now values.now decls.now room.old i count depth bits) × IsSelected v.alternatives }
-    ensures kept { Kept records.now count (levelBase (depth + 1)) room.old room.new }
+    ensures kept { Kept records.now count (level_base (depth + 1)) room.old room.new }
     ensures answer { (text : List ℕ) (v : ChoicesView text records.now values.now decls.now room.old i count depth bits)
         → IsSelected v.alternatives → ChoicesAnswer v result }
 {

@@ -1,7 +1,7 @@
 // Runs the description on standard input from zero carriers, and writes how the run ended and the words that it left.
 
 ghost use Rattle.std.specs.Prelude.{◌≤◌, length};
-ghost use Rattle.rules.specs.Limits.{longestText};
+ghost use Rattle.rules.specs.Limits.{longest_text};
 
 use asking::{carrier_bytes, check, run};
 use lines::answers::Answer;
@@ -28,7 +28,7 @@ fn answer(
     b: &mut [u8],
     c: &mut [u8],
 ) -> usize
-    requires text_len_bound { (length text.now ≤ longestText) × ((65536 ≤ length a.old) × ((65536 ≤ length b.old) × (65536 ≤ length c.old))) }
+    requires text_len_bound { (length text.now ≤ longest_text) × ((65536 ≤ length a.old) × ((65536 ≤ length b.old) × (65536 ≤ length c.old))) }
     requires in_bounds { (524544 ≤ length out.old) × (32768 ≤ length carriers.old) }
     ensures { result ≤ length out.new }
 {

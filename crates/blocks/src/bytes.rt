@@ -1,7 +1,7 @@
 // Bytes as they are.
 ghost use Rattle.std.specs.Prelude.{◌≡◌, ◌+◌, ◌≤◌, length};
 ghost use Rattle.std.proofs.Math.Seq.{paste};
-ghost use Rattle.rules.specs.Images.{allZero};
+ghost use Rattle.rules.specs.Images.{all_zero};
 
 // Puts bytes into a buffer from `at` on.
 pub fn copy(to: &mut [u8], at: usize, from: &[u8])
@@ -17,7 +17,7 @@ pub fn copy(to: &mut [u8], at: usize, from: &[u8])
 
 // Whether every byte is 0.
 pub fn is_zero(bytes: &[u8]) -> bool
-    ensures { result ≡ allZero bytes.now }
+    ensures { result ≡ all_zero bytes.now }
 {
     let mut i: usize = 0;
     while i < bytes.len() {

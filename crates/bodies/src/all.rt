@@ -1,7 +1,7 @@
 // All bodies of a description, one after the other: the least fault of the 40s.
 ghost use Rattle.std.specs.Prelude.{◌≡◌, List, ℕ, length};
-ghost use Rattle.keys.specs.Keys.{leastKey};
-ghost use Rattle.bodies.specs.Bodies.{BodyView, faultsOfBody, BodiesView, faultsOfBodies};
+ghost use Rattle.keys.specs.Keys.{least_key};
+ghost use Rattle.bodies.specs.Bodies.{BodyView, faults_of_body, BodiesView, faults_of_bodies};
 
 use actions::action;
 use cells::get16;
@@ -15,7 +15,7 @@ use table::views::body_of;
 fn body_fault(records: &[u8], values: &[u8], decls: &[u8], room: &mut [u8], i: usize) -> u32
     requires { (text : List ℕ) × BodyView text records.now values.now decls.now room.old i }
     ensures answer { (text : List ℕ) (v : BodyView text records.now values.now decls.now room.old i)
-        → result ≡ leastKey (faultsOfBody v) }
+        → result ≡ least_key (faults_of_body v) }
     ensures long { length room.new ≡ length room.old }
 {
     let begin = body_of(records, i);
@@ -32,7 +32,7 @@ fn body_fault(records: &[u8], values: &[u8], decls: &[u8], room: &mut [u8], i: u
 pub fn fault40(records: &[u8], values: &[u8], decls: &[u8], room: &mut [u8], m: usize) -> u32
     requires { (text : List ℕ) × BodiesView text records.now values.now decls.now room.old m }
     ensures answer { (text : List ℕ) (v : BodiesView text records.now values.now decls.now room.old m)
-        → result ≡ leastKey (faultsOfBodies v) }
+        → result ≡ least_key (faults_of_bodies v) }
     ensures long { length room.new ≡ length room.old }
 {
     let mut key = NO_KEY;

@@ -1,12 +1,12 @@
 // The counts of the bodies, by recursion down activations: each body is walked once, behind those that it activates. The remaining length of the chain falls.
 ghost use Rattle.std.specs.Prelude.{◌≡◌, false, ◌<◌, ◌≤◌, length};
-ghost use Rattle.rules.specs.Text.Tokens.{Name, kindNo};
-ghost use Rattle.rules.specs.Whole.Sets.{anyName, chainOver};
-ghost use Rattle.rules.specs.Limits.{longestChain};
-ghost use Rattle.records.specs.Holds.{kindByte};
+ghost use Rattle.rules.specs.Text.Tokens.{Name, kind_no};
+ghost use Rattle.rules.specs.Whole.Sets.{any_name, chain_over};
+ghost use Rattle.rules.specs.Limits.{longest_chain};
+ghost use Rattle.records.specs.Holds.{kind_byte};
 ghost use Rattle.reading.specs.Reading.{table_of};
-ghost use Rattle.walking.specs.Walking.{tableSize};
-ghost use Rattle.bounding.specs.Filling.{Ready, ShortFrom, callsFrom, Blank, Fillable, Fills, Descends};
+ghost use Rattle.walking.specs.Walking.{table_size};
+ghost use Rattle.bounding.specs.Filling.{Ready, ShortFrom, calls_from, Blank, Fillable, Fills, Descends};
 
 use cells::{get64, put64};
 use reading::bodies::body_at;
@@ -19,7 +19,7 @@ const UNKNOWN: u64 = 0;
 
 // Nothing is known, but that a name which is not declared does nothing. That is a step.
 pub fn blank(table: &mut [u8])
-    requires { tableSize ≤ length table.old }
+    requires { table_size ≤ length table.old }
     ensures { Blank table.old table.new }
 {
     let mut k: usize = 0;
@@ -43,8 +43,8 @@ pub fn fill(
     i: usize,
     left: usize,
 )
-    requires { Fillable records.now decls.now table.old room.old m n × ((i < n) × ((kindByte records.now i ≡ kindNo Name)
-        × ((left ≤ longestChain) × ((v : Ready records.now decls.now m n) → ShortFrom v i left)))) }
+    requires { Fillable records.now decls.now table.old room.old m n × ((i < n) × ((kind_byte records.now i ≡ kind_no Name)
+        × ((left ≤ longest_chain) × ((v : Ready records.now decls.now m n) → ShortFrom v i left)))) }
     ensures { Fills records.now decls.now table.old table.new m n i }
 {
     let k = index_of(records, m, i);
@@ -73,8 +73,8 @@ fn descend(
     from: usize,
     left: usize,
 )
-    requires { Fillable records.now decls.now table.old room.old m n × ((left ≤ longestChain)
-        × ((v : Ready records.now decls.now m n) → anyName (chainOver (table_of v.reading) left) (callsFrom v from) ≡ false)) }
+    requires { Fillable records.now decls.now table.old room.old m n × ((left ≤ longest_chain)
+        × ((v : Ready records.now decls.now m n) → any_name (chain_over (table_of v.reading) left) (calls_from v from) ≡ false)) }
     ensures { Descends records.now decls.now table.old table.new m n from }
 {
     let mut at = from;

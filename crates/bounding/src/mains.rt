@@ -1,7 +1,7 @@
 // The count of MAIN.
 ghost use Rattle.std.specs.Prelude.{◌≤◌, length};
 ghost use Rattle.links.specs.Mains.{MainIn};
-ghost use Rattle.walking.specs.Walking.{tableSize};
+ghost use Rattle.walking.specs.Walking.{table_size};
 ghost use Rattle.bounding.specs.Filling.{Ready, Fillable};
 ghost use Rattle.bounding.specs.Mains.{MainNamed, Longest};
 
@@ -47,7 +47,7 @@ fn main_count(
 
 // What MAIN costs, cut at ENDLESS. The table may hold anything before and afterwards.
 pub fn longest(records: &[u8], decls: &[u8], table: &mut [u8], m: usize, n: usize) -> u64
-    requires { Ready records.now decls.now m n × (tableSize ≤ length table.old) }
+    requires { Ready records.now decls.now m n × (table_size ≤ length table.old) }
     ensures { Longest records.now decls.now m n result }
 {
     let mut room: [u8; 512] = [0; 512];

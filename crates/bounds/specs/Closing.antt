@@ -4,80 +4,80 @@ use Rattle.std.specs.Prelude.{◌≡◌, refl, Bool, false, ◌||◌}
 use Rattle.std.proofs.Common.{sym, ap, ap₂}
 use Rattle.std.proofs.lemmas.Bool.{false≢true}
 use Rattle.rules.specs.Declarations.{Word, Table}
-use Rattle.rules.specs.Steps.Actions.{Act, seq, par, label, ins, Ins, iff, decode, repeat, leave, restart, call, stop, noop, transfer, Alts, no-alts, alt}
-use Rattle.rules.specs.Steps.Runs.{bodyAct}
-use Rattle.rules.specs.Whole.Sets.{callsIn, callsI, callsAlts, anyName, chainOver}
-use Rattle.rules.specs.Limits.{longestChain}
-use Rattle.rules.specs.Bound.{cost, costIn, dearest, turns, turnsIn, anyTurns, costDown, turnsDown, costOf, turnsFrom}
+use Rattle.rules.specs.Steps.Actions.{Act, seq, par, label, ins, Ins, iff, decode, repeat, leave, restart, call, stop, noop, transfer, Alts, no_alts, alt}
+use Rattle.rules.specs.Steps.Runs.{body_act}
+use Rattle.rules.specs.Whole.Sets.{calls_in, calls_i, calls_alts, any_name, chain_over}
+use Rattle.rules.specs.Limits.{longest_chain}
+use Rattle.rules.specs.Bound.{cost, cost_in, dearest, turns, turns_in, any_turns, cost_down, turns_down, cost_of, turns_from}
 use Rattle.laws_orders.specs.Orders.Orderly.{Orderly}
-use Rattle.laws_orders.specs.Orders.Chains.{none_of, not-this}
+use Rattle.laws_orders.specs.Orders.Chains.{none_of, not_this}
 
 -- both go by what is known of the bodies that an action activates
 module _ (p : Word → Bool) where
   module _ (f g : Word → ℕ) (same : (n : Word) → p n ≡ false → f n ≡ g n) where
     mutual
-      unfolding cost costIn dearest callsIn callsI callsAlts
+      unfolding cost cost_in dearest calls_in calls_i calls_alts
 
-      pub cost-same : (a : Act) → anyName p (callsIn a) ≡ false → cost f a ≡ cost g a
-      cost-same (seq a b) h = let n = none_of p (callsIn a) (callsIn b) h in ap₂ ◌+◌ (cost-same a n.0) (cost-same b n.1)
-      cost-same (par a b) h = let n = none_of p (callsIn a) (callsIn b) h in ap₂ ◌+◌ (cost-same a n.0) (cost-same b n.1)
-      cost-same (label l a) h = cost-same a h
-      cost-same (ins i) h = ap (λ k. 1 + k) (inside-same i h)
+      pub cost_same : (a : Act) → any_name p (calls_in a) ≡ false → cost f a ≡ cost g a
+      cost_same (seq a b) h = let n = none_of p (calls_in a) (calls_in b) h in ap₂ ◌+◌ (cost_same a n.0) (cost_same b n.1)
+      cost_same (par a b) h = let n = none_of p (calls_in a) (calls_in b) h in ap₂ ◌+◌ (cost_same a n.0) (cost_same b n.1)
+      cost_same (label l a) h = cost_same a h
+      cost_same (ins i) h = ap (λ k. 1 + k) (inside_same i h)
 
-      inside-same : (i : Ins) → anyName p (callsI i) ≡ false → costIn f i ≡ costIn g i
-      inside-same (iff e a) h = cost-same a h
-      inside-same (decode q e bs) h = dearest-same bs h
-      inside-same (repeat a) h = cost-same a h
-      inside-same (leave l) h = refl
-      inside-same (restart l) h = refl
-      inside-same (call n) h = same n (not-this p n h)
-      inside-same stop h = refl
-      inside-same noop h = refl
-      inside-same (transfer d e) h = refl
+      inside_same : (i : Ins) → any_name p (calls_i i) ≡ false → cost_in f i ≡ cost_in g i
+      inside_same (iff e a) h = cost_same a h
+      inside_same (decode q e bs) h = dearest_same bs h
+      inside_same (repeat a) h = cost_same a h
+      inside_same (leave l) h = refl
+      inside_same (restart l) h = refl
+      inside_same (call n) h = same n (not_this p n h)
+      inside_same stop h = refl
+      inside_same noop h = refl
+      inside_same (transfer d e) h = refl
 
-      dearest-same : (bs : Alts) → anyName p (callsAlts bs) ≡ false → dearest f bs ≡ dearest g bs
-      dearest-same no-alts h = refl
-      dearest-same (alt c a bs) h = let n = none_of p (callsIn a) (callsAlts bs) h in ap₂ max (cost-same a n.0) (dearest-same bs n.1)
+      dearest_same : (bs : Alts) → any_name p (calls_alts bs) ≡ false → dearest f bs ≡ dearest g bs
+      dearest_same no_alts h = refl
+      dearest_same (alt c a bs) h = let n = none_of p (calls_in a) (calls_alts bs) h in ap₂ max (cost_same a n.0) (dearest_same bs n.1)
 
   module _ (f g : Word → Bool) (same : (n : Word) → p n ≡ false → f n ≡ g n) where
     mutual
-      unfolding turns turnsIn anyTurns callsIn callsI callsAlts
+      unfolding turns turns_in any_turns calls_in calls_i calls_alts
 
-      pub turns_same : (a : Act) → anyName p (callsIn a) ≡ false → turns f a ≡ turns g a
-      turns_same (seq a b) h = let n = none_of p (callsIn a) (callsIn b) h in ap₂ ◌||◌ (turns_same a n.0) (turns_same b n.1)
-      turns_same (par a b) h = let n = none_of p (callsIn a) (callsIn b) h in ap₂ ◌||◌ (turns_same a n.0) (turns_same b n.1)
+      pub turns_same : (a : Act) → any_name p (calls_in a) ≡ false → turns f a ≡ turns g a
+      turns_same (seq a b) h = let n = none_of p (calls_in a) (calls_in b) h in ap₂ ◌||◌ (turns_same a n.0) (turns_same b n.1)
+      turns_same (par a b) h = let n = none_of p (calls_in a) (calls_in b) h in ap₂ ◌||◌ (turns_same a n.0) (turns_same b n.1)
       turns_same (label l a) h = turns_same a h
-      turns_same (ins i) h = turnsIn-same i h
+      turns_same (ins i) h = turns_in_same i h
 
-      turnsIn-same : (i : Ins) → anyName p (callsI i) ≡ false → turnsIn f i ≡ turnsIn g i
-      turnsIn-same (iff e a) h = turns_same a h
-      turnsIn-same (decode q e bs) h = anyTurns-same bs h
-      turnsIn-same (repeat a) h = refl
-      turnsIn-same (leave l) h = refl
-      turnsIn-same (restart l) h = refl
-      turnsIn-same (call n) h = same n (not-this p n h)
-      turnsIn-same stop h = refl
-      turnsIn-same noop h = refl
-      turnsIn-same (transfer d e) h = refl
+      turns_in_same : (i : Ins) → any_name p (calls_i i) ≡ false → turns_in f i ≡ turns_in g i
+      turns_in_same (iff e a) h = turns_same a h
+      turns_in_same (decode q e bs) h = any_turns_same bs h
+      turns_in_same (repeat a) h = refl
+      turns_in_same (leave l) h = refl
+      turns_in_same (restart l) h = refl
+      turns_in_same (call n) h = same n (not_this p n h)
+      turns_in_same stop h = refl
+      turns_in_same noop h = refl
+      turns_in_same (transfer d e) h = refl
 
-      anyTurns-same : (bs : Alts) → anyName p (callsAlts bs) ≡ false → anyTurns f bs ≡ anyTurns g bs
-      anyTurns-same no-alts h = refl
-      anyTurns-same (alt c a bs) h = let n = none_of p (callsIn a) (callsAlts bs) h in ap₂ ◌||◌ (turns_same a n.0) (anyTurns-same bs n.1)
+      any_turns_same : (bs : Alts) → any_name p (calls_alts bs) ≡ false → any_turns f bs ≡ any_turns g bs
+      any_turns_same no_alts h = refl
+      any_turns_same (alt c a bs) h = let n = none_of p (calls_in a) (calls_alts bs) h in ap₂ ◌||◌ (turns_same a n.0) (any_turns_same bs n.1)
 
 module _ (ds : Table) where
-  pub cost-closed : (k : ℕ) (n : Word) → chainOver ds k n ≡ false → cost (costDown ds k) (bodyAct ds n) ≡ costDown ds k n
-  unfolding chainOver costDown
-  cost-closed zero n h = absurd (false≢true (sym h))
-  cost-closed (suc k) n h = cost-same (chainOver ds k) (costDown ds (suc k)) (costDown ds k) (cost-closed k) (bodyAct ds n) h
+  pub cost_closed : (k : ℕ) (n : Word) → chain_over ds k n ≡ false → cost (cost_down ds k) (body_act ds n) ≡ cost_down ds k n
+  unfolding chain_over cost_down
+  cost_closed zero n h = absurd (false≢true (sym h))
+  cost_closed (suc k) n h = cost_same (chain_over ds k) (cost_down ds (suc k)) (cost_down ds k) (cost_closed k) (body_act ds n) h
 
-  pub turns-closed : (k : ℕ) (n : Word) → chainOver ds k n ≡ false → turns (turnsDown ds k) (bodyAct ds n) ≡ turnsDown ds k n
-  unfolding chainOver turnsDown
-  turns-closed zero n h = absurd (false≢true (sym h))
-  turns-closed (suc k) n h = turns_same (chainOver ds k) (turnsDown ds (suc k)) (turnsDown ds k) (turns-closed k) (bodyAct ds n) h
+  pub turns_closed : (k : ℕ) (n : Word) → chain_over ds k n ≡ false → turns (turns_down ds k) (body_act ds n) ≡ turns_down ds k n
+  unfolding chain_over turns_down
+  turns_closed zero n h = absurd (false≢true (sym h))
+  turns_closed (suc k) n h = turns_same (chain_over ds k) (turns_down ds (suc k)) (turns_down ds k) (turns_closed k) (body_act ds n) h
 
   -- a body costs what its action costs, whatever the chains below it
-  pub cost-of-body : Orderly ds → (p : Word) → costOf ds p ≡ cost (costOf ds) (bodyAct ds p)
-  cost-of-body o p = sym (cost-closed longestChain p (o.chains p))
+  pub cost_of_body : Orderly ds → (p : Word) → cost_of ds p ≡ cost (cost_of ds) (body_act ds p)
+  cost_of_body o p = sym (cost_closed longest_chain p (o.chains p))
 
-  pub turns-of-body : Orderly ds → (p : Word) → turnsFrom ds p ≡ turns (turnsFrom ds) (bodyAct ds p)
-  turns-of-body o p = sym (turns-closed longestChain p (o.chains p))
+  pub turns_of_body : Orderly ds → (p : Word) → turns_from ds p ≡ turns (turns_from ds) (body_act ds p)
+  turns_of_body o p = sym (turns_closed longest_chain p (o.chains p))

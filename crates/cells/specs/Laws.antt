@@ -4,118 +4,118 @@ use Rattle.std.specs.Prelude.{◌≡◌, refl, List, ℕ, zero, suc, ◌+◌, �
 use Rattle.std.proofs.Common.{sym, ap, ◌∙◌, zero-add, mul-suc, mul-le-mul_left, arith, length-set, get_or-set_same, get_or-set_other, ext_get_or}
 use Rattle.std.proofs.Math.Nat.{pow-succ'}
 use Rattle.std.proofs.Math.Decide.{dec_lt}
-use Rattle.cells.specs.Cells.{leAt, put_at, cell, putCell, cellsFrom, cells}
+use Rattle.cells.specs.Cells.{le_at, put_at, cell, put_cell, cells_from, cells}
 
-pub length-put : (w : ℕ) (b : List ℕ) (o v : ℕ) → length (put_at w b o v) ≡ length b
+pub length_put : (w : ℕ) (b : List ℕ) (o v : ℕ) → length (put_at w b o v) ≡ length b
 unfolding put_at
-length-put zero b o v = refl
-length-put (suc w) b o v = length-put w (set b o (v % 256)) (o + 1) (v / 256) ∙ length-set b o (v % 256)
+length_put zero b o v = refl
+length_put (suc w) b o v = length_put w (set b o (v % 256)) (o + 1) (v / 256) ∙ length-set b o (v % 256)
 
 -- a byte before the cell, or past it
-pub getD-put-below : (w : ℕ) (b : List ℕ) (o v k : ℕ) → k < o → get_or (put_at w b o v) k 0 ≡ get_or b k 0
+pub get_or_put_below : (w : ℕ) (b : List ℕ) (o v k : ℕ) → k < o → get_or (put_at w b o v) k 0 ≡ get_or b k 0
 unfolding put_at
-getD-put-below zero b o v k h = refl
-getD-put-below (suc w) b o v k h =
-    getD-put-below w (set b o (v % 256)) (o + 1) (v / 256) k (omega arith)
+get_or_put_below zero b o v k h = refl
+get_or_put_below (suc w) b o v k h =
+    get_or_put_below w (set b o (v % 256)) (o + 1) (v / 256) k (omega arith)
     ∙ get_or-set_other b o k (v % 256) 0 (λ e. omega arith)
 
-pub getD-put-above : (w : ℕ) (b : List ℕ) (o v k : ℕ) → o + w ≤ k → get_or (put_at w b o v) k 0 ≡ get_or b k 0
+pub get_or_put_above : (w : ℕ) (b : List ℕ) (o v k : ℕ) → o + w ≤ k → get_or (put_at w b o v) k 0 ≡ get_or b k 0
 unfolding put_at
-getD-put-above zero b o v k h = refl
-getD-put-above (suc w) b o v k h =
-    getD-put-above w (set b o (v % 256)) (o + 1) (v / 256) k (omega arith)
+get_or_put_above zero b o v k h = refl
+get_or_put_above (suc w) b o v k h =
+    get_or_put_above w (set b o (v % 256)) (o + 1) (v / 256) k (omega arith)
     ∙ get_or-set_other b o k (v % 256) 0 (λ e. omega arith)
 
 -- the cell that was put
-pub le-put-same : (w : ℕ) (b : List ℕ) (o v : ℕ) → o + w ≤ length b → v < 256 ^ w → leAt w (put_at w b o v) o ≡ v
-unfolding leAt put_at
-le-put-same zero b o v h fits = omega arith
-le-put-same (suc w) b o v h fits =
+pub le_put_same : (w : ℕ) (b : List ℕ) (o v : ℕ) → o + w ≤ length b → v < 256 ^ w → le_at w (put_at w b o v) o ≡ v
+unfolding le_at put_at
+le_put_same zero b o v h fits = omega arith
+le_put_same (suc w) b o v h fits =
     let first : get_or (put_at w (set b o (v % 256)) (o + 1) (v / 256)) o 0 ≡ v % 256
-    = getD-put-below w (set b o (v % 256)) (o + 1) (v / 256) o (omega arith) ∙ get_or-set_same b o (v % 256) 0 (omega arith) in
-    let rest : leAt w (put_at w (set b o (v % 256)) (o + 1) (v / 256)) (o + 1) ≡ v / 256
-    = le-put-same w (set b o (v % 256)) (o + 1) (v / 256) (simp length-set (omega arith)) (omega (arith, pow-succ' 256 w)) in
+    = get_or_put_below w (set b o (v % 256)) (o + 1) (v / 256) o (omega arith) ∙ get_or-set_same b o (v % 256) 0 (omega arith) in
+    let rest : le_at w (put_at w (set b o (v % 256)) (o + 1) (v / 256)) (o + 1) ≡ v / 256
+    = le_put_same w (set b o (v % 256)) (o + 1) (v / 256) (simp length-set (omega arith)) (omega (arith, pow-succ' 256 w)) in
     omega arith
 
 -- a number whose n bytes lie before the cell, or past it
-pub le-put-below : (n w : ℕ) (b : List ℕ) (o v k : ℕ) → k + n ≤ o → leAt n (put_at w b o v) k ≡ leAt n b k
-unfolding leAt
-le-put-below zero w b o v k h = refl
-le-put-below (suc n) w b o v k h =
-    let first : get_or (put_at w b o v) k 0 ≡ get_or b k 0 = getD-put-below w b o v k (omega arith) in
-    let rest : leAt n (put_at w b o v) (k + 1) ≡ leAt n b (k + 1) = le-put-below n w b o v (k + 1) (omega arith) in
+pub le_put_below : (n w : ℕ) (b : List ℕ) (o v k : ℕ) → k + n ≤ o → le_at n (put_at w b o v) k ≡ le_at n b k
+unfolding le_at
+le_put_below zero w b o v k h = refl
+le_put_below (suc n) w b o v k h =
+    let first : get_or (put_at w b o v) k 0 ≡ get_or b k 0 = get_or_put_below w b o v k (omega arith) in
+    let rest : le_at n (put_at w b o v) (k + 1) ≡ le_at n b (k + 1) = le_put_below n w b o v (k + 1) (omega arith) in
     omega arith
 
-pub le-put-above : (n w : ℕ) (b : List ℕ) (o v k : ℕ) → o + w ≤ k → leAt n (put_at w b o v) k ≡ leAt n b k
-unfolding leAt
-le-put-above zero w b o v k h = refl
-le-put-above (suc n) w b o v k h =
-    let first : get_or (put_at w b o v) k 0 ≡ get_or b k 0 = getD-put-above w b o v k (omega arith) in
-    let rest : leAt n (put_at w b o v) (k + 1) ≡ leAt n b (k + 1) = le-put-above n w b o v (k + 1) (omega arith) in
+pub le_put_above : (n w : ℕ) (b : List ℕ) (o v k : ℕ) → o + w ≤ k → le_at n (put_at w b o v) k ≡ le_at n b k
+unfolding le_at
+le_put_above zero w b o v k h = refl
+le_put_above (suc n) w b o v k h =
+    let first : get_or (put_at w b o v) k 0 ≡ get_or b k 0 = get_or_put_above w b o v k (omega arith) in
+    let rest : le_at n (put_at w b o v) (k + 1) ≡ le_at n b (k + 1) = le_put_above n w b o v (k + 1) (omega arith) in
     omega arith
 
 -- a cell that is put is read back, every other is as before, and there are as many bytes
-pub cell_same : (w : ℕ) (b : List ℕ) (i v : ℕ) → w * i + w ≤ length b → v < 256 ^ w → cell w (putCell w b i v) i ≡ v
-cell_same w b i v room fits = le-put-same w b (w * i) v room fits
+pub cell_same : (w : ℕ) (b : List ℕ) (i v : ℕ) → w * i + w ≤ length b → v < 256 ^ w → cell w (put_cell w b i v) i ≡ v
+cell_same w b i v room fits = le_put_same w b (w * i) v room fits
 
-pub cell_other : (w : ℕ) (b : List ℕ) (i v j : ℕ) → (j ≡ i → ⊥) → cell w (putCell w b i v) j ≡ cell w b j
+pub cell_other : (w : ℕ) (b : List ℕ) (i v j : ℕ) → (j ≡ i → ⊥) → cell w (put_cell w b i v) j ≡ cell w b j
 cell_other w b i v j other = by (dec_lt j i)
   where
-    by : Dec (j < i) → cell w (putCell w b i v) j ≡ cell w b j
-    by (yes l) = le-put-below w w b (w * i) v (w * j) (omega (arith, mul-suc w j, mul-le-mul_left w l))
-    by (no l) = let g : i < j = omega (arith, other) in le-put-above w w b (w * i) v (w * j) (omega (arith, mul-suc w i, mul-le-mul_left w g))
+    by : Dec (j < i) → cell w (put_cell w b i v) j ≡ cell w b j
+    by (yes l) = le_put_below w w b (w * i) v (w * j) (omega (arith, mul-suc w j, mul-le-mul_left w l))
+    by (no l) = let g : i < j = omega (arith, other) in le_put_above w w b (w * i) v (w * j) (omega (arith, mul-suc w i, mul-le-mul_left w g))
 
-pub long-put : (w : ℕ) (b : List ℕ) (i v : ℕ) → length (putCell w b i v) ≡ length b
-long-put w b i v = length-put w b (w * i) v
+pub long_put : (w : ℕ) (b : List ℕ) (i v : ℕ) → length (put_cell w b i v) ≡ length b
+long_put w b i v = length_put w b (w * i) v
 
 -- the same of bytes that are new
-module _ (w : ℕ) (old new : List ℕ) (k v : ℕ) (put : new ≡ putCell w old k v) where
-  pub put-size : length new ≡ length old
-  put-size = ap length put ∙ long-put w old k v
+module _ (w : ℕ) (old new : List ℕ) (k v : ℕ) (put : new ≡ put_cell w old k v) where
+  pub put_size : length new ≡ length old
+  put_size = ap length put ∙ long_put w old k v
 
   pub put_same : (j : ℕ) → (j ≡ k → ⊥) → cell w new j ≡ cell w old j
   put_same j n = ap (λ b. cell w b j) put ∙ cell_other w old k v j n
 
-  pub put-here : w * k + w ≤ length old → v < 256 ^ w → cell w new k ≡ v
-  put-here room fits = ap (λ b. cell w b k) put ∙ cell_same w old k v room fits
+  pub put_here : w * k + w ≤ length old → v < 256 ^ w → cell w new k ≡ v
+  put_here room fits = ap (λ b. cell w b k) put ∙ cell_same w old k v room fits
 
 -- the table as a list: as long as it says, its elements are the cells, and a put is a `set`
-pub length-cells : (w : ℕ) (b : List ℕ) (o n : ℕ) → length (cellsFrom w b o n) ≡ n
-unfolding cellsFrom
-length-cells w b o zero = refl
-length-cells w b o (suc n) = ap suc (length-cells w b (o + w) n)
+pub length_cells : (w : ℕ) (b : List ℕ) (o n : ℕ) → length (cells_from w b o n) ≡ n
+unfolding cells_from
+length_cells w b o zero = refl
+length_cells w b o (suc n) = ap suc (length_cells w b (o + w) n)
 
-pub cells_at : (w : ℕ) (b : List ℕ) (o n i : ℕ) → i < n → get_or (cellsFrom w b o n) i 0 ≡ leAt w b (o + w * i)
-unfolding cellsFrom
+pub cells_at : (w : ℕ) (b : List ℕ) (o n i : ℕ) → i < n → get_or (cells_from w b o n) i 0 ≡ le_at w b (o + w * i)
+unfolding cells_from
 cells_at w b o zero i h = absurd (omega arith)
-cells_at w b o (suc n) zero h = ap (leAt w b) (omega arith)
-cells_at w b o (suc n) (suc i) h = cells_at w b (o + w) n i (omega arith) ∙ ap (leAt w b) (omega (arith, mul-suc w i))
+cells_at w b o (suc n) zero h = ap (le_at w b) (omega arith)
+cells_at w b o (suc n) (suc i) h = cells_at w b (o + w) n i (omega arith) ∙ ap (le_at w b) (omega (arith, mul-suc w i))
 
-pub cells-put : (w n : ℕ) (b : List ℕ) (i v : ℕ) → i < n → w * n ≤ length b → v < 256 ^ w
-    → cells w n (putCell w b i v) ≡ set (cells w n b) i v
-cells-put w n b i v h room fits =
-    ext_get_or 0 (cells w n (putCell w b i v)) (set (cells w n b) i v)
-    (length-cells w (putCell w b i v) 0 n ∙ sym (length-set (cells w n b) i v ∙ length-cells w b 0 n))
-    (λ j l. each j (rw length-cells at l) (dec_lt j i) (dec_lt i j))
+pub cells_put : (w n : ℕ) (b : List ℕ) (i v : ℕ) → i < n → w * n ≤ length b → v < 256 ^ w
+    → cells w n (put_cell w b i v) ≡ set (cells w n b) i v
+cells_put w n b i v h room fits =
+    ext_get_or 0 (cells w n (put_cell w b i v)) (set (cells w n b) i v)
+    (length_cells w (put_cell w b i v) 0 n ∙ sym (length-set (cells w n b) i v ∙ length_cells w b 0 n))
+    (λ j l. each j (rw length_cells at l) (dec_lt j i) (dec_lt i j))
   where
-    same : get_or (cells w n (putCell w b i v)) i 0 ≡ get_or (set (cells w n b) i v) i 0
+    same : get_or (cells w n (put_cell w b i v)) i 0 ≡ get_or (set (cells w n b) i v) i 0
     same =
-        cells_at w (putCell w b i v) 0 n i h
-        ∙ ap (leAt w (putCell w b i v)) (zero-add (w * i))
-        ∙ le-put-same w b (w * i) v (omega (arith, mul-suc w i, mul-le-mul_left w h)) fits
-        ∙ sym (get_or-set_same (cells w n b) i v 0 (rw length-cells h))
+        cells_at w (put_cell w b i v) 0 n i h
+        ∙ ap (le_at w (put_cell w b i v)) (zero-add (w * i))
+        ∙ le_put_same w b (w * i) v (omega (arith, mul-suc w i, mul-le-mul_left w h)) fits
+        ∙ sym (get_or-set_same (cells w n b) i v 0 (rw length_cells h))
 
-    there : (j : ℕ) → j < n → (j ≡ i → ⊥) → leAt w (putCell w b i v) (0 + w * j) ≡ leAt w b (0 + w * j)
-        → get_or (cells w n (putCell w b i v)) j 0 ≡ get_or (set (cells w n b) i v) j 0
+    there : (j : ℕ) → j < n → (j ≡ i → ⊥) → le_at w (put_cell w b i v) (0 + w * j) ≡ le_at w b (0 + w * j)
+        → get_or (cells w n (put_cell w b i v)) j 0 ≡ get_or (set (cells w n b) i v) j 0
     there j l ne e =
-        cells_at w (putCell w b i v) 0 n j l ∙ e ∙ sym (get_or-set_other (cells w n b) i j v 0 ne ∙ cells_at w b 0 n j l)
+        cells_at w (put_cell w b i v) 0 n j l ∙ e ∙ sym (get_or-set_other (cells w n b) i j v 0 ne ∙ cells_at w b 0 n j l)
 
-    each : (j : ℕ) → j < n → Dec (j < i) → Dec (i < j) → get_or (cells w n (putCell w b i v)) j 0 ≡ get_or (set (cells w n b) i v) j 0
+    each : (j : ℕ) → j < n → Dec (j < i) → Dec (i < j) → get_or (cells w n (put_cell w b i v)) j 0 ≡ get_or (set (cells w n b) i v) j 0
     each j l (yes lt) _ =
-        there j l (λ e. omega arith) (le-put-below w w b (w * i) v (0 + w * j) (omega (arith, mul-suc w j, mul-le-mul_left w lt)))
+        there j l (λ e. omega arith) (le_put_below w w b (w * i) v (0 + w * j) (omega (arith, mul-suc w j, mul-le-mul_left w lt)))
     each j l (no _) (yes gt) =
-        there j l (λ e. omega arith) (le-put-above w w b (w * i) v (0 + w * j) (omega (arith, mul-suc w i, mul-le-mul_left w gt)))
+        there j l (λ e. omega arith) (le_put_above w w b (w * i) v (0 + w * j) (omega (arith, mul-suc w i, mul-le-mul_left w gt)))
     each j l (no nlt) (no ngt) = let e : j ≡ i = omega arith in rw e same
 
-pub cells-get : (w n : ℕ) (b : List ℕ) (i : ℕ) → i < n → get_or (cells w n b) i 0 ≡ leAt w b (w * i)
-cells-get w n b i h = cells_at w b 0 n i h ∙ ap (leAt w b) (zero-add (w * i))
+pub cells_get : (w n : ℕ) (b : List ℕ) (i : ℕ) → i < n → get_or (cells w n b) i 0 ≡ le_at w b (w * i)
+cells_get w n b i h = cells_at w b 0 n i h ∙ ap (le_at w b) (zero-add (w * i))

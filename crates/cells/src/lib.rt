@@ -1,6 +1,6 @@
 // A lent byte buffer as a table of little-endian cells, of 16 bits and of 64. The sums and remainders are compiled to single loads and stores.
 ghost use Rattle.std.specs.Prelude.{◌≡◌, ◌+◌, ◌*◌, ◌<◌, ◌≤◌, length, get_or};
-ghost use Rattle.cells.specs.Cells.{cell, putCell};
+ghost use Rattle.cells.specs.Cells.{cell, put_cell};
 
 // The byte at o, wide enough to be added up.
 fn byte(b: &[u8], o: usize) -> u64
@@ -42,7 +42,7 @@ pub fn get64(b: &[u8], i: usize) -> u64
 // The cell i takes v.
 pub fn put16(b: &mut [u8], i: usize, v: u16)
     requires { 2 * i + 2 ≤ length b.old }
-    ensures { b.new ≡ putCell 2 b.old i v }
+    ensures { b.new ≡ put_cell 2 b.old i v }
 {
     let o = 2 * i;
     b[o] = (v % 256) as u8;
@@ -52,7 +52,7 @@ pub fn put16(b: &mut [u8], i: usize, v: u16)
 // The cell i takes v, the lowest byte first.
 pub fn put64(b: &mut [u8], i: usize, v: u64)
     requires { 8 * i + 8 ≤ length b.old }
-    ensures { b.new ≡ putCell 8 b.old i v }
+    ensures { b.new ≡ put_cell 8 b.old i v }
 {
     let o = 8 * i;
     let mut x = v;

@@ -2,12 +2,12 @@
 use Rattle.std.specs.Prelude.{ℕ, ◌<◌, ◌≤◌, ◌≡◌, Bool, true, false, List, [], ◌∷◌}
 use Rattle.std.proofs.Math.Option.{Option, none, some}
 use Rattle.rules.specs.Declarations.{Word, Table, number_of}
-use Rattle.rules.specs.Reasons.{refusedBody}
+use Rattle.rules.specs.Reasons.{refused_body}
 
 -- the first of these names for which the test holds, by the number of its declaration
-unfoldable pub firstIn : Table → (Word → Bool) → List Word → Option ℕ
-firstIn ds p [] = none
-firstIn ds p (n ∷ ns) = elim (p n) [ true ↦ number_of ds n | false ↦ firstIn ds p ns ]
+unfoldable pub first_in : Table → (Word → Bool) → List Word → Option ℕ
+first_in ds p [] = none
+first_in ds p (n ∷ ns) = elim (p n) [ true ↦ number_of ds n | false ↦ first_in ds p ns ]
 
 -- where a chain begins: the number of the refused body
 abbrev pub start_by : Table → Option Word → Option ℕ
@@ -15,7 +15,7 @@ start_by ds none = none
 start_by ds (some n) = number_of ds n
 
 abbrev pub start_of : Table → ℕ → Option ℕ
-start_of ds p = start_by ds (refusedBody ds p ds)
+start_of ds p = start_by ds (refused_body ds p ds)
 
 -- a number below m, and m or more where there is none
 pub record Numbered (m r : ℕ) (o : Option ℕ) : Type 0 where

@@ -1,10 +1,10 @@
 -- A walk down a chain of activations: what is listed so far, as the numbers of a reason, and the body that is listed next.
 use Rattle.std.specs.Prelude.{ℕ, ◌+◌, ◌<◌, ◌≡◌, true, false, List, ◌++◌, length}
-use Rattle.rules.specs.Limits.{longestChain}
+use Rattle.rules.specs.Limits.{longest_chain}
 use Rattle.rules.specs.Declarations.{Table}
 use Rattle.rules.specs.Whole.Sets.{member}
-use Rattle.rules.specs.Reasons.{chained, chainBehind, placesIn, reason51}
-use Rattle.rules.specs.Calls.Why.{reasonNumbers}
+use Rattle.rules.specs.Reasons.{chained, chain_behind, places_in, reason51}
+use Rattle.rules.specs.Calls.Why.{reason_numbers}
 use Rattle.reading.specs.Reading.{Reading, table_of}
 use Rattle.reading.specs.Bits.{holds}
 use Rattle.chaining.specs.declared.walks.Walk.{Walk}
@@ -14,12 +14,12 @@ pub record Going (ds : Table) (m place k : ℕ) (w : Walk) : Type 0 where
   pub places : List ℕ
   pub bodies : List ℕ
   pub held : (j : ℕ) → holds w.listed.w j ≡ member j bodies
-  pub numbers : w.numbers.n ≡ reasonNumbers (chained places)
-  pub count : length places + k ≡ longestChain
-  pub body-there : w.body < m
-  pub is : reason51 ds place ≡ chained (places ++ placesIn ds (chainBehind ds k bodies w.body))
+  pub numbers : w.numbers.n ≡ reason_numbers (chained places)
+  pub count : length places + k ≡ longest_chain
+  pub body_there : w.body < m
+  pub is : reason51 ds place ≡ chained (places ++ places_in ds (chain_behind ds k bodies w.body))
 
 -- a walk that goes on, or that has all numbers of the reason
 pub record Walked (records decls : List ℕ) (m n place k : ℕ) (w : Walk) : Type 0 where
   pub goes : w.going ≡ true → (v : Reading records decls m n) → Going (table_of v) m place k w
-  pub ended : w.going ≡ false → (v : Reading records decls m n) → w.numbers.n ≡ reasonNumbers (reason51 (table_of v) place)
+  pub ended : w.going ≡ false → (v : Reading records decls m n) → w.numbers.n ≡ reason_numbers (reason51 (table_of v) place)

@@ -1,13 +1,13 @@
 // The first activation of a level in the text of a body, and the body that is refused.
 ghost use Rattle.std.specs.Prelude.{false, ◌<◌, drop};
-ghost use Rattle.rules.specs.Limits.{longestChain};
-ghost use Rattle.rules.specs.Whole.Sets.{callsIn};
+ghost use Rattle.rules.specs.Limits.{longest_chain};
+ghost use Rattle.rules.specs.Whole.Sets.{calls_in};
 ghost use Rattle.reading.specs.Reading.{Reading, table_of};
 ghost use Rattle.reading.specs.Events.{heard};
 ghost use Rattle.reading.specs.Calls.{calls_of};
-ghost use Rattle.reading.specs.Bodies.{actAt};
-ghost use Rattle.chains.specs.Chains.{inLevel, Levelled};
-ghost use Rattle.chaining.specs.Firsts.{firstIn, start_of, Numbered};
+ghost use Rattle.reading.specs.Bodies.{act_at};
+ghost use Rattle.chains.specs.Chains.{in_level, Levelled};
+ghost use Rattle.chaining.specs.Firsts.{first_in, start_of, Numbered};
 
 use chains::chains::in_level;
 use reading::bits::{Set, has};
@@ -28,7 +28,7 @@ fn first_in(
 ) -> usize
     requires { Reading records.now decls.now m n }
     ensures { (v : Reading records.now decls.now m n)
-        → Numbered m result (firstIn (table_of v) (inLevel (table_of v) level.w all) (calls_of (heard 0 0 (drop from v.tokens)))) }
+        → Numbered m result (first_in (table_of v) (in_level (table_of v) level.w all) (calls_of (heard 0 0 (drop from v.tokens)))) }
 {
     let mut at = from;
     let mut depth: usize = 0;
@@ -60,7 +60,7 @@ pub fn first_of(
 ) -> usize
     requires { Reading records.now decls.now m n × (k < m) }
     ensures { (v : Reading records.now decls.now m n)
-        → Numbered m result (firstIn (table_of v) (inLevel (table_of v) level.w all) (callsIn (actAt (table_of v) k))) }
+        → Numbered m result (first_in (table_of v) (in_level (table_of v) level.w all) (calls_in (act_at (table_of v) k))) }
 {
     let body = body_at(records, decls, m, n, k);
     if body == 0 {
@@ -79,7 +79,7 @@ pub fn refused_body(
     place: usize,
 ) -> usize
     requires { Reading records.now decls.now m n
-        × ((v : Reading records.now decls.now m n) → Levelled (table_of v) over.w false longestChain) }
+        × ((v : Reading records.now decls.now m n) → Levelled (table_of v) over.w false longest_chain) }
     ensures { (v : Reading records.now decls.now m n) → Numbered m result (start_of (table_of v) place) }
 {
     let mut k: usize = 0;

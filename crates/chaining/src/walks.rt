@@ -1,8 +1,8 @@
 // The walk down a chain of activations. The levels are made on the way up, and each chooses the next body on the way down.
 ghost use Rattle.std.specs.Prelude.{◌≡◌, true, false, List, [], ◌∷◌, ◌++◌, ℕ, ◌+◌, ◌<◌, ◌≤◌, length};
-ghost use Rattle.rules.specs.Limits.{longestChain};
+ghost use Rattle.rules.specs.Limits.{longest_chain};
 ghost use Rattle.rules.specs.Reasons.{chained, place_in, reason51};
-ghost use Rattle.rules.specs.Calls.Why.{reasonNumbers};
+ghost use Rattle.rules.specs.Calls.Why.{reason_numbers};
 ghost use Rattle.reading.specs.Reading.{Reading, table_of};
 ghost use Rattle.chains.specs.Chains.{Levelled};
 ghost use Rattle.chaining.specs.Walks.{Walked};
@@ -45,8 +45,8 @@ fn with_body(
     at: usize,
 ) -> Numbers
     requires { Reading records.now decls.now m n × ((body < m) × ((2 ≤ at) × (at < 24))) }
-    ensures { (v : Reading records.now decls.now m n) (places : List ℕ) → numbers.n ≡ reasonNumbers (chained places)
-        → 2 + length places ≡ at → result.n ≡ reasonNumbers (chained (places ++ (place_in (table_of v) body ∷ []))) }
+    ensures { (v : Reading records.now decls.now m n) (places : List ℕ) → numbers.n ≡ reason_numbers (chained places)
+        → 2 + length places ≡ at → result.n ≡ reason_numbers (chained (places ++ (place_in (table_of v) body ∷ []))) }
 {
     let place = name_place(records, decls, m, n, body);
     let mut more = numbers;
@@ -70,8 +70,8 @@ fn ended(numbers: Numbers) -> Walk
 // Where a walk begins: at the body at the place that begins a chain over 16 bodies long.
 fn start(records: &[u8], decls: &[u8], m: usize, n: usize, over: Set, place: usize) -> Walk
     requires { Reading records.now decls.now m n
-        × ((v : Reading records.now decls.now m n) → Levelled (table_of v) over.w false longestChain) }
-    ensures { Walked records.now decls.now m n place longestChain result }
+        × ((v : Reading records.now decls.now m n) → Levelled (table_of v) over.w false longest_chain) }
+    ensures { Walked records.now decls.now m n place longest_chain result }
 {
     let mut numbers = Numbers { n: [0; 24] };
     let body = refused_body(records, decls, m, n, over, place);
@@ -98,7 +98,7 @@ fn step(
     k: usize,
     walk: Walk,
 ) -> Walk
-    requires { Reading records.now decls.now m n × ((k < longestChain) × (walk.going ≡ true → walk.body < m)) }
+    requires { Reading records.now decls.now m n × ((k < longest_chain) × (walk.going ≡ true → walk.body < m)) }
     ensures { (place : ℕ) → ((v : Reading records.now decls.now m n) → Levelled (table_of v) level.w all k)
         → Walked records.now decls.now m n place (k + 1) walk → Walked records.now decls.now m n place k result }
 {
@@ -142,7 +142,7 @@ fn descend(
     k: usize,
     place: usize,
 ) -> Walk
-    requires { Reading records.now decls.now m n × ((k ≤ longestChain)
+    requires { Reading records.now decls.now m n × ((k ≤ longest_chain)
         × ((v : Reading records.now decls.now m n) → Levelled (table_of v) level.w false k)) }
     ensures { Walked records.now decls.now m n place k result }
 {
@@ -157,7 +157,7 @@ fn descend(
 // The numbers of the reason of 51 at the place.
 pub fn chain_reason(records: &[u8], decls: &[u8], m: usize, n: usize, place: usize) -> Numbers
     requires { Reading records.now decls.now m n }
-    ensures { (v : Reading records.now decls.now m n) → result.n ≡ reasonNumbers (reason51 (table_of v) place) }
+    ensures { (v : Reading records.now decls.now m n) → result.n ≡ reason_numbers (reason51 (table_of v) place) }
 {
     let bodies = next_level(records, decls, m, n, empty(), true);
     let above = descend(records, decls, m, n, bodies, 1, place);

@@ -3,8 +3,8 @@
 use Rattle.std.specs.Prelude.{ℕ, ◌≡◌, Bool, false, ◌||◌, List}
 use Rattle.std.proofs.Math.Option.{Option, none, some}
 use Rattle.rules.specs.Declarations.{Word, Table, number_of}
-use Rattle.rules.specs.Whole.Sets.{callsIn, anyName, chainOver}
-use Rattle.reading.specs.Bodies.{actAt}
+use Rattle.rules.specs.Whole.Sets.{calls_in, any_name, chain_over}
+use Rattle.reading.specs.Bodies.{act_at}
 use Rattle.reading.specs.Bits.{holds}
 
 -- whether a name is of a level: of the one of all names, or of that of the declarations that the words hold
@@ -12,13 +12,13 @@ abbrev pub number_in : List ℕ → Option ℕ → Bool
 number_in w none = false
 number_in w (some k) = holds w k
 
-unfoldable pub inLevel : Table → List ℕ → Bool → Word → Bool
-inLevel ds w all n = all || number_in w (number_of ds n)
+unfoldable pub in_level : Table → List ℕ → Bool → Word → Bool
+in_level ds w all n = all || number_in w (number_of ds n)
 
 -- whether the declaration k activates a name of a level
-unfoldable pub activatesOne : Table → (Word → Bool) → ℕ → Bool
-activatesOne ds p k = anyName p (callsIn (actAt ds k))
+unfoldable pub activates_one : Table → (Word → Bool) → ℕ → Bool
+activates_one ds p k = any_name p (calls_in (act_at ds k))
 
 -- LEVELS are chains
 pub record Levelled (ds : Table) (w : List ℕ) (all : Bool) (k : ℕ) : Type 0 where
-  pub chains : (n : Word) → chainOver ds k n ≡ inLevel ds w all n
+  pub chains : (n : Word) → chain_over ds k n ≡ in_level ds w all n

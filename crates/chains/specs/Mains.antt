@@ -2,18 +2,18 @@
 use Rattle.std.specs.Prelude.{ℕ, ◌<◌, Bool, List, []}
 use Rattle.std.proofs.Math.Option.{Option, none, some}
 use Rattle.rules.specs.Text.Tokens.{Info}
-use Rattle.rules.specs.Declarations.{declaredOf}
+use Rattle.rules.specs.Declarations.{declared_of}
 use Rattle.rules.specs.Faults.Fault.{Fault, when}
 use Rattle.table.specs.Views.{MainAt}
 use Rattle.reading.specs.Reading.{Reading}
 use Rattle.reading.specs.Meanings.{declares}
 
 -- of one declaration
-abbrev pub secondMain : Bool → Option Info → List Fault
-secondMain seen none = []
-secondMain seen (some i) = when seen 50 i.place
+abbrev pub second_main : Bool → Option Info → List Fault
+second_main seen none = []
+second_main seen (some i) = when seen 50 i.place
 
 -- MAIN of the declaration k is the token r
 pub record Mainly (records decls : List ℕ) (m n k r : ℕ) : Type 0 where
   pub within : r < n
-  pub is : (v : Reading records decls m n) (h : k < m) → MainAt v.tokens r (declaredOf (declares v k h).declaration).mainly
+  pub is : (v : Reading records decls m n) (h : k < m) → MainAt v.tokens r (declared_of (declares v k h).declaration).mainly

@@ -2,20 +2,20 @@
 ghost use Rattle.std.specs.Prelude.{◌≡◌, ◌&&◌, ◌||◌, false, ℕ, ◌<◌, eqb, ltb, drop};
 ghost use Rattle.std.proofs.Math.ListN.{get_elem?};
 ghost use Rattle.std.proofs.Math.Option.{some};
-ghost use Rattle.rules.specs.Text.Tokens.{Name, kindNo};
+ghost use Rattle.rules.specs.Text.Tokens.{Name, kind_no};
 ghost use Rattle.rules.specs.Declarations.{Declared};
 ghost use Rattle.rules.specs.Faults.Fault.{when};
 ghost use Rattle.rules.specs.Faults.Whole.{chains};
-ghost use Rattle.keys.specs.Keys.{leastNumberKey};
-ghost use Rattle.rules.specs.Whole.Sets.{anyName};
-ghost use Rattle.rules.specs.Limits.{longestChain};
-ghost use Rattle.records.specs.Holds.{kindByte};
+ghost use Rattle.keys.specs.Keys.{least_number_key};
+ghost use Rattle.rules.specs.Whole.Sets.{any_name};
+ghost use Rattle.rules.specs.Limits.{longest_chain};
+ghost use Rattle.records.specs.Holds.{kind_byte};
 ghost use Rattle.records.specs.Words.{word_at};
 ghost use Rattle.reading.specs.Reading.{Reading, table_of};
 ghost use Rattle.reading.specs.Events.{heard};
 ghost use Rattle.reading.specs.Calls.{calls_of};
 ghost use Rattle.reading.specs.Bits.{holds};
-ghost use Rattle.chains.specs.Chains.{inLevel, activatesOne, Levelled};
+ghost use Rattle.chains.specs.Chains.{in_level, activates_one, Levelled};
 
 use cells::get16;
 use keys::{NO_KEY, earlier, number_key};
@@ -35,8 +35,8 @@ pub fn in_level(
     level: Set,
     all: bool,
 ) -> bool
-    requires { Reading records.now decls.now m n × ((i < n) × (kindByte records.now i ≡ kindNo Name)) }
-    ensures { (v : Reading records.now decls.now m n) → result ≡ inLevel (table_of v) level.w all (word_at v.tokens i) }
+    requires { Reading records.now decls.now m n × ((i < n) × (kind_byte records.now i ≡ kind_no Name)) }
+    ensures { (v : Reading records.now decls.now m n) → result ≡ in_level (table_of v) level.w all (word_at v.tokens i) }
 {
     if all {
         return true;
@@ -59,7 +59,7 @@ fn activates(
     all: bool,
 ) -> bool
     requires { Reading records.now decls.now m n }
-    ensures { (v : Reading records.now decls.now m n) → result ≡ anyName (inLevel (table_of v) level.w all) (calls_of (heard 0 0 (drop from v.tokens))) }
+    ensures { (v : Reading records.now decls.now m n) → result ≡ any_name (in_level (table_of v) level.w all) (calls_of (heard 0 0 (drop from v.tokens))) }
 {
     let mut at = from;
     let mut depth: usize = 0;
@@ -82,7 +82,7 @@ fn activates(
 // Whether the declaration k has a body that activates a name of the level.
 fn rises(records: &[u8], decls: &[u8], m: usize, n: usize, k: usize, level: Set, all: bool) -> bool
     requires { Reading records.now decls.now m n × (k < m) }
-    ensures { (v : Reading records.now decls.now m n) → result ≡ activatesOne (table_of v) (inLevel (table_of v) level.w all) k }
+    ensures { (v : Reading records.now decls.now m n) → result ≡ activates_one (table_of v) (in_level (table_of v) level.w all) k }
 {
     let body = body_at(records, decls, m, n, k);
     if body == 0 {
@@ -105,7 +105,7 @@ fn grown(set: Set, k: usize, more: bool) -> Set
 // The next level.
 pub fn next_level(records: &[u8], decls: &[u8], m: usize, n: usize, level: Set, all: bool) -> Set
     requires { Reading records.now decls.now m n }
-    ensures { (v : Reading records.now decls.now m n) (j : ℕ) → holds result.w j ≡ (ltb j m && activatesOne (table_of v) (inLevel (table_of v) level.w all) j) }
+    ensures { (v : Reading records.now decls.now m n) (j : ℕ) → holds result.w j ≡ (ltb j m && activates_one (table_of v) (in_level (table_of v) level.w all) j) }
 {
     let mut set = empty();
     let mut k: usize = 0;
@@ -120,7 +120,7 @@ pub fn next_level(records: &[u8], decls: &[u8], m: usize, n: usize, level: Set, 
 // The declarations that begin a chain over 16 bodies long.
 pub fn over_longest(records: &[u8], decls: &[u8], m: usize, n: usize) -> Set
     requires { Reading records.now decls.now m n }
-    ensures { (v : Reading records.now decls.now m n) → Levelled (table_of v) result.w false longestChain }
+    ensures { (v : Reading records.now decls.now m n) → Levelled (table_of v) result.w false longest_chain }
 {
     let mut level = next_level(records, decls, m, n, empty(), true);
     let mut k: usize = 1;
@@ -138,7 +138,7 @@ pub fn over_longest(records: &[u8], decls: &[u8], m: usize, n: usize) -> Set
 fn chain_at(records: &[u8], decls: &[u8], m: usize, n: usize, k: usize, over: Set) -> u32
     requires { Reading records.now decls.now m n × (k < m) }
     ensures { (v : Reading records.now decls.now m n) (d : Declared) → get_elem? (table_of v) k ≡ some d
-        → result ≡ leastNumberKey (when (holds over.w k) 51 d.name.place) }
+        → result ≡ least_number_key (when (holds over.w k) 51 d.name.place) }
 {
     if has(over, k) {
         return number_key(51, place_at(records, get16(decls, k) as usize));
@@ -149,7 +149,7 @@ fn chain_at(records: &[u8], decls: &[u8], m: usize, n: usize, k: usize, over: Se
 // The least key of 51.
 pub fn chain_key(records: &[u8], decls: &[u8], m: usize, n: usize) -> u32
     requires { Reading records.now decls.now m n }
-    ensures { (v : Reading records.now decls.now m n) → result ≡ leastNumberKey (chains (table_of v) (table_of v)) }
+    ensures { (v : Reading records.now decls.now m n) → result ≡ least_number_key (chains (table_of v) (table_of v)) }
 {
     let over = over_longest(records, decls, m, n);
     let mut key = NO_KEY;

@@ -4,10 +4,10 @@ ghost use Rattle.std.proofs.Math.Option.{Option};
 ghost use Rattle.rules.specs.Text.Tokens.{Info};
 ghost use Rattle.rules.specs.Faults.Fault.{when};
 ghost use Rattle.rules.specs.Faults.Whole.{mains};
-ghost use Rattle.keys.specs.Keys.{leastNumberKey};
+ghost use Rattle.keys.specs.Keys.{least_number_key};
 ghost use Rattle.table.specs.Views.{MainAt};
 ghost use Rattle.reading.specs.Reading.{Reading, table_of};
-ghost use Rattle.chains.specs.Mains.{Mainly, secondMain};
+ghost use Rattle.chains.specs.Mains.{Mainly, second_main};
 
 use cells::get16;
 use keys::{NO_KEY, earlier, number_key};
@@ -25,7 +25,7 @@ fn main_at(records: &[u8], decls: &[u8], m: usize, n: usize, k: usize) -> usize
 // The key of a second MAIN, at the token at.
 fn second_key(records: &[u8], decls: &[u8], m: usize, n: usize, at: usize, seen: bool) -> u32
     requires { Reading records.now decls.now m n × (at < n) }
-    ensures { (v : Reading records.now decls.now m n) (x : Option Info) → MainAt v.tokens at x → result ≡ leastNumberKey (secondMain seen x) }
+    ensures { (v : Reading records.now decls.now m n) (x : Option Info) → MainAt v.tokens at x → result ≡ least_number_key (second_main seen x) }
 {
     if at == 0 {
         return NO_KEY;
@@ -48,7 +48,7 @@ fn met(seen: bool, at: usize) -> bool
 
 // The key of a missing MAIN.
 fn missing_key(seen: bool) -> u32
-    ensures { result ≡ leastNumberKey (when (not seen) 50 0) }
+    ensures { result ≡ least_number_key (when (not seen) 50 0) }
 {
     if seen {
         return NO_KEY;
@@ -59,7 +59,7 @@ fn missing_key(seen: bool) -> u32
 // The least key of 50.
 pub fn main_key(records: &[u8], decls: &[u8], m: usize, n: usize) -> u32
     requires { Reading records.now decls.now m n }
-    ensures { (v : Reading records.now decls.now m n) → result ≡ leastNumberKey (mains false (table_of v)) }
+    ensures { (v : Reading records.now decls.now m n) → result ≡ least_number_key (mains false (table_of v)) }
 {
     let mut key = NO_KEY;
     let mut seen = false;

@@ -1,9 +1,9 @@
 // The reader's verdict, as an answer.
 ghost use Rattle.std.specs.Prelude.{◌≡◌, ◌≤◌, length};
-ghost use Rattle.rules.specs.Limits.{longestText};
-ghost use Rattle.rules.specs.Answers.{verdictNumbers};
-ghost use Rattle.lent.specs.Numbers.{numbersOf};
-ghost use Rattle.checking.specs.Checked.{verdictOf, Near, Told};
+ghost use Rattle.rules.specs.Limits.{longest_text};
+ghost use Rattle.rules.specs.Answers.{verdict_numbers};
+ghost use Rattle.lent.specs.Numbers.{numbers_of};
+ghost use Rattle.checking.specs.Checked.{verdict_of, Near, Told};
 
 use lent::answers::{Answer, refusal, unrefused};
 use reader::judging::Verdict;
@@ -11,7 +11,7 @@ use reader::judging::Verdict;
 // The numbers of the reader's verdict.
 fn verdict_answer(text: &[u8], v: Verdict) -> Answer
     requires { Near v }
-    ensures { numbersOf result ≡ verdictNumbers text.now (verdictOf v) }
+    ensures { numbers_of result ≡ verdict_numbers text.now (verdict_of v) }
 {
     match v {
         Verdict::Refused(number, place) => refusal(text, number, place),
@@ -23,7 +23,7 @@ fn verdict_answer(text: &[u8], v: Verdict) -> Answer
 
 // What Check answers to a text. The work memory may hold anything afterwards.
 pub fn checked(text: &[u8], a: &mut [u8], b: &mut [u8], c: &mut [u8]) -> Answer
-    requires { (length text.now ≤ longestText) × ((65536 ≤ length a.old) × ((65536 ≤ length b.old) × (65536 ≤ length c.old))) }
+    requires { (length text.now ≤ longest_text) × ((65536 ≤ length a.old) × ((65536 ≤ length b.old) × (65536 ≤ length c.old))) }
     ensures { Told text.now result }
 {
     let mut decls: [u8; 512] = [0; 512];

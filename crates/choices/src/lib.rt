@@ -3,12 +3,12 @@ ghost use Rattle.std.specs.Prelude.{◌≡◌, ◌||◌, [], ◌∷◌, ◌+◌,
 ghost use Rattle.rules.specs.Selectors.{between};
 ghost use Rattle.rules.specs.Faults.Fault.{when};
 ghost use Rattle.rules.specs.Faults.Bodies as rules;
-ghost use Rattle.rules.specs.Limits.{mostAlternatives};
+ghost use Rattle.rules.specs.Limits.{most_alternatives};
 ghost use Rattle.patterns.specs.Stands.{AlternativeView};
-ghost use Rattle.records.specs.Holds.{placeCell};
-ghost use Rattle.keys.specs.Keys.{leastKey};
-ghost use Rattle.room.specs.Bodies.{levelBase};
-ghost use Rattle.choices.specs.Choices.{withStart, StartsView, OverlapAnswer, BehindView, BehindAnswer};
+ghost use Rattle.records.specs.Holds.{place_cell};
+ghost use Rattle.keys.specs.Keys.{least_key};
+ghost use Rattle.room.specs.Bodies.{level_base};
+ghost use Rattle.choices.specs.Choices.{with_start, StartsView, OverlapAnswer, BehindView, BehindAnswer};
 
 use cells::{get16, put16};
 use keys::{NO_KEY, fault_key};
@@ -23,8 +23,8 @@ use selectors::alternatives::first_overlap;
 
 // 45 for an alternative behind `number` others, where it is one too many, or past the tested length.
 fn choice_fault(records: &[u8], at: usize, number: usize, past: bool) -> u32
-    requires { (8 * at + 8 ≤ length records.now) × (placeCell records.now at ≤ 32768) }
-    ensures { result ≡ leastKey (when (leb mostAlternatives number || past) 45 (placeCell records.now at)) }
+    requires { (8 * at + 8 ≤ length records.now) × (place_cell records.now at ≤ 32768) }
+    ensures { result ≡ least_key (when (leb most_alternatives number || past) 45 (place_cell records.now at)) }
 {
     if (MOST_ALTERNATIVES <= number) | past {
         return fault_key(45, place_at(records, at));
@@ -34,8 +34,8 @@ fn choice_fault(records: &[u8], at: usize, number: usize, past: bool) -> u32
 
 // An alternative without a selector: its number is its only value.
 pub fn counted_fault(records: &[u8], at: usize, number: usize, bits: u32) -> u32
-    requires { (8 * at + 8 ≤ length records.now) × (placeCell records.now at ≤ 32768) × (bits ≤ 64) }
-    ensures { result ≡ leastKey (when (leb mostAlternatives number || rules.past bits (between number number ∷ [])) 45 (placeCell records.now at)) }
+    requires { (8 * at + 8 ≤ length records.now) × (place_cell records.now at ≤ 32768) × (bits ≤ 64) }
+    ensures { result ≡ least_key (when (leb most_alternatives number || rules.past bits (between number number ∷ [])) 45 (place_cell records.now at)) }
 {
     let value = number as u64;
     choice_fault(
@@ -48,9 +48,9 @@ pub fn counted_fault(records: &[u8], at: usize, number: usize, bits: u32) -> u32
 
 // An alternative with a selector.
 pub fn selected_fault(records: &[u8], values: &[u8], at: usize, number: usize, bits: u32) -> u32
-    requires { (8 * at + 8 ≤ length records.now) × (placeCell records.now at ≤ 32768) × (bits ≤ 64) × AlternativeView records.now values.now at }
+    requires { (8 * at + 8 ≤ length records.now) × (place_cell records.now at ≤ 32768) × (bits ≤ 64) × AlternativeView records.now values.now at }
     ensures { (v : AlternativeView records.now values.now at)
-        → result ≡ leastKey (when (leb mostAlternatives number || rules.past bits v.items) 45 (placeCell records.now at)) }
+        → result ≡ least_key (when (leb most_alternatives number || rules.past bits v.items) 45 (place_cell records.now at)) }
 {
     choice_fault(
         records,
@@ -62,8 +62,8 @@ pub fn selected_fault(records: &[u8], values: &[u8], at: usize, number: usize, b
 
 // Keeps where an alternative begins, if it is one of those that are compared.
 pub fn keep_start(room: &mut [u8], depth: usize, number: usize, at: usize)
-    requires { (2 * levelBase (depth + 1) ≤ length room.old) × (at < 65536) }
-    ensures { room.new ≡ withStart room.old depth number at }
+    requires { (2 * level_base (depth + 1) ≤ length room.old) × (at < 65536) }
+    ensures { room.new ≡ with_start room.old depth number at }
 {
     if number < STARTS_SIZE {
         put16(room, STARTS + STARTS_SIZE * depth + number, at as u16);

@@ -1,6 +1,6 @@
 // The class of a byte by a table of classes, and runs of bytes of some classes.
 ghost use Rattle.std.specs.Prelude.{◌≡◌, ◌≤◌, length};
-ghost use Rattle.rules.specs.Text.Bytes.{classNo, classOf};
+ghost use Rattle.rules.specs.Text.Bytes.{class_no, class_of};
 ghost use Rattle.classes.specs.Classes.{Classed, among, RunEnds};
 
 // The classes that a name, a constant and a comment go on with, as bits.
@@ -12,7 +12,7 @@ pub const IN_COMMENT: u32 = 1022;
 
 pub fn class_of(classes: &[u8; 256], b: u8) -> u8
     requires { Classed classes.now }
-    ensures { result ≡ classNo (classOf b) }
+    ensures { result ≡ class_no (class_of b) }
 {
     classes[b as usize]
 }

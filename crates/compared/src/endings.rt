@@ -1,12 +1,12 @@
 // The answer about a list, by how the run ended.
 ghost use Rattle.std.specs.Prelude.{◌≡◌, [], ◌∷◌, length};
-ghost use Rattle.rules.specs.Entries.{entriesIn};
-ghost use Rattle.rules.specs.Calls.Trace.{saysYes, firstBad, traceNumbers};
+ghost use Rattle.rules.specs.Entries.{entries_in};
+ghost use Rattle.rules.specs.Calls.Trace.{says_yes, first_bad, trace_numbers};
 ghost use Rattle.matching.specs.Matching.{answer_in};
-ghost use Rattle.matching.specs.Named.{verdictOf};
-ghost use Rattle.matching.specs.Room.{matchingIn, Sound};
-ghost use Rattle.lent.specs.Numbers.{numbersOf};
-ghost use Rattle.compared.specs.Traced.{traceOf};
+ghost use Rattle.matching.specs.Named.{verdict_of};
+ghost use Rattle.matching.specs.Room.{matching_in, Sound};
+ghost use Rattle.lent.specs.Numbers.{numbers_of};
+ghost use Rattle.compared.specs.Traced.{trace_of};
 
 use lent::answers::{Answer, unrefused};
 use matching::answering::{Verdict, answer};
@@ -15,7 +15,7 @@ use runner::runs::Ended;
 
 // The numbers of a verdict, with the code of the ending.
 fn verdict_answer(ending: u32, steps: u32, v: Verdict) -> Answer
-    ensures { numbersOf result ≡ ending ∷ 0 ∷ 0 ∷ steps ∷ saysYes (verdictOf v) ∷ firstBad (verdictOf v) ∷ 0 ∷ 0 ∷ [] }
+    ensures { numbers_of result ≡ ending ∷ 0 ∷ 0 ∷ steps ∷ says_yes (verdict_of v) ∷ first_bad (verdict_of v) ∷ 0 ∷ 0 ∷ [] }
 {
     match v {
         Verdict::Yes => unrefused(ending, steps, 1, 0),
@@ -25,8 +25,8 @@ fn verdict_answer(ending: u32, steps: u32, v: Verdict) -> Answer
 
 // The numbers of an ending. Where it is Done or Stopped, the matching has the verdict.
 pub fn told_answer(text: &[u8], e: Ended, room: &[u8], entries: &[u8]) -> Answer
-    requires { Sound (entriesIn entries.now) room.now }
-    ensures { numbersOf result ≡ traceNumbers text.now (traceOf e (answer_in (matchingIn (entriesIn entries.now) room.now) (length (entriesIn entries.now)))) }
+    requires { Sound (entries_in entries.now) room.now }
+    ensures { numbers_of result ≡ trace_numbers text.now (trace_of e (answer_in (matching_in (entries_in entries.now) room.now) (length (entries_in entries.now)))) }
 {
     match e {
         Ended::Done(steps) => verdict_answer(0, steps, answer(room, entries)),

@@ -1,9 +1,9 @@
 // Compares a list with the run of a description that is accepted.
 ghost use Rattle.std.specs.Prelude.{◌≡◌, true, List, ℕ, ◌≤◌, length};
-ghost use Rattle.rules.specs.Entries.{isList};
+ghost use Rattle.rules.specs.Entries.{is_list};
 ghost use Rattle.reading.specs.Reading.{Reading};
 ghost use Rattle.starts.specs.Starts.{Begins};
-ghost use Rattle.accepted.specs.Accepted.{Accepts, table-by};
+ghost use Rattle.accepted.specs.Accepted.{Accepts, table_by};
 ghost use Rattle.compared.specs.Laid.{Laid};
 ghost use Rattle.compared.specs.Traced.{Traced};
 
@@ -41,8 +41,8 @@ fn compare(
     m: usize,
     n: usize,
 ) -> Answer
-    requires by_index { (words : ℕ) × (v : Accepts text.now records.old values.old decls.now m words n) × Begins (table-by v) carriers.now }
-    requires entries_value { (isList entries.now ≡ true) × ((65536 ≤ length room.old) × ((65536 ≤ length memory.old) × (512 ≤ length decls.now))) }
+    requires by_index { (words : ℕ) × (v : Accepts text.now records.old values.old decls.now m words n) × Begins (table_by v) carriers.now }
+    requires entries_value { (is_list entries.now ≡ true) × ((65536 ≤ length room.old) × ((65536 ≤ length memory.old) × (512 ≤ length decls.now))) }
     ensures { Traced text.now carriers.now budget entries.now result }
 {
     let size = carriers.len();
@@ -69,7 +69,7 @@ fn compare_listed(
     m: usize,
     n: usize,
 ) -> Answer
-    requires by_index { (words : ℕ) × (v : Accepts text.now records.old values.old decls.now m words n) × Begins (table-by v) carriers.now }
+    requires by_index { (words : ℕ) × (v : Accepts text.now records.old values.old decls.now m words n) × Begins (table_by v) carriers.now }
     requires in_bounds { (65536 ≤ length room.old) × ((65536 ≤ length memory.old) × (512 ≤ length decls.now)) }
     ensures { Traced text.now carriers.now budget entries.now result }
 {

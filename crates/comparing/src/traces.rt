@@ -1,6 +1,6 @@
 // Trace, with its working memory.
 ghost use Rattle.std.specs.Prelude.{◌≤◌, length};
-ghost use Rattle.rules.specs.Limits.{longestText};
+ghost use Rattle.rules.specs.Limits.{longest_text};
 ghost use Rattle.compared.specs.Traced.{Traced};
 
 use compared::traces::compare_accepted;
@@ -18,7 +18,7 @@ pub fn traced(
     room: &mut [u8],
     memory: &mut [u8],
 ) -> Answer
-    requires { (length text.now ≤ longestText) × ((65536 ≤ length records.old) × ((65536 ≤ length values.old) × ((65536 ≤ length room.old) × (65536 ≤ length memory.old)))) }
+    requires { (length text.now ≤ longest_text) × ((65536 ≤ length records.old) × ((65536 ≤ length values.old) × ((65536 ≤ length room.old) × (65536 ≤ length memory.old)))) }
     ensures { Traced text.now carriers.now budget entries.now result }
 {
     let mut decls: [u8; 512] = [0; 512];

@@ -13,9 +13,9 @@ enough = 512
 -- the frame number j, from the outermost on
 pub record FrameAt (room : List ℕ) (j : ℕ) (f : Frame) : Type 0 where
   pub base : cell 8 room (2 * j) ≡ f.base
-  pub base-low : f.base ≤ endless
+  pub base_low : f.base ≤ endless
   pub best : cell 8 room (2 * j + 1) ≡ f.best
-  pub best-low : f.best ≤ endless
+  pub best_low : f.best ≤ endless
 
 pub data Frames (room : List ℕ) : List Frame → Type 0 where
   no_frames : Frames room []
@@ -25,7 +25,7 @@ pub record Shows (room : List ℕ) (x : Nest) (z : State) : Type 0 where
   pub space : enough ≤ length room
   pub depth_is : x.depth ≡ length z.frames
   pub shallow : x.depth ≤ deepest
-  pub count-is : x.count ≡ z.count
+  pub count_is : x.count ≡ z.count
   pub low : x.count ≤ endless
   pub frames : Frames room z.frames
 

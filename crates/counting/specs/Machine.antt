@@ -1,13 +1,13 @@
 -- A body read from its first token to its last, token by token: what `walk` does along the tree, with a frame for each BEGIN that is open.
 use Rattle.std.specs.Prelude.{ℕ, zero, suc, ◌+◌, max, Bool, true, false, List, [], ◌∷◌, eqb, ltb, length}
-use Rattle.rules.specs.Text.Tokens.{Name, LPar, Comma, Equals, BEGIN, END, IF, DECODE, REPEAT, LEAVE, RESTART, STOP, NO-OP, kindNo}
+use Rattle.rules.specs.Text.Tokens.{Name, LPar, Comma, Equals, BEGIN, END, IF, DECODE, REPEAT, LEAVE, RESTART, STOP, NO-OP, kind_no}
 use Rattle.rules.specs.Grammar.Trees.{Tokens}
 use Rattle.rules.specs.Limits.{deepest}
 use Rattle.rules.specs.Declarations.{Word}
 use Rattle.rules.specs.Whole.Sets.{member}
 use Rattle.bounds.specs.Cited.Counts.{endless, up}
 use Rattle.table.specs.Scans.{no}
-use Rattle.reading.specs.Kinds.{nextNo, mode}
+use Rattle.reading.specs.Kinds.{next_no, mode}
 
 -- an open BEGIN: the count in front of it, and the greatest behind one of its alternatives so far
 pub record Frame : Type 0 where
@@ -54,11 +54,11 @@ none_open [] = true
 none_open (f ∷ fs) = false
 
 -- the tokens that stand for a step; an activation is known by what stands behind its name
-unfoldable pub takesStep : ℕ → Bool
-takesStep k = member k (kindNo Equals ∷ kindNo IF ∷ kindNo DECODE ∷ kindNo LEAVE ∷ kindNo STOP ∷ kindNo NO-OP ∷ [])
+unfoldable pub takes_step : ℕ → Bool
+takes_step k = member k (kind_no Equals ∷ kind_no IF ∷ kind_no DECODE ∷ kind_no LEAVE ∷ kind_no STOP ∷ kind_no NO-OP ∷ [])
 
 unfoldable pub turns : ℕ → Bool
-turns k = member k (kindNo REPEAT ∷ kindNo RESTART ∷ [])
+turns k = member k (kind_no REPEAT ∷ kind_no RESTART ∷ [])
 
 module _ (counts : Word → ℕ) where
   -- a name at the start of an action, by the kind behind it
@@ -67,21 +67,21 @@ module _ (counts : Word → ℕ) where
   acting false w s = s
 
   abbrev pub named : ℕ → Word → ℕ → State → State
-  named zero w q s = acting (eqb q (kindNo LPar)) w s
+  named zero w q s = acting (eqb q (kind_no LPar)) w s
   named (suc m) w q s = s
 
   -- what a token of the kind k does, with the mode before it, its word and the kind behind it
   unfoldable pub acted : ℕ → ℕ → Word → ℕ → State → State
   acted m k w q s =
-      elim (eqb k (kindNo Name)) [
+      elim (eqb k (kind_no Name)) [
         | true ↦ named m w q s
-        | false ↦ elim (eqb k (kindNo BEGIN)) [
+        | false ↦ elim (eqb k (kind_no BEGIN)) [
           | true ↦ opened (ltb (length s.frames) deepest) s
-          | false ↦ elim (eqb k (kindNo END)) [
+          | false ↦ elim (eqb k (kind_no END)) [
             | true ↦ closed s.frames s
-            | false ↦ elim (eqb k (kindNo Comma)) [
+            | false ↦ elim (eqb k (kind_no Comma)) [
               | true ↦ another s.frames s
-              | false ↦ elim (takesStep k) [ true ↦ counted 1 s | false ↦ elim (turns k) [ true ↦ turned s | false ↦ s ] ]
+              | false ↦ elim (takes_step k) [ true ↦ counted 1 s | false ↦ elim (turns k) [ true ↦ turned s | false ↦ s ] ]
             ]
           ]
         ]
@@ -91,4 +91,4 @@ module _ (counts : Word → ℕ) where
   unfoldable pub run : ℕ → State → Tokens → ℕ
   run m s [] = s.count
   run m s (t ∷ ts) =
-      let n = acted m (no t) t.info.word (nextNo ts) s in elim (none_open n.frames) [ true ↦ n.count | false ↦ run (mode m (no t)) n ts ]
+      let n = acted m (no t) t.info.word (next_no ts) s in elim (none_open n.frames) [ true ↦ n.count | false ↦ run (mode m (no t)) n ts ]

@@ -1,12 +1,12 @@
 // Which tokens count.
 ghost use Rattle.std.specs.Prelude.{◌≡◌};
-ghost use Rattle.counting.specs.Machine.{takesStep, turns};
+ghost use Rattle.counting.specs.Machine.{takes_step, turns};
 
 use rules::kinds::{DECODE, EQUALS, IF, LEAVE, NO_OP, REPEAT, RESTART, STOP};
 
 // One for each action that takes a step, but for activations and what turns.
 pub fn takes_step(kind: u8) -> bool
-    ensures { result ≡ takesStep kind }
+    ensures { result ≡ takes_step kind }
 {
     match kind {
         EQUALS => true,

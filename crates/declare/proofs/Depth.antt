@@ -8,47 +8,47 @@ use native.Mathlib.Omega.{arith}
 use native.Mathlib.Numerals.{add-one}
 use borrow.Author.Tests.{ne_eqb}
 use lib.Dec.{eqb}
-use Rattle.rules.specs.Text.Tokens.{Kind, kindNo, same, Comma, LPar, LBra, BEGIN, RPar, RBra, END}
-use Rattle.rules.specs.Grammar.Verdict.{opens, closes, down, counted-by, count}
-use Rattle.declare.specs.Skipping.{noneOpen, ends}
+use Rattle.rules.specs.Text.Tokens.{Kind, kind_no, same, Comma, LPar, LBra, BEGIN, RPar, RBra, END}
+use Rattle.rules.specs.Grammar.Verdict.{opens, closes, down, counted_by, count}
+use Rattle.declare.specs.Skipping.{none_open_of, ends}
 
 abbrev Opener : ℕ → Type 0
-Opener x = (x ≡ kindNo LPar) ⊎ ((x ≡ kindNo LBra) ⊎ (x ≡ kindNo BEGIN))
+Opener x = (x ≡ kind_no LPar) ⊎ ((x ≡ kind_no LBra) ⊎ (x ≡ kind_no BEGIN))
 
 abbrev Closer : ℕ → Type 0
-Closer x = (x ≡ kindNo RPar) ⊎ ((x ≡ kindNo RBra) ⊎ (x ≡ kindNo END))
+Closer x = (x ≡ kind_no RPar) ⊎ ((x ≡ kind_no RBra) ⊎ (x ≡ kind_no END))
 
 abbrev Ender : ℕ → Type 0
-Ender x = (x ≡ kindNo RPar) ⊎ ((x ≡ kindNo RBra) ⊎ ((x ≡ kindNo Comma) ⊎ (x ≡ kindNo END)))
+Ender x = (x ≡ kind_no RPar) ⊎ ((x ≡ kind_no RBra) ⊎ ((x ≡ kind_no Comma) ⊎ (x ≡ kind_no END)))
 
-differs : {x : ℕ} (k : Kind) (m : ℕ) → x ≡ kindNo k → (x ≡ m → ⊥) → eqb m (kindNo k) ≡ false
-differs k m h f = ne_eqb m (kindNo k) (λ e. f (h ∙ sym e))
+differs : {x : ℕ} (k : Kind) (m : ℕ) → x ≡ kind_no k → (x ≡ m → ⊥) → eqb m (kind_no k) ≡ false
+differs k m h f = ne_eqb m (kind_no k) (λ e. f (h ∙ sym e))
 
 one_down : (d : ℕ) → (d ≡ 0 → ⊥) → d - 1 ≡ down d
 one_down zero f = absurd (f refl)
 one_down (suc d) f = omega arith
 
 module _ (x d : ℕ) where
-  pub one_more : Opener x → (k : Kind) → x ≡ kindNo k → d + 1 ≡ count d k
-  unfolding count counted-by opens closes
+  pub one_more : Opener x → (k : Kind) → x ≡ kind_no k → d + 1 ≡ count d k
+  unfolding count counted_by opens closes
   one_more (inl e) k h = rw (sym h ∙ e) (add-one d)
   one_more (inr (inl e)) k h = rw (sym h ∙ e) (add-one d)
   one_more (inr (inr e)) k h = rw (sym h ∙ e) (add-one d)
 
-  shut : Closer x → (k : Kind) → x ≡ kindNo k → down d ≡ count d k
-  unfolding count counted-by opens closes
+  shut : Closer x → (k : Kind) → x ≡ kind_no k → down d ≡ count d k
+  unfolding count counted_by opens closes
   shut (inl e) k h = rw (sym h ∙ e) refl
   shut (inr (inl e)) k h = rw (sym h ∙ e) refl
   shut (inr (inr e)) k h = rw (sym h ∙ e) refl
 
-  pub none-fewer : d ≡ 0 → Closer x → (k : Kind) → x ≡ kindNo k → 0 ≡ count d k
-  none-fewer e c k h = sym (ap down e) ∙ shut c k h
+  pub none_fewer : d ≡ 0 → Closer x → (k : Kind) → x ≡ kind_no k → 0 ≡ count d k
+  none_fewer e c k h = sym (ap down e) ∙ shut c k h
 
-  pub one_fewer : (d ≡ 0 → ⊥) → Closer x → (k : Kind) → x ≡ kindNo k → d - 1 ≡ count d k
+  pub one_fewer : (d ≡ 0 → ⊥) → Closer x → (k : Kind) → x ≡ kind_no k → d - 1 ≡ count d k
   one_fewer f c k h = one_down d f ∙ shut c k h
 
-  pub as_many : (Opener x → ⊥) → (Closer x → ⊥) → (k : Kind) → x ≡ kindNo k → d ≡ count d k
-  unfolding count counted-by opens closes
+  pub as_many : (Opener x → ⊥) → (Closer x → ⊥) → (k : Kind) → x ≡ kind_no k → d ≡ count d k
+  unfolding count counted_by opens closes
   as_many o c k h =
       rw (
         differs k 19 h (λ e. o (inr (inr e))),
@@ -59,29 +59,29 @@ module _ (x d : ℕ) where
         differs k 6 h (λ e. c (inr (inl e))),
       )
 
-none_open : (b : Bool) (d : ℕ) → 0 < d → noneOpen b d ≡ false
+none_open : (b : Bool) (d : ℕ) → 0 < d → none_open_of b d ≡ false
 none_open false d h = refl
 none_open true zero h = absurd (omega arith)
 none_open true (suc d) h = refl
 
-all-shut : (b : Bool) (d : ℕ) → d ≤ 0 → noneOpen b d ≡ b
-all-shut false d h = refl
-all-shut true zero h = refl
-all-shut true (suc d) h = absurd (omega arith)
+all_shut : (b : Bool) (d : ℕ) → d ≤ 0 → none_open_of b d ≡ b
+all_shut false d h = refl
+all_shut true zero h = refl
+all_shut true (suc d) h = absurd (omega arith)
 
 module _ (x d : ℕ) where
-  pub held : 0 < d → (k : Kind) → x ≡ kindNo k → false ≡ ends d k
+  pub held : 0 < d → (k : Kind) → x ≡ kind_no k → false ≡ ends d k
   unfolding ends
   held h k e = sym (none_open (closes k || same Comma k) d h)
 
-  pub ended : d ≤ 0 → Ender x → (k : Kind) → x ≡ kindNo k → true ≡ ends d k
+  pub ended : d ≤ 0 → Ender x → (k : Kind) → x ≡ kind_no k → true ≡ ends d k
   unfolding ends closes
-  ended z (inl e) k h = rw (sym h ∙ e) (sym (all-shut true d z))
-  ended z (inr (inl e)) k h = rw (sym h ∙ e) (sym (all-shut true d z))
-  ended z (inr (inr (inl e))) k h = rw (sym h ∙ e) (sym (all-shut true d z))
-  ended z (inr (inr (inr e))) k h = rw (sym h ∙ e) (sym (all-shut true d z))
+  ended z (inl e) k h = rw (sym h ∙ e) (sym (all_shut true d z))
+  ended z (inr (inl e)) k h = rw (sym h ∙ e) (sym (all_shut true d z))
+  ended z (inr (inr (inl e))) k h = rw (sym h ∙ e) (sym (all_shut true d z))
+  ended z (inr (inr (inr e))) k h = rw (sym h ∙ e) (sym (all_shut true d z))
 
-  pub goes_on : (Ender x → ⊥) → (k : Kind) → x ≡ kindNo k → false ≡ ends d k
+  pub goes_on : (Ender x → ⊥) → (k : Kind) → x ≡ kind_no k → false ≡ ends d k
   unfolding ends closes
   goes_on f k h =
       rw (

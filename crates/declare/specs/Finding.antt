@@ -2,9 +2,9 @@
 use Rattle.std.specs.Prelude.{ℕ, ◌-◌, ◌*◌, ◌<◌, ◌≡◌, List, [], length, drop}
 use Rattle.cells.specs.Cells.{cell}
 use Rattle.rules.specs.Text.Tokens.{MAIN}
-use Rattle.rules.specs.Grammar.Trees.{Tokens, Heading, headingTokens, Declaration, declarationTokens, Declarations, declarationsTokens, Description, flatten}
-use Rattle.records.specs.Holds.{tokenAt, Holds}
-use Rattle.table.specs.Declarations.{nameTokens, LedBy}
+use Rattle.rules.specs.Grammar.Trees.{Tokens, Heading, heading_tokens, Declaration, declaration_tokens, Declarations, declarations_tokens, Description, flatten}
+use Rattle.records.specs.Holds.{token_at, Holds}
+use Rattle.table.specs.Declarations.{name_tokens, LedBy}
 use Rattle.table.specs.Lookups.{DeclsHold}
 
 -- a description stands in a table of n tokens
@@ -18,18 +18,18 @@ pub record Described (text records values : List ℕ) (n : ℕ) : Type 0 where
 -- a declaration begins with the token i, perhaps with a heading or MAIN, and others follow
 pub record Begins (ts : Tokens) (i : ℕ) (h : Heading) (d : Declaration) (ds : Declarations) : Type 0 where
   pub past : 2 < i
-  pub led : (tokenAt ts (i - 1)).kind ≡ MAIN → ⊥
-  pub reads : drop i ts ≡ headingTokens h (declarationTokens d (declarationsTokens ds []))
+  pub led : (token_at ts (i - 1)).kind ≡ MAIN → ⊥
+  pub reads : drop i ts ≡ heading_tokens h (declaration_tokens d (declarations_tokens ds []))
 
 -- its name is the token p
 pub record Named (ts : Tokens) (p : ℕ) (d : Declaration) (ds : Declarations) : Type 0 where
   pub past : 2 < p
-  pub led : LedBy (tokenAt ts (p - 1)) d
-  pub reads : drop p ts ≡ nameTokens d (declarationsTokens ds [])
+  pub led : LedBy (token_at ts (p - 1)) d
+  pub reads : drop p ts ≡ name_tokens d (declarations_tokens ds [])
 
 -- behind it the others stand from the token e on
 pub record Follow (ts : Tokens) (e : ℕ) (ds : Declarations) : Type 0 where
-  pub reads : drop e ts ≡ declarationsTokens ds []
+  pub reads : drop e ts ≡ declarations_tokens ds []
 
 -- so it is in a table
 pub record Beginning (records : List ℕ) (i : ℕ) : Type 0 where

@@ -1,10 +1,10 @@
 -- What `declare` answers, as document 01 has it.
 use Rattle.std.specs.Prelude.{ℕ, ◌≤◌, ◌≡◌, List}
 use Rattle.std.proofs.Math.Option.{some}
-use Rattle.rules.specs.Limits.{longestText}
+use Rattle.rules.specs.Limits.{longest_text}
 use Rattle.rules.specs.Grammar.Trees.{Tokens, Description}
-use Rattle.rules.specs.Declarations.{declarations, outerName}
-use Rattle.rules.specs.Faults.Fault.{fault, byPlace, least}
+use Rattle.rules.specs.Declarations.{declarations, outer_name}
+use Rattle.rules.specs.Faults.Fault.{fault, by_place_of, least}
 use Rattle.rules.specs.Faults.Declared.{faults30}
 use Rattle.table.specs.Ready.{Ready}
 use Rattle.spelling.specs.Spelled.{Spelled}
@@ -13,8 +13,8 @@ use Rattle.declare.specs.declared.Declared.TheVariants.{Fine, Refused}
 
 -- the least fault of the 30s
 pub record Least (d : Description) (number place : ℕ) : Type 0 where
-  pub is : least byPlace (faults30 (outerName d).word (declarations d)) ≡ some (fault number place)
-  pub near : place ≤ longestText
+  pub is : least by_place_of (faults30 (outer_name d).word (declarations d)) ≡ some (fault number place)
+  pub near : place ≤ longest_text
 
 -- the table is ready with m declarations, and its names are spelled
 pub record ReadySpelled (text records values decls : List ℕ) (ts : Tokens) (d : Description) (m : ℕ) : Type 0 where

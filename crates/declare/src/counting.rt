@@ -1,8 +1,8 @@
 // The words of a description that has no fault of the 30s.
 ghost use Rattle.std.specs.Prelude.{◌≡◌, List, ℕ, ◌≤◌};
 ghost use Rattle.rules.specs.Grammar.Trees.{Tokens, Description};
-ghost use Rattle.rules.specs.Declarations.{declarations, totalWords};
-ghost use Rattle.rules.specs.Limits.{mostWords};
+ghost use Rattle.rules.specs.Declarations.{declarations, total_words};
+ghost use Rattle.rules.specs.Limits.{most_words};
 ghost use Rattle.table.specs.Ready.{Ready};
 
 use crate::faults::words_in;
@@ -12,7 +12,7 @@ use cells::get16;
 pub fn words(records: &[u8], values: &[u8], decls: &[u8], m: usize) -> usize
     requires { (text : List ℕ) × (ts : Tokens) × (d : Description) × Ready text records.now values.now decls.now ts d m }
     ensures { ((text : List ℕ) (ts : Tokens) (d : Description) → Ready text records.now values.now decls.now ts d m
-        → result ≡ totalWords (declarations d)) × (result ≤ mostWords) }
+        → result ≡ total_words (declarations d)) × (result ≤ most_words) }
 {
     let mut total: usize = 0;
     let mut k: usize = 0;

@@ -1,13 +1,13 @@
 // The refusals 30 to 33. Declarations are judged in their order: their places increase, so the first with a fault has the least one.
 ghost use Rattle.std.specs.Prelude.{◌≡◌, List, ℕ, ◌≤◌};
 ghost use Rattle.std.proofs.Math.Option.{some};
-ghost use Rattle.rules.specs.Declarations.{declaredOf, words_of, Target};
-ghost use Rattle.rules.specs.Faults.Declared.{isKnown, goodTarget, badMapping, faults30};
-ghost use Rattle.rules.specs.Limits.{mostWords};
+ghost use Rattle.rules.specs.Declarations.{declared_of, words_of, Target};
+ghost use Rattle.rules.specs.Faults.Declared.{is_known, good_target, bad_mapping, faults30};
+ghost use Rattle.rules.specs.Limits.{most_words};
 ghost use Rattle.table.specs.Views.{View};
-ghost use Rattle.keys.specs.Keys.{leastKey};
-ghost use Rattle.declare.specs.Faults.{isLarge, ownNumber};
-ghost use Rattle.declare.specs.Listed.{Listed, outerOf, table_of, known_of, Chosen, chosen_of, SmallView};
+ghost use Rattle.keys.specs.Keys.{least_key};
+ghost use Rattle.declare.specs.Faults.{is_large, own_number};
+ghost use Rattle.declare.specs.Listed.{Listed, outer_of, table_of, known_of, Chosen, chosen_of, SmallView};
 
 use cells::get16;
 use keys::{NO_KEY, fault_key};
@@ -21,7 +21,7 @@ use table::views::{bits_of, target_bits, target_of, words_of};
 fn declared_before(text: &[u8], records: &[u8], decls: &[u8], k: usize) -> bool
     requires { (values : List ℕ) × (m : ℕ) × Chosen text.now records.now values decls.now m k }
     ensures { (values : List ℕ) (m : ℕ) (v : Chosen text.now records.now values decls.now m k)
-        → result ≡ isKnown (chosen_of v).name.word (known_of v.listed k) }
+        → result ≡ is_known (chosen_of v).name.word (known_of v.listed k) }
 {
     let p = get16(decls, k) as usize;
     same_word(text, records, 0, p) || inside_at(records, p) < k
@@ -30,7 +30,7 @@ fn declared_before(text: &[u8], records: &[u8], decls: &[u8], k: usize) -> bool
 // Whether the declaration named p has too many bits, or too large a name of a bit or a word.
 fn too_large(records: &[u8], values: &[u8], p: usize) -> bool
     requires { View records.now values.now p }
-    ensures { (v : View records.now values.now p) → result ≡ isLarge (declaredOf v.declaration) }
+    ensures { (v : View records.now values.now p) → result ≡ is_large (declared_of v.declaration) }
 {
     if large_bits(bits_of(records, values, p)) {
         return true;
@@ -41,7 +41,7 @@ fn too_large(records: &[u8], values: &[u8], p: usize) -> bool
 // How many words the declaration named p adds.
 pub fn words_in(records: &[u8], values: &[u8], p: usize) -> usize
     requires { SmallView records.now values.now p }
-    ensures { ((v : View records.now values.now p) → result ≡ words_of (declaredOf v.declaration)) × (result ≤ mostWords) }
+    ensures { ((v : View records.now values.now p) → result ≡ words_of (declared_of v.declaration)) × (result ≤ most_words) }
 {
     if target_of(records, p) != 0 {
         return 0;
@@ -53,7 +53,7 @@ pub fn words_in(records: &[u8], values: &[u8], p: usize) -> usize
 fn good_target(records: &[u8], values: &[u8], p: usize, q: usize) -> bool
     requires { View records.now values.now p × View records.now values.now q }
     ensures { (v : View records.now values.now p) (w : View records.now values.now q) (t : Target)
-        → (declaredOf v.declaration).target ≡ some t → result ≡ goodTarget (declaredOf v.declaration).bits t.bits (some (declaredOf w.declaration)) }
+        → (declared_of v.declaration).target ≡ some t → result ≡ good_target (declared_of v.declaration).bits t.bits (some (declared_of w.declaration)) }
 {
     if !is_missing(words_of(records, values, q)) {
         return false;
@@ -72,7 +72,7 @@ fn good_target(records: &[u8], values: &[u8], p: usize, q: usize) -> bool
 fn bad_mapping(text: &[u8], records: &[u8], values: &[u8], decls: &[u8], m: usize, k: usize) -> bool
     requires { Chosen text.now records.now values.now decls.now m k }
     ensures { (v : Chosen text.now records.now values.now decls.now m k)
-        → result ≡ badMapping (outerOf v.listed) (table_of v.listed) (chosen_of v) (chosen_of v).target }
+        → result ≡ bad_mapping (outer_of v.listed) (table_of v.listed) (chosen_of v) (chosen_of v).target }
 {
     let p = get16(decls, k) as usize;
     let t = target_of(records, p);
@@ -101,9 +101,9 @@ fn fault_at(
     words: usize,
 ) -> u32
     requires chosen { Chosen text.now records.now values.now decls.now m k }
-    requires words_le_most_words { words ≤ mostWords }
+    requires words_le_most_words { words ≤ most_words }
     ensures { (v : Chosen text.now records.now values.now decls.now m k)
-        → result ≡ ownNumber (outerOf v.listed) (table_of v.listed) (known_of v.listed k) k words (chosen_of v) }
+        → result ≡ own_number (outer_of v.listed) (table_of v.listed) (known_of v.listed k) k words (chosen_of v) }
 {
     let p = get16(decls, k) as usize;
     if declared_before(text, records, decls, k) {
@@ -128,7 +128,7 @@ fn fault_at(
 pub fn fault30(text: &[u8], records: &[u8], values: &[u8], decls: &[u8], m: usize) -> u32
     requires { Listed text.now records.now values.now decls.now m }
     ensures { (v : Listed text.now records.now values.now decls.now m)
-        → result ≡ leastKey (faults30 (outerOf v) (table_of v)) }
+        → result ≡ least_key (faults30 (outer_of v) (table_of v)) }
 {
     let mut words: usize = 0;
     let mut k: usize = 0;

@@ -1,10 +1,10 @@
 // Where the declarations stand: one walk over the tokens, which passes over bodies by counting brackets.
 ghost use Rattle.std.specs.Prelude.{◌≡◌, List, ℕ, ◌*◌, ◌<◌, ◌≤◌, length};
-ghost use Rattle.rules.specs.Text.Tokens.{Kind, kindNo};
-ghost use Rattle.rules.specs.Limits.{mostTokens};
-ghost use Rattle.rules.specs.Grammar.Trees.{no-heading};
+ghost use Rattle.rules.specs.Text.Tokens.{Kind, kind_no};
+ghost use Rattle.rules.specs.Limits.{most_tokens};
+ghost use Rattle.rules.specs.Grammar.Trees.{no_heading};
 ghost use Rattle.rules.specs.Grammar.Verdict.{count};
-ghost use Rattle.table.specs.Declarations.{declarationList};
+ghost use Rattle.table.specs.Declarations.{declaration_list};
 ghost use Rattle.declare.specs.Skipping.{ends};
 ghost use Rattle.declare.specs.Finding.{Described, Begins, Named, Follow, Beginning, Naming, Found};
 
@@ -14,7 +14,7 @@ use rules::kinds::{BEGIN, COMMA, END, LBRA, LPAR, MAIN, RBRA, RPAR, STARS};
 
 // Whether a declaration ends before a token, with so many of its brackets open.
 fn ends_here(depth: usize, kind: u8) -> bool
-    ensures { (k : Kind) → kind ≡ kindNo k → result ≡ ends depth k }
+    ensures { (k : Kind) → kind ≡ kind_no k → result ≡ ends depth k }
 {
     if 0 < depth {
         return false;
@@ -27,8 +27,8 @@ fn ends_here(depth: usize, kind: u8) -> bool
 
 // How many brackets are open behind a token.
 fn depth_behind(depth: usize, kind: u8) -> usize
-    requires { depth < mostTokens }
-    ensures { (k : Kind) → kind ≡ kindNo k → result ≡ count depth k }
+    requires { depth < most_tokens }
+    ensures { (k : Kind) → kind ≡ kind_no k → result ≡ count depth k }
 {
     match kind {
         LPAR | LBRA | BEGIN => depth + 1,
@@ -62,7 +62,7 @@ fn end_of(records: &[u8], p: usize) -> usize
 // Where the declaration that begins with the token i goes on behind its heading.
 fn behind_heading(records: &[u8], i: usize) -> usize
     requires { Beginning records.now i }
-    ensures { (v : Beginning records.now i) → Begins v.tokens result no-heading v.declaration v.following }
+    ensures { (v : Beginning records.now i) → Begins v.tokens result no_heading v.declaration v.following }
 {
     if kind_at(records, i) == STARS {
         return i + 3;
@@ -85,9 +85,9 @@ fn name_from(records: &[u8], i: usize) -> usize
 // Writes the number of each declaration's name, in their order, and returns how many there are.
 pub fn find(records: &[u8], decls: &mut [u8]) -> usize
     requires by_index { (text : List ℕ) × (values : List ℕ) × (n : ℕ) × Described text records.now values n }
-    requires most_tokens_in_bounds { 2 * mostTokens ≤ length decls.old }
+    requires most_tokens_in_bounds { 2 * most_tokens ≤ length decls.old }
     ensures { (text values : List ℕ) (n : ℕ) (v : Described text records.now values n)
-        → Found v.tokens (declarationList v.description) decls.old decls.new result }
+        → Found v.tokens (declaration_list v.description) decls.old decls.new result }
 {
     let mut i: usize = 3;
     let mut m: usize = 0;

@@ -6,7 +6,7 @@ pub mod finding;
 ghost use Rattle.std.specs.Prelude.{◌≤◌, length};
 ghost use Rattle.rules.specs.Limits.{deepest};
 ghost use Rattle.laws_grammar.specs.Cited.Nesting.{nest};
-ghost use Rattle.room.specs.Spelling.{roomSize};
+ghost use Rattle.room.specs.Spelling.{room_size};
 ghost use Rattle.declare.specs.Finding.{Described};
 ghost use Rattle.declare.specs.Told.{Told};
 
@@ -32,7 +32,7 @@ pub fn declare(
     n: usize,
 ) -> Declared
     requires described { Described text.now records.old values.now n }
-    requires room_size_in_bounds { roomSize ≤ length decls.old }
+    requires room_size_in_bounds { room_size ≤ length decls.old }
     ensures { (v : Described text.now records.old values.now n) → nest v.description ≤ deepest
         → Told text.now records.new values.now decls.new v.tokens v.description result }
 {

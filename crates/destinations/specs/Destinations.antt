@@ -1,17 +1,17 @@
 -- A destination that stands in the table, its faults, and what is answered of it.
 use Rattle.std.specs.Prelude.{ℕ, ◌<◌, ◌≤◌, max, ◌≡◌, Bool, false, List, ◌∷◌, ◌++◌, drop}
 use Rattle.rules.specs.Text.Tokens.{Name, Equals, Info, tk}
-use Rattle.rules.specs.Grammar.Trees.{Tokens, Bits, bitsTokens, Subscript, subscriptTokens, Joined, joinedTokens}
+use Rattle.rules.specs.Grammar.Trees.{Tokens, Bits, bits_tokens, Subscript, subscript_tokens, Joined, joined_tokens}
 use Rattle.rules.specs.Declarations.{reach}
 use Rattle.rules.specs.Faults.Fault.{Fault}
-use Rattle.rules.specs.Faults.Bodies.{judgeDestination, judgeJoined, storedTwice}
-use Rattle.rules.specs.Whole.Sets.{ownerIn}
-use Rattle.laws_grammar.specs.Cited.Nesting.{subscriptNest, joinedNest}
-use Rattle.keys.specs.Keys.{leastKey, Smalls}
+use Rattle.rules.specs.Faults.Bodies.{judge_destination, judge_joined, stored_twice}
+use Rattle.rules.specs.Whole.Sets.{owner_in}
+use Rattle.laws_grammar.specs.Cited.Nesting.{subscript_nest, joined_nest}
+use Rattle.keys.specs.Keys.{least_key, Smalls}
 use Rattle.destinations.specs.declared.Checked.{Checked}
 use Rattle.destinations.specs.declared.owners.Storage.{Storage}
 use Rattle.destinations.specs.declared.owners.Storage.TheVariants.{Carrier, Nothing}
-use Rattle.accesses.specs.Scene.{Scene, outerOf, table_of}
+use Rattle.accesses.specs.Scene.{Scene, outer_of, table_of}
 use Rattle.destinations.specs.Carriers.{holds, added}
 
 -- a destination from the token i on, up to `=`
@@ -23,19 +23,19 @@ pub record DestinationAt (records values decls : List ℕ) (i depth : ℕ) : Typ
   pub joined : Joined
   pub equals : Info
   pub rest : Tokens
-  pub reads : drop i scene.tokens ≡ tk Name name ∷ subscriptTokens subscript (bitsTokens bits (joinedTokens joined (tk Equals equals ∷ rest)))
-  pub shallow : max (subscriptNest subscript) (joinedNest joined) ≤ depth
+  pub reads : drop i scene.tokens ≡ tk Name name ∷ subscript_tokens subscript (bits_tokens bits (joined_tokens joined (tk Equals equals ∷ rest)))
+  pub shallow : max (subscript_nest subscript) (joined_nest joined) ≤ depth
 
 module _ {records values decls : List ℕ} {i depth : ℕ} (v : DestinationAt records values decls i depth) where
   -- its faults, as a transfer has them
-  abbrev pub destinationFaults : List Fault
-  destinationFaults =
-      judgeJoined (outerOf v.scene) (table_of v.scene) (judgeDestination (outerOf v.scene) (table_of v.scene) v.name v.subscript v.bits) v.joined
-      ++ storedTwice (outerOf v.scene) (table_of v.scene) (ownerIn (reach (table_of v.scene) v.name.word)) v.joined
+  abbrev pub destination_faults : List Fault
+  destination_faults =
+      judge_joined (outer_of v.scene) (table_of v.scene) (judge_destination (outer_of v.scene) (table_of v.scene) v.name v.subscript v.bits) v.joined
+      ++ stored_twice (outer_of v.scene) (table_of v.scene) (owner_in (reach (table_of v.scene) v.name.word)) v.joined
 
   pub record DestinationAnswer (r : Checked) : Type 0 where
-    pub key : r.key ≡ leastKey destinationFaults
-    pub smalls : Smalls destinationFaults
+    pub key : r.key ≡ least_key destination_faults
+    pub smalls : Smalls destination_faults
     pub past : i < r.next
     pub behind : drop r.next v.scene.tokens ≡ tk Equals v.equals ∷ v.rest
 

@@ -2,8 +2,8 @@
 use Rattle.std.specs.Prelude.{ℕ, ◌<◌, ◌≡◌, List, [], ◌∷◌, length}
 use Rattle.rules.specs.Text.Tokens.{Name, Info, tk}
 use Rattle.rules.specs.Declarations.{reach}
-use Rattle.rules.specs.Whole.Sets.{ownerIn}
-use Rattle.records.specs.Holds.{tokenAt}
+use Rattle.rules.specs.Whole.Sets.{owner_in}
+use Rattle.records.specs.Holds.{token_at}
 use Rattle.destinations.specs.declared.owners.Storage.{Storage}
 use Rattle.destinations.specs.declared.owners.Storage.TheVariants.{Carrier, Nothing}
 use Rattle.accesses.specs.Scene.{Scene, table_of}
@@ -13,7 +13,7 @@ pub record NameHere (records values decls : List ℕ) (i : ℕ) : Type 0 where
   pub scene : Scene records values decls
   pub name : Info
   pub within : i < length scene.tokens
-  pub here : tokenAt scene.tokens i ≡ tk Name name
+  pub here : token_at scene.tokens i ≡ tk Name name
 
 abbrev pub owners : Storage → List ℕ
 owners (Carrier k) = k ∷ []
@@ -25,9 +25,9 @@ Numbered (Carrier k) = k < 256
 Numbered Nothing = Unit {0}
 
 -- as the rules have them: none or one
-abbrev pub ownersOf : {records values decls : List ℕ} {i : ℕ} → NameHere records values decls i → List ℕ
-ownersOf v = ownerIn (reach (table_of v.scene) v.name.word)
+abbrev pub owners_of : {records values decls : List ℕ} {i : ℕ} → NameHere records values decls i → List ℕ
+owners_of v = owner_in (reach (table_of v.scene) v.name.word)
 
 pub record Owns {records values decls : List ℕ} {i : ℕ} (v : NameHere records values decls i) (r : Storage) : Type 0 where
-  pub are : owners r ≡ ownersOf v
+  pub are : owners r ≡ owners_of v
   pub small : Numbered r

@@ -4,8 +4,8 @@ pub mod owners;
 
 ghost use Rattle.std.specs.Prelude.{◌≡◌, ◌+◌, ◌*◌, ◌≤◌, length};
 ghost use Rattle.rules.specs.Faults.Fault.{when};
-ghost use Rattle.records.specs.Holds.{placeCell};
-ghost use Rattle.keys.specs.Keys.{leastKey};
+ghost use Rattle.records.specs.Holds.{place_cell};
+ghost use Rattle.keys.specs.Keys.{least_key};
 ghost use Rattle.destinations.specs.Destinations.{repeats, stored, DestinationAt, DestinationAnswer};
 
 use crate::carriers::{Carriers, has, no_carriers, with};
@@ -26,8 +26,8 @@ pub struct Checked {
 
 // 46 at the name i, where its carrier is stored to already.
 fn repeat_key(records: &[u8], kept: Carriers, to: Storage, i: usize) -> u32
-    requires { (8 * i + 8 ≤ length records.now) × (placeCell records.now i ≤ 32768) }
-    ensures { result ≡ leastKey (when (repeats kept.words to) 46 (placeCell records.now i)) }
+    requires { (8 * i + 8 ≤ length records.now) × (place_cell records.now i ≤ 32768) }
+    ensures { result ≡ least_key (when (repeats kept.words to) 46 (place_cell records.now i)) }
 {
     match to {
         Storage::Nothing => NO_KEY,

@@ -2,5 +2,5 @@
 use Rattle.listed.specs.declared.entries.Entry.{Entry}
 
 -- what stands behind the last entry of a list, for a function that reads one
-abbrev pub noEntry : Entry
-noEntry = record { place = 0; word = 0; value = 0 }
+abbrev pub no_entry : Entry
+no_entry = record { place = 0; word = 0; value = 0 }

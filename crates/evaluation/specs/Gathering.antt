@@ -1,12 +1,12 @@
 -- Gathering the fields of a joined destination, before any store.
 use Rattle.std.specs.Prelude.{ℕ, ◌≤◌, ◌≡◌, List, ◌∷◌, length, drop}
 use Rattle.rules.specs.Text.Tokens.{Equals, Info, tk}
-use Rattle.rules.specs.Grammar.Trees.{Tokens, Joined, joinedTokens}
+use Rattle.rules.specs.Grammar.Trees.{Tokens, Joined, joined_tokens}
 use Rattle.rules.specs.Values.{total}
-use Rattle.rules.specs.Limits.{mostBits, deepest}
-use Rattle.rules.specs.Steps.Actions.{Access, joinedAccesses}
-use Rattle.rules.specs.Steps.Evaluation.{gives, faulty, Field, evaluateAccess, evaluateAccesses}
-use Rattle.laws_grammar.specs.Cited.Nesting.{joinedNest}
+use Rattle.rules.specs.Limits.{most_bits, deepest}
+use Rattle.rules.specs.Steps.Actions.{Access, joined_accesses}
+use Rattle.rules.specs.Steps.Evaluation.{gives, faulty, Field, evaluate_access, evaluate_accesses}
+use Rattle.laws_grammar.specs.Cited.Nesting.{joined_nest}
 use Rattle.laws_accepted.specs.Cited.Destinations.{SizedDestination}
 use Rattle.evaluation.specs.declared.transfers.Gathered.{Gathered}
 use Rattle.evaluation.specs.declared.transfers.Gathered.TheVariants.{Fields, Fault}
@@ -23,24 +23,24 @@ pub record GatherAt (records values carriers : List ℕ) (word low size p end : 
   pub more : Joined
   pub equals : Info
   pub rest : Tokens
-  pub reads : drop p scene.tokens ≡ joinedTokens more (tk Equals equals ∷ rest)
+  pub reads : drop p scene.tokens ≡ joined_tokens more (tk Equals equals ∷ rest)
   pub behind : drop end scene.tokens ≡ tk Equals equals ∷ rest
-  pub shallow : joinedNest more ≤ deepest
-  pub sized : SizedDestination scene.outer scene.table (first ∷ joinedAccesses more)
-  pub comes : evaluateAccess scene.table (words_of scene) first ≡ gives (field_at word low size)
+  pub shallow : joined_nest more ≤ deepest
+  pub sized : SizedDestination scene.outer scene.table (first ∷ joined_accesses more)
+  pub comes : evaluate_access scene.table (words_of scene) first ≡ gives (field_at word low size)
 
 -- the fields of all accesses, in the scratch
 pub record Gathers {records values carriers : List ℕ} {word low size p end : ℕ} (v : GatherAt records values carriers word low size p end) (scratch : List ℕ)
     (count bits : ℕ) : Type 0 where
   pub fields : List Field
-  pub comes : evaluateAccesses v.scene.table (words_of v.scene) (v.first ∷ joinedAccesses v.more) ≡ gives fields
+  pub comes : evaluate_accesses v.scene.table (words_of v.scene) (v.first ∷ joined_accesses v.more) ≡ gives fields
   pub counts : count ≡ length fields
-  pub total-bits : bits ≡ total (sizes fields)
+  pub total_bits : bits ≡ total (sizes fields)
   pub many : count ≤ bits
-  pub short : bits ≤ mostBits
+  pub short : bits ≤ most_bits
   pub kept : Kept scratch 0 fields
   pub within : AllWithin v.scene.table fields
 
 abbrev pub GatherAnswer : {records values carriers : List ℕ} {word low size p end : ℕ} → GatherAt records values carriers word low size p end → List ℕ → Gathered → Type 0
 GatherAnswer v scratch (Fields count bits) = Gathers v scratch count bits
-GatherAnswer v scratch (Fault q) = evaluateAccesses v.scene.table (words_of v.scene) (v.first ∷ joinedAccesses v.more) ≡ faulty 70 q
+GatherAnswer v scratch (Fault q) = evaluate_accesses v.scene.table (words_of v.scene) (v.first ∷ joined_accesses v.more) ≡ faulty 70 q

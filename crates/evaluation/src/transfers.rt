@@ -1,6 +1,6 @@
 // Transfers: the right side is worked out first, then the subscripts of the destination, then the stores; all from left to right.
 ghost use Rattle.std.specs.Prelude.{◌≡◌, ◌+◌, ◌*◌, ◌<◌, ◌≤◌, length};
-ghost use Rattle.operands.specs.Cells.{cellFirst, cellLow, cellBits};
+ghost use Rattle.operands.specs.Cells.{cell_first, cell_low, cell_bits};
 ghost use Rattle.evaluation.specs.Stores.{Put, StoresAt, StoresAnswer};
 ghost use Rattle.evaluation.specs.Gathering.{GatherAt, GatherAnswer};
 ghost use Rattle.evaluation.specs.Transfers.{AssignAt, AssignAnswer, JoinedAnswer, TransferAt, TransferAnswer};
@@ -37,7 +37,7 @@ pub fn store(carriers: &mut [u8], word: usize, low: u32, size: u32, v: u64)
 // A field as one number, its parts where an access cell has them.
 fn packed(word: usize, low: u32, size: u32) -> u64
     requires { (word < 65536) × ((low < 256) × (size < 256)) }
-    ensures { (cellFirst result ≡ word) × ((cellLow result ≡ low) × (cellBits result ≡ size)) }
+    ensures { (cell_first result ≡ word) × ((cell_low result ≡ low) × (cell_bits result ≡ size)) }
 {
     word as u64 + 65536 * low as u64 + 16777216 * size as u64
 }

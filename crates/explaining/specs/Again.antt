@@ -3,7 +3,7 @@ use Rattle.std.specs.Prelude.{ℕ, ◌≡◌, List, [], length}
 use Rattle.rules.specs.Text.Scan.{scan, fine}
 use Rattle.rules.specs.Grammar.Trees.{Description, flatten}
 use Rattle.rules.specs.Grammar.Verdict.{Crowded}
-use Rattle.rules.specs.Declarations.{declarations, outerName}
+use Rattle.rules.specs.Declarations.{declarations, outer_name}
 use Rattle.rules.specs.Faults.Declared.{faults30}
 use Rattle.records.specs.Holds.{Holds}
 use Rattle.reading.specs.Reading.{Reading}
@@ -15,7 +15,7 @@ pub record Sound (text : List ℕ) : Type 0 where
   pub readable : (scan text).end ≡ fine
   pub stands : flatten description ≡ (scan text).tokens
   pub shallow : (j : ℕ) → ¬ Crowded (flatten description) j
-  pub passed : faults30 (outerName description).word (declarations description) ≡ []
+  pub passed : faults30 (outer_name description).word (declarations description) ≡ []
 
 -- its tokens are in the table
 pub record Rescanned (text records values : List ℕ) (n : ℕ) : Type 0 where

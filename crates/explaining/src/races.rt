@@ -1,12 +1,12 @@
 // The reason of a text that is refused with 53.
 ghost use Rattle.std.specs.Prelude.{◌≡◌, ◌≤◌, length};
-ghost use Rattle.rules.specs.Limits.{longestText};
+ghost use Rattle.rules.specs.Limits.{longest_text};
 ghost use Rattle.rules.specs.Text.Scan.{scan};
 ghost use Rattle.rules.specs.Grammar.Trees.{Description, flatten};
 ghost use Rattle.rules.specs.Declarations.{declarations};
 ghost use Rattle.rules.specs.Answers.{refused, Checks};
 ghost use Rattle.rules.specs.Reasons.{reason53};
-ghost use Rattle.racing.specs.Told.{reasonIn};
+ghost use Rattle.racing.specs.Told.{reason_in};
 ghost use Rattle.explaining.specs.Again.{Reread};
 
 use crate::rereading::reread;
@@ -29,7 +29,7 @@ fn race_at(
 ) -> Reason
     requires checks { Checks text.now (refused 53 place) × Reread text.now records.now decls.now m n }
     requires in_bounds { 65536 ≤ length memo.old }
-    ensures { (d : Description) → flatten d ≡ (scan text.now).tokens → reasonIn result ≡ reason53 (declarations d) place }
+    ensures { (d : Description) → flatten d ≡ (scan text.now).tokens → reason_in result ≡ reason53 (declarations d) place }
 {
     let first = earlier(
         main_key(records, decls, m, n),
@@ -44,9 +44,9 @@ fn race_at(
 
 // The reason of 53 at the place.
 pub fn race_of(text: &[u8], a: &mut [u8], b: &mut [u8], c: &mut [u8], place: usize) -> Reason
-    requires checks { Checks text.now (refused 53 place) × (length text.now ≤ longestText) }
+    requires checks { Checks text.now (refused 53 place) × (length text.now ≤ longest_text) }
     requires in_bounds { (65536 ≤ length a.old) × ((65536 ≤ length b.old) × (65536 ≤ length c.old)) }
-    ensures { (d : Description) → flatten d ≡ (scan text.now).tokens → reasonIn result ≡ reason53 (declarations d) place }
+    ensures { (d : Description) → flatten d ≡ (scan text.now).tokens → reason_in result ≡ reason53 (declarations d) place }
 {
     match reread(text, a, b, c) {
         Standing::Refused(_, _) => Reason::Nothing,

@@ -1,7 +1,7 @@
 // A text that was refused for what its whole is, read again up to its declarations. Its tokens and its grammar are known to be sound.
 ghost use Rattle.std.specs.Prelude.{◌≤◌, length};
-ghost use Rattle.rules.specs.Limits.{longestText};
-ghost use Rattle.room.specs.Spelling.{roomSize};
+ghost use Rattle.rules.specs.Limits.{longest_text};
+ghost use Rattle.room.specs.Spelling.{room_size};
 ghost use Rattle.explaining.specs.Again.{Sound, Rescanned, Rereads};
 
 use declare::{Declared, declare};
@@ -11,7 +11,7 @@ use text::Scanned;
 // The declarations of a sound text of n tokens, once more.
 fn declared(text: &[u8], records: &mut [u8], values: &[u8], decls: &mut [u8], n: usize) -> Standing
     requires rescanned { Rescanned text.now records.old values.now n }
-    requires room_size_in_bounds { roomSize ≤ length decls.old }
+    requires room_size_in_bounds { room_size ≤ length decls.old }
     ensures { Rereads text.now records.new decls.new result }
 {
     match declare(text, records, values, decls, n) {
@@ -22,8 +22,8 @@ fn declared(text: &[u8], records: &mut [u8], values: &[u8], decls: &mut [u8], n:
 
 // A sound text, once more. It is not refused.
 pub fn reread(text: &[u8], records: &mut [u8], values: &mut [u8], decls: &mut [u8]) -> Standing
-    requires sound { Sound text.now × ((length text.now ≤ longestText) × ((65536 ≤ length records.old) × (65536 ≤ length values.old))) }
-    requires room_size_in_bounds { roomSize ≤ length decls.old }
+    requires sound { Sound text.now × ((length text.now ≤ longest_text) × ((65536 ≤ length records.old) × (65536 ≤ length values.old))) }
+    requires room_size_in_bounds { room_size ≤ length decls.old }
     ensures { Rereads text.now records.new decls.new result }
 {
     match text::scan(text, records, values) {

@@ -1,9 +1,9 @@
 // The reason of any verdict, as numbers.
 ghost use Rattle.std.specs.Prelude.{◌≡◌, ◌≤◌, length};
-ghost use Rattle.rules.specs.Limits.{longestText};
-ghost use Rattle.rules.specs.Reasons.{no-reason};
-ghost use Rattle.rules.specs.Calls.Why.{reasonNumbers};
-ghost use Rattle.racing.specs.Told.{reasonIn};
+ghost use Rattle.rules.specs.Limits.{longest_text};
+ghost use Rattle.rules.specs.Reasons.{no_reason};
+ghost use Rattle.rules.specs.Calls.Why.{reason_numbers};
+ghost use Rattle.racing.specs.Told.{reason_in};
 ghost use Rattle.explaining.specs.Reasons.{Judged, Explained};
 
 use crate::activations::chain_of;
@@ -21,14 +21,14 @@ const CHAIN_TOO_LONG: u32 = 51;
 
 // The numbers of nothing more to say.
 fn nothing_more() -> Numbers
-    ensures { result.n ≡ reasonNumbers no-reason }
+    ensures { result.n ≡ reason_numbers no_reason }
 {
     Numbers { n: [0; 24] }
 }
 
 // The numbers of a race.
 fn race_numbers(found: Reason) -> Numbers
-    ensures { result.n ≡ reasonNumbers (reasonIn found) }
+    ensures { result.n ≡ reason_numbers (reason_in found) }
 {
     match found {
         Reason::Nothing => nothing_more(),
@@ -54,7 +54,7 @@ pub fn reason_of(
     number: u32,
     place: usize,
 ) -> Numbers
-    requires judged { Judged text.now number place × (length text.now ≤ longestText) }
+    requires judged { Judged text.now number place × (length text.now ≤ longest_text) }
     requires in_bounds { (65536 ≤ length a.old) × ((65536 ≤ length b.old) × (65536 ≤ length c.old)) }
     ensures { Explained text.now number place result.n }
 {

@@ -1,12 +1,12 @@
 -- An expression, an operand and an access that stand in the tables, and what is answered of them.
 use Rattle.std.specs.Prelude.{ℕ, ◌≤◌, max, ◌≡◌, true, List, ◌∷◌, drop}
 use Rattle.rules.specs.Text.Tokens.{Name, Info, Token, tk}
-use Rattle.rules.specs.Grammar.Trees.{Tokens, Bits, bitsTokens, Operand, operandTokens, Tail, tailTokens, Subscript, subscriptTokens}
-use Rattle.rules.specs.Grammar.Precedence.{factorOf, exprOf}
-use Rattle.rules.specs.Faults.Bodies.{judge, judgeFactor, judgeDestination}
-use Rattle.laws_grammar.specs.Cited.Nesting.{operandNest, tailNest, subscriptNest}
-use Rattle.table.specs.Operators.{endsAccess, endsExpression}
-use Rattle.accesses.specs.Scene.{Scene, outerOf, table_of, Answers}
+use Rattle.rules.specs.Grammar.Trees.{Tokens, Bits, bits_tokens, Operand, operand_tokens, Tail, tail_tokens, Subscript, subscript_tokens}
+use Rattle.rules.specs.Grammar.Precedence.{factor_of, expr_of}
+use Rattle.rules.specs.Faults.Bodies.{judge, judge_factor, judge_destination}
+use Rattle.laws_grammar.specs.Cited.Nesting.{operand_nest, tail_nest, subscript_nest}
+use Rattle.table.specs.Operators.{ends_access, ends_expression}
+use Rattle.accesses.specs.Scene.{Scene, outer_of, table_of, Answers}
 use Rattle.accesses.specs.declared.Judged.{Judged as Answer}
 
 -- an expression, an operand and an access from the token i on, nested at most `depth` deep, with the token behind it
@@ -16,18 +16,18 @@ pub record ExpressionAt (records values decls : List ℕ) (i depth : ℕ) : Type
   pub tail : Tail
   pub next : Token
   pub rest : Tokens
-  pub reads : drop i scene.tokens ≡ operandTokens first (tailTokens tail (next ∷ rest))
-  pub ends : endsExpression next.kind ≡ true
-  pub shallow : max (operandNest first) (tailNest tail) ≤ depth
+  pub reads : drop i scene.tokens ≡ operand_tokens first (tail_tokens tail (next ∷ rest))
+  pub ends : ends_expression next.kind ≡ true
+  pub shallow : max (operand_nest first) (tail_nest tail) ≤ depth
 
 pub record OperandAt (records values decls : List ℕ) (i depth : ℕ) : Type 0 where
   pub scene : Scene records values decls
   pub operand : Operand
   pub next : Token
   pub rest : Tokens
-  pub reads : drop i scene.tokens ≡ operandTokens operand (next ∷ rest)
-  pub ends : endsAccess next.kind ≡ true
-  pub shallow : operandNest operand ≤ depth
+  pub reads : drop i scene.tokens ≡ operand_tokens operand (next ∷ rest)
+  pub ends : ends_access next.kind ≡ true
+  pub shallow : operand_nest operand ≤ depth
 
 pub record AccessAt (records values decls : List ℕ) (i depth : ℕ) : Type 0 where
   pub scene : Scene records values decls
@@ -36,18 +36,18 @@ pub record AccessAt (records values decls : List ℕ) (i depth : ℕ) : Type 0 w
   pub bits : Bits
   pub next : Token
   pub rest : Tokens
-  pub reads : drop i scene.tokens ≡ tk Name name ∷ subscriptTokens subscript (bitsTokens bits (next ∷ rest))
-  pub ends : endsAccess next.kind ≡ true
-  pub shallow : subscriptNest subscript ≤ depth
+  pub reads : drop i scene.tokens ≡ tk Name name ∷ subscript_tokens subscript (bits_tokens bits (next ∷ rest))
+  pub ends : ends_access next.kind ≡ true
+  pub shallow : subscript_nest subscript ≤ depth
 
 module _ {records values decls : List ℕ} {i depth : ℕ} where
   abbrev pub ExpressionAnswer : ExpressionAt records values decls i depth → Answer → Type 0
   ExpressionAnswer v r =
-      Answers v.scene.tokens (v.next ∷ v.rest) i (judge (outerOf v.scene) (table_of v.scene) (exprOf v.first v.tail)) r
+      Answers v.scene.tokens (v.next ∷ v.rest) i (judge (outer_of v.scene) (table_of v.scene) (expr_of v.first v.tail)) r
 
   abbrev pub OperandAnswer : OperandAt records values decls i depth → Answer → Type 0
-  OperandAnswer v r = Answers v.scene.tokens (v.next ∷ v.rest) i (judgeFactor (outerOf v.scene) (table_of v.scene) (factorOf v.operand)) r
+  OperandAnswer v r = Answers v.scene.tokens (v.next ∷ v.rest) i (judge_factor (outer_of v.scene) (table_of v.scene) (factor_of v.operand)) r
 
   abbrev pub AccessAnswer : AccessAt records values decls i depth → Answer → Type 0
   AccessAnswer v r =
-      Answers v.scene.tokens (v.next ∷ v.rest) i (judgeDestination (outerOf v.scene) (table_of v.scene) v.name v.subscript v.bits) r
+      Answers v.scene.tokens (v.next ∷ v.rest) i (judge_destination (outer_of v.scene) (table_of v.scene) v.name v.subscript v.bits) r

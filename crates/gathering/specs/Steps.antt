@@ -8,6 +8,6 @@ pub record Stepped (d m k : ℕ) (before with_it : Bool) (depth behind : ℕ) : 
   pub ending : before ≡ ends d k
   pub closing : with_it ≡ closes d k
   pub depth_is : depth ≡ deeper d k
-  pub depth-most : depth ≤ d + 1
-  pub mode-is : behind ≡ mode m k
-  pub mode-most : behind ≤ m + 1
+  pub depth_most : depth ≤ d + 1
+  pub mode_is : behind ≡ mode m k
+  pub mode_most : behind ≤ m + 1

@@ -1,10 +1,10 @@
 // What each body reads and writes, gathered once, by recursion down its activations. The remaining length of the chain falls.
 ghost use Rattle.std.specs.Prelude.{◌≡◌, false, ℕ, ◌*◌, ◌<◌, ◌≤◌, length, drop};
-ghost use Rattle.rules.specs.Text.Tokens.{Name, kindNo};
+ghost use Rattle.rules.specs.Text.Tokens.{Name, kind_no};
 ghost use Rattle.rules.specs.Declarations.{Word};
-ghost use Rattle.rules.specs.Whole.Sets.{anyName, chainOver};
-ghost use Rattle.rules.specs.Limits.{longestChain};
-ghost use Rattle.records.specs.Holds.{kindByte};
+ghost use Rattle.rules.specs.Whole.Sets.{any_name, chain_over};
+ghost use Rattle.rules.specs.Limits.{longest_chain};
+ghost use Rattle.records.specs.Holds.{kind_byte};
 ghost use Rattle.records.specs.Words.{word_at};
 ghost use Rattle.reading.specs.Reading.{Reading, table_of};
 ghost use Rattle.reading.specs.Events.{heard};
@@ -32,8 +32,8 @@ pub fn gather(
     i: usize,
     left: usize,
 )
-    requires { Fillable records.now decls.now memo.old m n × ((i < n) × ((kindByte records.now i ≡ kindNo Name)
-        × ((left ≤ longestChain) × ((v : Reading records.now decls.now m n) → chainOver (table_of v) left (word_at v.tokens i) ≡ false)))) }
+    requires { Fillable records.now decls.now memo.old m n × ((i < n) × ((kind_byte records.now i ≡ kind_no Name)
+        × ((left ≤ longest_chain) × ((v : Reading records.now decls.now m n) → chain_over (table_of v) left (word_at v.tokens i) ≡ false)))) }
     ensures { Fills records.now decls.now memo.old memo.new m n i }
 {
     let k = inside_at(records, i);
@@ -64,8 +64,8 @@ fn descend(
     from: usize,
     left: usize,
 )
-    requires { Fillable records.now decls.now memo.old m n × ((left ≤ longestChain)
-        × ((v : Reading records.now decls.now m n) → anyName (chainOver (table_of v) left) (calls_of (heard 0 0 (drop from v.tokens))) ≡ false)) }
+    requires { Fillable records.now decls.now memo.old m n × ((left ≤ longest_chain)
+        × ((v : Reading records.now decls.now m n) → any_name (chain_over (table_of v) left) (calls_of (heard 0 0 (drop from v.tokens))) ≡ false)) }
     ensures { Grows records.now decls.now memo.old memo.new m n
         × ((v : Reading records.now decls.now m n) → AllDone v memo.new (calls_of (heard 0 0 (drop from v.tokens)))) }
 {
@@ -114,7 +114,7 @@ fn note_carriers(records: &[u8], decls: &[u8], memo: &mut [u8], m: usize, n: usi
 // Gathers all bodies, where no chain is over 16 bodies long.
 pub fn gather_all(records: &[u8], decls: &[u8], memo: &mut [u8], m: usize, n: usize)
     requires { Reading records.now decls.now m n × ((72 * m ≤ length memo.old)
-        × ((v : Reading records.now decls.now m n) (w : Word) → chainOver (table_of v) longestChain w ≡ false)) }
+        × ((v : Reading records.now decls.now m n) (w : Word) → chain_over (table_of v) longest_chain w ≡ false)) }
     ensures { Complete records.now decls.now memo.new m n }
 {
     note_carriers(records, decls, memo, m, n);

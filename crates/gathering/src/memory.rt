@@ -2,7 +2,7 @@
 ghost use Rattle.std.specs.Prelude.{◌≡◌, false, ℕ, ◌+◌, ◌*◌, ◌/◌, ◌%◌, ◌≤◌, eqb, length};
 ghost use Rattle.cells.specs.Cells.{cell};
 ghost use Rattle.reading.specs.Bits.{holds};
-ghost use Rattle.gathering.specs.Memory.{Put, PutWords, Stored, wordsAt, mark_of, carrierOf, readsAt, writes_at, markFor};
+ghost use Rattle.gathering.specs.Memory.{Put, PutWords, Stored, words_at, mark_of, carrier_of, reads_at, writes_at, mark_for};
 
 use cells::{get64, put64};
 use reading::bits::{Set, empty};
@@ -55,7 +55,7 @@ pub fn mark_in(memo: &[u8], c: usize) -> u64
 
 // The word of a declaration, with the mark of a body that is gathered.
 fn marked(word: u64, stops: bool) -> u64
-    ensures { (result % 65536 ≡ markFor stops) × (result / 65536 ≡ word / 65536) }
+    ensures { (result % 65536 ≡ mark_for stops) × (result / 65536 ≡ word / 65536) }
 {
     if stops {
         return word / ABOVE_MARK * ABOVE_MARK + 2;
@@ -66,14 +66,14 @@ fn marked(word: u64, stops: bool) -> u64
 // The storage carrier under the name of the declaration k; from 256 on there is none.
 pub fn carrier_at(memo: &[u8], k: usize) -> usize
     requires { 72 * k + 72 ≤ length memo.now }
-    ensures { result ≡ carrierOf memo.now k }
+    ensures { result ≡ carrier_of memo.now k }
 {
     (get64(memo, 9 * k) / ABOVE_MARK % ABOVE_MARK) as usize
 }
 
 pub fn remember(memo: &mut [u8], k: usize, t: Touched)
     requires { 72 * k + 72 ≤ length memo.old }
-    ensures { Stored memo.old memo.new k t.reads.w t.writes.w (markFor t.stops) }
+    ensures { Stored memo.old memo.new k t.reads.w t.writes.w (mark_for t.stops) }
 {
     let reads = t.reads;
     let writes = t.writes;
@@ -86,7 +86,7 @@ pub fn remember(memo: &mut [u8], k: usize, t: Touched)
 
 fn set_at(memo: &[u8], c: usize) -> Set
     requires { 8 * c + 32 ≤ length memo.now }
-    ensures { result.w ≡ wordsAt memo.now c }
+    ensures { result.w ≡ words_at memo.now c }
 {
     Set {
         w: [
@@ -100,7 +100,7 @@ fn set_at(memo: &[u8], c: usize) -> Set
 
 pub fn recalled(memo: &[u8], k: usize) -> Touched
     requires { 72 * k + 72 ≤ length memo.now }
-    ensures { (result.reads.w ≡ readsAt memo.now k) × ((result.writes.w ≡ writes_at memo.now k) × (result.stops ≡ eqb (mark_of memo.now k) 2)) }
+    ensures { (result.reads.w ≡ reads_at memo.now k) × ((result.writes.w ≡ writes_at memo.now k) × (result.stops ≡ eqb (mark_of memo.now k) 2)) }
 {
     Touched {
         reads: set_at(memo, 9 * k + 1),

@@ -1,8 +1,8 @@
 // What an action reads and writes, and whether it may stop, gathered from its tokens and from what is remembered of the bodies it activates.
 ghost use Rattle.std.specs.Prelude.{◌≡◌, ◌||◌, true, List, ℕ, ◌*◌, ◌<◌, ◌≤◌, length};
-ghost use Rattle.rules.specs.Text.Tokens.{Name, kindNo};
+ghost use Rattle.rules.specs.Text.Tokens.{Name, kind_no};
 ghost use Rattle.rules.specs.Whole.Sets.{owner, member};
-ghost use Rattle.records.specs.Holds.{kindByte};
+ghost use Rattle.records.specs.Holds.{kind_byte};
 ghost use Rattle.records.specs.Words.{word_at};
 ghost use Rattle.reading.specs.Reading.{Reading, table_of};
 ghost use Rattle.reading.specs.Names.{Owned};
@@ -83,7 +83,7 @@ pub fn joined(t: Touched, u: Touched) -> Touched
 
 // What the body of the name i touches.
 fn called(records: &[u8], decls: &[u8], memo: &[u8], m: usize, n: usize, i: usize) -> Touched
-    requires { Reading records.now decls.now m n × ((i < n) × ((kindByte records.now i ≡ kindNo Name) × (72 * m ≤ length memo.now))) }
+    requires { Reading records.now decls.now m n × ((i < n) × ((kind_byte records.now i ≡ kind_no Name) × (72 * m ≤ length memo.now))) }
     ensures { (v : Reading records.now decls.now m n) → Recalls v memo.now (word_at v.tokens i)
         → Touches v (word_at v.tokens i) result.reads.w result.writes.w result.stops }
 {
@@ -96,7 +96,7 @@ fn called(records: &[u8], decls: &[u8], memo: &[u8], m: usize, n: usize, i: usiz
 
 // The storage carrier under the name i, as it is remembered; from 256 on there is none.
 fn carried(records: &[u8], decls: &[u8], memo: &[u8], m: usize, n: usize, i: usize) -> usize
-    requires { Reading records.now decls.now m n × ((i < n) × ((kindByte records.now i ≡ kindNo Name) × ((72 * m ≤ length memo.now)
+    requires { Reading records.now decls.now m n × ((i < n) × ((kind_byte records.now i ≡ kind_no Name) × ((72 * m ≤ length memo.now)
         × Carrying records.now decls.now memo.now m n))) }
     ensures { (v : Reading records.now decls.now m n) → Owned (owner (table_of v) (word_at v.tokens i)) result }
 {
@@ -118,7 +118,7 @@ fn named(
     mode: usize,
     t: Touched,
 ) -> Touched
-    requires { Reading records.now decls.now m n × ((i < n) × ((kindByte records.now i ≡ kindNo Name) × ((72 * m ≤ length memo.now)
+    requires { Reading records.now decls.now m n × ((i < n) × ((kind_byte records.now i ≡ kind_no Name) × ((72 * m ≤ length memo.now)
         × Carrying records.now decls.now memo.now m n))) }
     ensures { Hears records.now decls.now memo.now m n mode i t.reads.w t.writes.w t.stops result.reads.w result.writes.w result.stops }
 {

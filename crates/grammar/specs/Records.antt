@@ -1,24 +1,24 @@
 -- The token table's records, eight bytes each, and the recogniser's answer as the code gives it.
 use Rattle.std.specs.Prelude.{◌≡◌, List, ℕ, ◌*◌, ◌≤◌, ◌<◌, length, get_or}
-use Rattle.rules.specs.Text.Tokens.{tk, Name, kindNo}
+use Rattle.rules.specs.Text.Tokens.{tk, Name, kind_no}
 use Rattle.rules.specs.Grammar.Trees.{Tokens}
-use Rattle.rules.specs.Grammar.Verdict.{anyInfo}
+use Rattle.rules.specs.Grammar.Verdict.{any_info}
 use Rattle.laws_grammar.specs.Cited.Answer.{Answer, accepted, refused20, refused21}
 use Rattle.laws_grammar.specs.Cited.Rows.{recognise}
-use Rattle.records.specs.Holds.{kindByte}
-use Rattle.grammar.specs.Entries.{kindCount}
+use Rattle.records.specs.Holds.{kind_byte}
+use Rattle.grammar.specs.Entries.{kind_count}
 use Rattle.grammar.specs.declared.Recognised.{Recognised}
 use Rattle.grammar.specs.declared.Recognised.TheVariants.{Accepted, Refused20, Refused21}
 
 -- n records, each with the number of a kind
 pub record Records (bytes : List ℕ) (n : ℕ) : Type 0 where
   pub room : 8 * n ≤ length bytes
-  pub small : (i : ℕ) → i < n → kindByte bytes i < kindCount
+  pub small : (i : ℕ) → i < n → kind_byte bytes i < kind_count
 
 -- the n records are those of the tokens ts, as far as the kinds go
 pub record KindsStand (ts : Tokens) (bytes : List ℕ) (n : ℕ) : Type 0 where
   pub count : length ts ≡ n
-  pub stand : (i : ℕ) → i < n → kindByte bytes i ≡ kindNo (get_or ts i (tk Name anyInfo)).kind
+  pub stand : (i : ℕ) → i < n → kind_byte bytes i ≡ kind_no (get_or ts i (tk Name any_info)).kind
 
 abbrev pub answer_of : Answer → Recognised
 answer_of accepted = Accepted

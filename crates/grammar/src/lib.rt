@@ -4,8 +4,8 @@ mod rows;
 ghost use Rattle.std.specs.Prelude.{◌≡◌, ◌<◌};
 ghost use Rattle.laws_grammar.specs.Cited.Rows.{State, row, lookup};
 ghost use Rattle.grammar.specs.Places.{place};
-ghost use Rattle.grammar.specs.Entries.{kindCount, Ruled, next_of};
-ghost use Rattle.records.specs.Holds.{kindByte};
+ghost use Rattle.grammar.specs.Entries.{kind_count, Ruled, next_of};
+ghost use Rattle.records.specs.Holds.{kind_byte};
 ghost use Rattle.grammar.specs.Records.{Records, Answers};
 ghost use Rattle.laws_grammar.specs.Cited.Kinds.{kind_at};
 
@@ -46,7 +46,7 @@ fn wide32(x: u32) -> usize
 fn kind_of(records: &[u8], i: usize, n: usize) -> usize
     requires records { Records records.now n }
     requires i_lt_n { i < n }
-    ensures { result ≡ kindByte records.now i }
+    ensures { result ≡ kind_byte records.now i }
 {
     wide8(kind_at(records, i))
 }
@@ -55,7 +55,7 @@ fn kind_of(records: &[u8], i: usize, n: usize) -> usize
 fn moved(table: &Entries, state: usize, kind: usize) -> Next
     requires ruled { Ruled table.now }
     requires s_value { (s : State) × place s ≡ state }
-    requires kind_lt_kind_count { kind < kindCount }
+    requires kind_lt_kind_count { kind < kind_count }
     ensures { (s : State) → place s ≡ state → result ≡ next_of (lookup (row s) (kind_at kind)) }
 {
     let entry = wide32(table[state + kind]);

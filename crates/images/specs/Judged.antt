@@ -4,6 +4,6 @@ use Rattle.rules.specs.Faults.Fault.{Fault, fault}
 use Rattle.images.specs.declared.images.Judged.{Judged}
 use Rattle.images.specs.declared.images.Judged.TheVariants.{Fine, Refused}
 
-abbrev pub faultOf : Judged → Option Fault
-faultOf Fine = none
-faultOf (Refused m p) = some (fault m p)
+abbrev pub fault_of : Judged → Option Fault
+fault_of Fine = none
+fault_of (Refused m p) = some (fault m p)

@@ -1,7 +1,7 @@
 // Whole images: judged block by block, read, written.
 ghost use Rattle.std.specs.Prelude.{◌≡◌, ◌+◌, ◌-◌, ◌*◌, ◌<◌, ◌≤◌, min, length};
-ghost use Rattle.rules.specs.Images.{payloadSize, blocksFor, imageSize, image_of, imageFault, heldIn};
-ghost use Rattle.images.specs.Judged.{faultOf};
+ghost use Rattle.rules.specs.Images.{payload_size, blocks_for, image_size_of, image_of, image_fault, held_in};
+ghost use Rattle.images.specs.Judged.{fault_of};
 
 use blocks::blocks::{BLOCK_SIZE, HEAD_SIZE, PAYLOAD_SIZE, is_checked, is_formed, put_block};
 use blocks::bytes::copy;
@@ -16,7 +16,7 @@ pub enum Judged {
 // The blocks that so many bytes need.
 pub fn blocks_for(size: usize) -> usize
     requires { size ≤ 1048576 }
-    ensures { result ≡ blocksFor size }
+    ensures { result ≡ blocks_for size }
 {
     (size + 503) / PAYLOAD_SIZE
 }
@@ -24,7 +24,7 @@ pub fn blocks_for(size: usize) -> usize
 // The bytes of an image of so many bytes.
 pub fn image_size(size: usize) -> usize
     requires { size ≤ 1048576 }
-    ensures { result ≡ imageSize size }
+    ensures { result ≡ image_size_of size }
 {
     BLOCK_SIZE * blocks_for(size)
 }
@@ -32,7 +32,7 @@ pub fn image_size(size: usize) -> usize
 // How many of some bytes the block of a number holds.
 fn used_in(size: usize, number: usize) -> usize
     requires { number < 256 }
-    ensures { result ≡ min payloadSize (size - payloadSize * number) }
+    ensures { result ≡ min payload_size (size - payload_size * number) }
 {
     let from = PAYLOAD_SIZE * number;
     if size <= from {
@@ -46,8 +46,8 @@ fn used_in(size: usize, number: usize) -> usize
 
 // Whether an image of carriers of so many bytes is refused. Its lowest block decides.
 pub fn judge(image: &[u8], size: usize) -> Judged
-    requires { (size ≤ 32768) × (length image.now ≡ imageSize size) }
-    ensures { faultOf result ≡ imageFault size image.now }
+    requires { (size ≤ 32768) × (length image.now ≡ image_size_of size) }
+    ensures { fault_of result ≡ image_fault size image.now }
 {
     let blocks = blocks_for(size);
     let mut i: usize = 0;
@@ -68,8 +68,8 @@ pub fn judge(image: &[u8], size: usize) -> Judged
 
 // Puts the carriers that an image holds into a buffer of their size.
 pub fn read(image: &[u8], carriers: &mut [u8])
-    requires { (length carriers.old ≤ 32768) × (length image.now ≡ imageSize (length carriers.old)) }
-    ensures { carriers.new ≡ heldIn (length carriers.old) image.now }
+    requires { (length carriers.old ≤ 32768) × (length image.now ≡ image_size_of (length carriers.old)) }
+    ensures { carriers.new ≡ held_in (length carriers.old) image.now }
 {
     let size = carriers.len();
     let blocks = blocks_for(size);
@@ -84,7 +84,7 @@ pub fn read(image: &[u8], carriers: &mut [u8])
 
 // Writes the image of carriers.
 pub fn write(image: &mut [u8], carriers: &[u8])
-    requires { (length carriers.now ≤ 32768) × (length image.old ≡ imageSize (length carriers.now)) }
+    requires { (length carriers.now ≤ 32768) × (length image.old ≡ image_size_of (length carriers.now)) }
     ensures { image.new ≡ image_of carriers.now }
 {
     let size = carriers.len();

@@ -1,6 +1,6 @@
 // Store, with its working memory.
 ghost use Rattle.std.specs.Prelude.{◌≤◌, length};
-ghost use Rattle.rules.specs.Limits.{longestText};
+ghost use Rattle.rules.specs.Limits.{longest_text};
 ghost use Rattle.rules.specs.Keeping.{storing};
 ghost use Rattle.kept.specs.Kept.{Answered};
 
@@ -17,7 +17,7 @@ pub fn stored(
     values: &mut [u8],
     room: &mut [u8],
 ) -> Ending
-    requires { (length text.now ≤ longestText) × ((65536 ≤ length records.old) × ((65536 ≤ length values.old) × (65536 ≤ length room.old))) }
+    requires { (length text.now ≤ longest_text) × ((65536 ≤ length records.old) × ((65536 ≤ length values.old) × (65536 ≤ length room.old))) }
     ensures { Answered text.now (storing carriers.now image.old) image.old image.new result }
 {
     let mut decls: [u8; 512] = [0; 512];

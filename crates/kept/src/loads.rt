@@ -1,9 +1,9 @@
 // Load, of an accepted description.
 ghost use Rattle.std.specs.Prelude.{◌≡◌, ◌≤◌, length};
-ghost use Rattle.rules.specs.Declarations.{totalWords};
+ghost use Rattle.rules.specs.Declarations.{total_words};
 ghost use Rattle.starts.specs.Starts.{Starts};
-ghost use Rattle.rules.specs.Images.{imageSize, heldIn};
-ghost use Rattle.rules.specs.Keeping.{carriersSize, loading};
+ghost use Rattle.rules.specs.Images.{image_size_of, held_in};
+ghost use Rattle.rules.specs.Keeping.{carriers_size, loading};
 ghost use Rattle.table.specs.Ready.{Scene, table_of};
 ghost use Rattle.kept.specs.Kept.{Keeping, Taken};
 
@@ -21,9 +21,9 @@ fn start_held(
     held: &mut [u8],
 ) -> Started
     requires scene { Scene records.now values.now decls.now m }
-    requires held_len_bound { (length held.old ≤ 32768) × (length image.now ≡ imageSize (length held.old)) }
+    requires held_len_bound { (length held.old ≤ 32768) × (length image.now ≡ image_size_of (length held.old)) }
     ensures { (v : Scene records.now values.now decls.now m)
-        → Starts (table_of v) (heldIn (length held.old) image.now) result }
+        → Starts (table_of v) (held_in (length held.old) image.now) result }
 {
     read(image, held);
     start(records, values, decls, m, held)
@@ -40,9 +40,9 @@ fn load_sound(
     room: &mut [u8],
 ) -> Ending
     requires scene { Scene records.now values.now decls.now m }
-    requires in_bounds { (65536 ≤ length room.old) × ((length carriers.old ≤ 32768) × (length image.now ≡ imageSize (length carriers.old))) }
+    requires in_bounds { (65536 ≤ length room.old) × ((length carriers.old ≤ 32768) × (length image.now ≡ image_size_of (length carriers.old))) }
     ensures { (v : Scene records.now values.now decls.now m)
-        → length carriers.old ≡ carriersSize (table_of v) → Taken (table_of v) image.now carriers.old carriers.new result }
+        → length carriers.old ≡ carriers_size (table_of v) → Taken (table_of v) image.now carriers.old carriers.new result }
 {
     let size = carriers.len();
     match start_held(records, values, decls, m, image, &mut room[..size]) {
@@ -65,10 +65,10 @@ pub fn load_accepted(
     carriers: &mut [u8],
     room: &mut [u8],
 ) -> Ending
-    requires words_value { (v : Scene records.now values.now decls.now m) × (words ≡ totalWords (table_of v)) }
+    requires words_value { (v : Scene records.now values.now decls.now m) × (words ≡ total_words (table_of v)) }
     requires in_bounds { (65536 ≤ length room.old) × (words ≤ 4096) }
     ensures { (v : Scene records.now values.now decls.now m)
-        → words ≡ totalWords (table_of v)
+        → words ≡ total_words (table_of v)
         → Keeping (loading image.now carriers.old (table_of v)) carriers.old carriers.new result }
 {
     let size = 8 * words;

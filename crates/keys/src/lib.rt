@@ -1,15 +1,15 @@
 // Faults as numbers, of which the least is kept.
 ghost use Rattle.std.specs.Prelude.{◌≡◌, ◌/◌, ◌%◌, ◌<◌, ◌≤◌, min};
 ghost use Rattle.rules.specs.Faults.Fault.{fault};
-ghost use Rattle.rules.specs.Limits.{longestText};
-ghost use Rattle.keys.specs.Keys.{key, numberKey};
+ghost use Rattle.rules.specs.Limits.{longest_text};
+ghost use Rattle.keys.specs.Keys.{key, number_key};
 
 // No fault: above every key.
 pub const NO_KEY: u32 = 4294967295;
 
 // The key of a fault where the place counts first.
 pub fn fault_key(number: u32, place: usize) -> u32
-    requires { (number < 128) × (place ≤ longestText) }
+    requires { (number < 128) × (place ≤ longest_text) }
     ensures { result ≡ key (fault number place) }
 {
     place as u32 * 128 + number
@@ -17,8 +17,8 @@ pub fn fault_key(number: u32, place: usize) -> u32
 
 // The key of a fault where the number counts first.
 pub fn number_key(number: u32, place: usize) -> u32
-    requires { (number < 128) × (place ≤ longestText) }
-    ensures { result ≡ numberKey (fault number place) }
+    requires { (number < 128) × (place ≤ longest_text) }
+    ensures { result ≡ number_key (fault number place) }
 {
     number * 65536 + place as u32
 }

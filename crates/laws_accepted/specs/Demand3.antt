@@ -12,22 +12,22 @@ use Rattle.rules.specs.Declarations.{Table, declarations}
 use Rattle.rules.specs.Steps.Evaluation.{Carriers}
 use Rattle.rules.specs.Steps.Runs.{Conf, Steps, begin, run}
 use Rattle.laws_orders.specs.Orders.Orderly.{Orderly}
-use Rattle.rules.specs.Faults.Whole.{mainName}
+use Rattle.rules.specs.Faults.Whole.{main_name}
 use Rattle.rules.specs.Answers.{accepted, Checks}
-use Rattle.laws_grammar.specs.Answers.{accepted-iff-lawful}
+use Rattle.laws_grammar.specs.Answers.{accepted_iff_lawful}
 use Rattle.laws_grammar.specs.Grammar.Exact.{unique}
 use Rattle.rules.specs.Steps.Orders.{Ended, EveryOrder}
 use Rattle.laws_orders.specs.Orders.Ends.{EndsWell}
-use Rattle.laws_orders.specs.Orders.Demand3.{order-free, none-ends}
-use Rattle.laws_accepted.specs.Accepted.Orderly.{accepted-orderly}
+use Rattle.laws_orders.specs.Orders.Demand3.{order_free, none_ends}
+use Rattle.laws_accepted.specs.Accepted.Orderly.{accepted_orderly}
 
 -- a text that Check accepts, and the description that stands in it
 module _ (text : List ℕ) (n w : ℕ) (accepts : Checks text (accepted n w)) (d : Description) (stands : flatten d ≡ (scan text).tokens) where
   orderly : Orderly (declarations d)
   orderly =
-      let l = (accepted-iff-lawful text n w).0 accepts in
+      let l = (accepted_iff_lawful text n w).0 accepts in
       let same : l.description ≡ d = unique l.description d (l.stands ∙ sym stands) in
-      subst (λ x. Orderly (declarations x)) same (accepted-orderly l.description n w l.faultless)
+      subst (λ x. Orderly (declarations x)) same (accepted_orderly l.description n w l.faultless)
 
   -- the run of MAIN from left to right, from any carriers and with any budget
   module _ (s : Carriers) (b : ℕ) where
@@ -35,12 +35,12 @@ module _ (text : List ℕ) (n w : ℕ) (accepts : Checks text (accepted n w)) (d
     ds = declarations d
 
     -- (a) If left to right ends Done or Stopped, so does every order, with that count and those carriers: none faults, stalls or runs longer.
-    pub accepted-order-free :
-        EndsWell (run ds (mainName ds) b s)
-        → (k : ℕ) (c : Conf) → Steps ds k (begin ds (mainName ds) s) c → EveryOrder ds (run ds (mainName ds) b s) k c
-    accepted-order-free = order-free ds orderly (mainName ds) b s
+    pub accepted_order_free :
+        EndsWell (run ds (main_name ds) b s)
+        → (k : ℕ) (c : Conf) → Steps ds k (begin ds (main_name ds) s) c → EveryOrder ds (run ds (main_name ds) b s) k c
+    accepted_order_free = order_free ds orderly (main_name ds) b s
 
     -- (b) If left to right faults or pauses, no order ends Done or Stopped within the budget.
-    pub accepted-none-ends :
-        (EndsWell (run ds (mainName ds) b s) → ⊥) → (k : ℕ) (c : Conf) → k ≤ b → Steps ds k (begin ds (mainName ds) s) c → Ended c → ⊥
-    accepted-none-ends = none-ends ds orderly (mainName ds) b s
+    pub accepted_none_ends :
+        (EndsWell (run ds (main_name ds) b s) → ⊥) → (k : ℕ) (c : Conf) → k ≤ b → Steps ds k (begin ds (main_name ds) s) c → Ended c → ⊥
+    accepted_none_ends = none_ends ds orderly (main_name ds) b s

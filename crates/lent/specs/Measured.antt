@@ -1,6 +1,6 @@
 -- Whether memory is enough and the text short enough, as the code finds it.
 use Rattle.std.specs.Prelude.{ℕ, ◌<◌, ◌≤◌, Bool, true, false, List, length}
-use Rattle.rules.specs.Limits.{longestText}
+use Rattle.rules.specs.Limits.{longest_text}
 use Rattle.rules.specs.Calls.Memory.{Memory, Enough}
 
 abbrev pub Measured : Memory → Bool → Type 0
@@ -9,6 +9,6 @@ Measured m false = Enough m → ⊥
 
 -- the number of the refusal for which the text is not even read, or 0
 pub data Unread (text : List ℕ) (m : Memory) : ℕ → Type 0 where
-  short-memory : (Enough m → ⊥) → Unread text m 1
-  long-text : Enough m → longestText < length text → Unread text m 2
-  none : Enough m → length text ≤ longestText → Unread text m 0
+  short_memory : (Enough m → ⊥) → Unread text m 1
+  long_text : Enough m → longest_text < length text → Unread text m 2
+  none : Enough m → length text ≤ longest_text → Unread text m 0

@@ -1,8 +1,8 @@
 // An answer as eight numbers of 32 bits.
 ghost use Rattle.std.specs.Prelude.{◌≡◌, [], ◌∷◌, ◌+◌, ◌*◌, ◌<◌, ◌≤◌, length};
-ghost use Rattle.rules.specs.Answers.{refusedNumbers};
-ghost use Rattle.rules.specs.Calls.Memory.{answerSize, answered};
-ghost use Rattle.lent.specs.Numbers.{numbersOf};
+ghost use Rattle.rules.specs.Answers.{refused_numbers};
+ghost use Rattle.rules.specs.Calls.Memory.{answer_size, answered};
+ghost use Rattle.lent.specs.Numbers.{numbers_of};
 
 use cells::put64;
 use positions::position_of;
@@ -23,7 +23,7 @@ pub struct Answer {
 // Refused, with a number and a place.
 pub fn refusal(text: &[u8], number: u32, place: usize) -> Answer
     requires { place < 65536 }
-    ensures { numbersOf result ≡ refusedNumbers text.now number place }
+    ensures { numbers_of result ≡ refused_numbers text.now number place }
 {
     let here = position_of(text, number, place);
     Answer {
@@ -40,7 +40,7 @@ pub fn refusal(text: &[u8], number: u32, place: usize) -> Answer
 
 // An ending without a number or a place: its code, the steps, and the two numbers of the call.
 pub fn unrefused(ending: u32, steps: u32, fourth: u32, fifth: u32) -> Answer
-    ensures { numbersOf result ≡ ending ∷ 0 ∷ 0 ∷ steps ∷ fourth ∷ fifth ∷ 0 ∷ 0 ∷ [] }
+    ensures { numbers_of result ≡ ending ∷ 0 ∷ 0 ∷ steps ∷ fourth ∷ fifth ∷ 0 ∷ 0 ∷ [] }
 {
     Answer {
         ending,
@@ -63,8 +63,8 @@ pub fn pair(low: u32, high: u32) -> u64
 
 // Writes an answer into the bytes that are lent for it.
 pub fn put_answer(answer: &mut [u8], a: Answer)
-    requires { answerSize ≤ length answer.old }
-    ensures { answer.new ≡ answered (numbersOf a) answer.old }
+    requires { answer_size ≤ length answer.old }
+    ensures { answer.new ≡ answered (numbers_of a) answer.old }
 {
     put64(answer, 0, pair(a.ending, a.number));
     put64(answer, 1, pair(a.place, a.steps));

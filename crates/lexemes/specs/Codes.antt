@@ -1,6 +1,6 @@
 -- Words and marks as numbers, by which keywords and marks are found: one comparison of numbers in the place of one for each byte.
 use Rattle.std.specs.Prelude.{ℕ, ◌+◌, ◌*◌, ◌%◌, true, false, List, [], ◌∷◌, eqb, take, drop}
-use Rattle.rules.specs.Text.Tokens.{Spelling, marks, kindNo}
+use Rattle.rules.specs.Text.Tokens.{Spelling, marks, kind_no}
 
 -- the number whose digits the bytes give, the first the lowest
 unfoldable pub code_of : (ℕ → ℕ) → ℕ → List ℕ → ℕ
@@ -8,23 +8,23 @@ code_of digit base [] = 0
 code_of digit base (b ∷ bs) = digit b + base * code_of digit base bs
 
 -- a word's bytes are letters in upper case, digits and dots: 1 to 63 is enough for each
-abbrev pub wordDigit : ℕ → ℕ
-wordDigit b = (b + 32) % 64
+abbrev pub word_digit : ℕ → ℕ
+word_digit b = (b + 32) % 64
 
-abbrev pub wordCode : List ℕ → ℕ
-wordCode w = code_of wordDigit 64 w
+abbrev pub word_code : List ℕ → ℕ
+word_code w = code_of word_digit 64 w
 
 -- what follows a mark can be any byte
-abbrev pub markDigit : ℕ → ℕ
-markDigit b = b + 1
+abbrev pub mark_digit : ℕ → ℕ
+mark_digit b = b + 1
 
-abbrev pub markCode : List ℕ → ℕ
-markCode w = code_of markDigit 257 w
+abbrev pub mark_code : List ℕ → ℕ
+mark_code w = code_of mark_digit 257 w
 
 -- the kind of the first spelling that has the number n, and 0 where none has
-unfoldable pub kindBy : (List ℕ → ℕ) → ℕ → List Spelling → ℕ
-kindBy code n [] = 0
-kindBy code n (s ∷ ss) = elim (eqb n (code s.written)) [ true ↦ kindNo s.kind | false ↦ kindBy code n ss ]
+unfoldable pub kind_by : (List ℕ → ℕ) → ℕ → List Spelling → ℕ
+kind_by code n [] = 0
+kind_by code n (s ∷ ss) = elim (eqb n (code s.written)) [ true ↦ kind_no s.kind | false ↦ kind_by code n ss ]
 
 -- the marks of two bytes, and those of one
 abbrev pub pairs : List Spelling

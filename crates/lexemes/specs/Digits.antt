@@ -7,8 +7,8 @@ pick true a b = a
 pick false a b = b
 
 -- by the byte in upper case
-abbrev pub upperDigit : ℕ → ℕ
-upperDigit n = pick (eqb n 63) 16 (pick (ltb n 48) 17 (pick (ltb n 58) (n - 48) (pick (ltb n 65) 17 (pick (ltb n 71) (n - 55) 17))))
+abbrev pub upper_digit : ℕ → ℕ
+upper_digit n = pick (eqb n 63) 16 (pick (ltb n 48) 17 (pick (ltb n 58) (n - 48) (pick (ltb n 65) 17 (pick (ltb n 71) (n - 55) 17))))
 
-unfoldable pub digitNo : ℕ → ℕ
-digitNo b = upperDigit (fold b)
+unfoldable pub digit_no : ℕ → ℕ
+digit_no b = upper_digit (fold b)

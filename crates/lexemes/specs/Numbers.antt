@@ -1,6 +1,6 @@
 -- The rules' constants as the values that the code hands about.
 use Rattle.std.specs.Prelude.{ℕ, zero, suc, Bool, true, false, List}
-use Rattle.rules.specs.Text.Constants.{Constant, malformed, constant, all, isBasedDigit, valueFrom, freeFrom}
+use Rattle.rules.specs.Text.Constants.{Constant, malformed, constant, all, is_based_digit, value_from, free_from}
 use Rattle.lexemes.specs.declared.constants.Number.{Number}
 use Rattle.lexemes.specs.declared.constants.Number.TheVariants.{Malformed, Known}
 use Rattle.lexemes.specs.declared.lexemes.Lexeme.{Lexeme}
@@ -16,17 +16,17 @@ known true v f n = constant v f n
 known false v f n = malformed
 
 -- digits of a base, n bits in all, behind those of value v and free bits f
-abbrev pub basedFrom : ℕ → ℕ → ℕ → ℕ → List ℕ → Constant
-basedFrom base n v f ds = known (all (isBasedDigit base) ds) (valueFrom base v ds) (freeFrom base f ds) n
+abbrev pub based_from : ℕ → ℕ → ℕ → ℕ → List ℕ → Constant
+based_from base n v f ds = known (all (is_based_digit base) ds) (value_from base v ds) (free_from base f ds) n
 
-abbrev pub basedDigits : ℕ → ℕ → List ℕ → Constant
-basedDigits base n ds = basedFrom base n 0 0 ds
+abbrev pub based_digits : ℕ → ℕ → List ℕ → Constant
+based_digits base n ds = based_from base n 0 0 ds
 
 -- the number of a constant's kind: one that has free bits has a `?`
-abbrev pub freeKind : ℕ → ℕ
-freeKind zero = 1
-freeKind (suc f) = 2
+abbrev pub free_kind : ℕ → ℕ
+free_kind zero = 1
+free_kind (suc f) = 2
 
 abbrev pub constant_of : ℕ → Number → Lexeme
 constant_of more Malformed = Refused 12
-constant_of more (Known v f n) = Found more (freeKind f) n v f
+constant_of more (Known v f n) = Found more (free_kind f) n v f

@@ -1,13 +1,13 @@
 // Constants: decimal, and of 1, 3 or 4 bits a digit.
 ghost use Rattle.std.specs.Prelude.{◌≡◌, true, ◌+◌, ◌-◌, ◌*◌, ◌^◌, ◌<◌, ◌≤◌, length, get_or, drop};
 ghost use Rattle.std.proofs.Math.Seq.{slice};
-ghost use Rattle.rules.specs.Text.Bytes.{digit, prefix, inConstant};
-ghost use Rattle.rules.specs.Text.Constants.{digitBits, decimalBits, decimal, based};
-ghost use Rattle.rules.specs.Text.Scan.{lexemeBy};
+ghost use Rattle.rules.specs.Text.Bytes.{digit, prefix, in_constant};
+ghost use Rattle.rules.specs.Text.Constants.{digit_bits, decimal_bits, decimal, based};
+ghost use Rattle.rules.specs.Text.Scan.{lexeme_by};
 ghost use Rattle.classes.specs.Classes.{Classed};
-ghost use Rattle.lexemes.specs.Digits.{digitNo};
-ghost use Rattle.lexemes.specs.Numbers.{number_of, basedDigits, constant_of};
-ghost use Rattle.lexemes.specs.Lexemes.{lexemeOf};
+ghost use Rattle.lexemes.specs.Digits.{digit_no};
+ghost use Rattle.lexemes.specs.Numbers.{number_of, based_digits, constant_of};
+ghost use Rattle.lexemes.specs.Lexemes.{lexeme_of};
 
 use crate::lexemes::Lexeme;
 use classes::classes::{IN_CONSTANT, run_end};
@@ -23,7 +23,7 @@ pub enum Number {
 
 // The value of a byte as a digit of any base up to 16; 16 for `?`, 17 for any other byte.
 fn digit_of(b: u8) -> u64
-    ensures { (result ≡ digitNo b) × (b < 256) }
+    ensures { (result ≡ digit_no b) × (b < 256) }
 {
     let n = upper(b) as u64;
     if n == 63 {
@@ -46,7 +46,7 @@ fn digit_of(b: u8) -> u64
 
 // The fewest bits that hold a value, and one for 0.
 fn decimal_bits(value: u64) -> u8
-    ensures { result ≡ decimalBits value }
+    ensures { result ≡ decimal_bits value }
 {
     let mut bits: u8 = 1;
     let mut rest = value / 2;
@@ -85,7 +85,7 @@ fn decimal_value(text: &[u8], at: usize, end: usize) -> Number
 // The digits of a base from `from` to `end`, of which there are few enough that the value fits.
 fn based_digits(text: &[u8], from: usize, end: usize, base: u64, bits: u8) -> Number
     requires { (from ≤ end) × ((end ≤ length text.now) × ((2 ≤ base) × ((base ≤ 16) × (base ^ (end - from) ≤ 2 ^ 64)))) }
-    ensures { result ≡ number_of (basedDigits base bits (slice from end text.now)) }
+    ensures { result ≡ number_of (based_digits base bits (slice from end text.now)) }
 {
     let mut value: u64 = 0;
     let mut free: u64 = 0;
@@ -109,7 +109,7 @@ fn based_digits(text: &[u8], from: usize, end: usize, base: u64, bits: u8) -> Nu
 // The length in bits of a number of digits behind a prefix.
 fn based_bits(sign: u8, count: usize) -> usize
     requires { count ≤ 32768 }
-    ensures { result ≡ digitBits sign * count }
+    ensures { result ≡ digit_bits sign * count }
 {
     if sign == 39 {
         return count;
@@ -121,7 +121,7 @@ fn based_bits(sign: u8, count: usize) -> usize
 }
 
 fn base_of(sign: u8) -> u64
-    ensures { (result ≡ 2 ^ digitBits sign) × ((2 ≤ result) × (result ≤ 16)) }
+    ensures { (result ≡ 2 ^ digit_bits sign) × ((2 ≤ result) × (result ≤ 16)) }
 {
     if sign == 39 {
         return 2;
@@ -135,7 +135,7 @@ fn base_of(sign: u8) -> u64
 // The constant whose digits stand from `from` to `end`, behind a prefix.
 fn based_value(text: &[u8], from: usize, end: usize, sign: u8) -> Number
     requires { (from ≤ end) × ((end ≤ length text.now) × (length text.now ≤ 32768)) }
-    ensures { result ≡ number_of (based (digitBits sign) (slice from end text.now)) }
+    ensures { result ≡ number_of (based (digit_bits sign) (slice from end text.now)) }
 {
     let count = end - from;
     if count == 0 {
@@ -178,8 +178,8 @@ fn constant_lexeme(number: Number, more: usize) -> Lexeme
 
 // The constant at a place where a digit stands.
 pub fn decimal_at(text: &[u8], classes: &[u8; 256], at: usize) -> Lexeme
-    requires { (Classed classes.now) × ((at < length text.now) × (inConstant (get_or text.now at 0) ≡ true)) }
-    ensures { result ≡ lexemeOf (lexemeBy digit at (get_or text.now at 0) (drop (at + 1) text.now)) }
+    requires { (Classed classes.now) × ((at < length text.now) × (in_constant (get_or text.now at 0) ≡ true)) }
+    ensures { result ≡ lexeme_of (lexeme_by digit at (get_or text.now at 0) (drop (at + 1) text.now)) }
 {
     let end = run_end(text, classes, at + 1, IN_CONSTANT);
     constant_lexeme(decimal_value(text, at, end), end - (at + 1))
@@ -188,7 +188,7 @@ pub fn decimal_at(text: &[u8], classes: &[u8; 256], at: usize) -> Lexeme
 // The constant at a place where a prefix stands.
 pub fn based_at(text: &[u8], classes: &[u8; 256], at: usize) -> Lexeme
     requires { (Classed classes.now) × ((at < length text.now) × (length text.now ≤ 32768)) }
-    ensures { result ≡ lexemeOf (lexemeBy prefix at (get_or text.now at 0) (drop (at + 1) text.now)) }
+    ensures { result ≡ lexeme_of (lexeme_by prefix at (get_or text.now at 0) (drop (at + 1) text.now)) }
 {
     let sign = text[at];
     let end = run_end(text, classes, at + 1, IN_CONSTANT);

@@ -1,9 +1,9 @@
 // What stands at a place of a text.
 ghost use Rattle.std.specs.Prelude.{◌≡◌, ◌+◌, ◌<◌, ◌≤◌, length, get_or, drop};
 ghost use Rattle.rules.specs.Text.Bytes.{exclamation};
-ghost use Rattle.rules.specs.Text.Scan.{lexeme, lexemeBy};
+ghost use Rattle.rules.specs.Text.Scan.{lexeme, lexeme_by};
 ghost use Rattle.classes.specs.Classes.{Classed};
-ghost use Rattle.lexemes.specs.Lexemes.{lexemeOf};
+ghost use Rattle.lexemes.specs.Lexemes.{lexeme_of};
 
 use crate::constants::{based_at, decimal_at};
 use crate::marks::mark_at;
@@ -28,7 +28,7 @@ pub enum Lexeme {
 // The comment at a place where a `!` stands.
 fn comment_at(text: &[u8], classes: &[u8; 256], at: usize) -> Lexeme
     requires { (Classed classes.now) × (at < length text.now) }
-    ensures { result ≡ lexemeOf (lexemeBy exclamation at (get_or text.now at 0) (drop (at + 1) text.now)) }
+    ensures { result ≡ lexeme_of (lexeme_by exclamation at (get_or text.now at 0) (drop (at + 1) text.now)) }
 {
     let from = at + 1;
     Lexeme::Nothing(run_end(text, classes, from, IN_COMMENT) - from)
@@ -37,7 +37,7 @@ fn comment_at(text: &[u8], classes: &[u8; 256], at: usize) -> Lexeme
 // What stands at a place, by the class of its first byte: its number is that of a blank, `!`, a letter, a digit, a prefix or a mark.
 pub fn lexeme_at(text: &[u8], classes: &[u8; 256], at: usize) -> Lexeme
     requires { (Classed classes.now) × ((at < length text.now) × (length text.now ≤ 32768)) }
-    ensures { result ≡ lexemeOf (lexeme at (get_or text.now at 0) (drop (at + 1) text.now)) }
+    ensures { result ≡ lexeme_of (lexeme at (get_or text.now at 0) (drop (at + 1) text.now)) }
 {
     let class = class_of(classes, text[at]);
     match class {

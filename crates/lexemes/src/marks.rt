@@ -1,9 +1,9 @@
 // Marks, the longest first.
 ghost use Rattle.std.specs.Prelude.{◌≡◌, ◌+◌, ◌<◌, ◌≤◌, length, get_or, take, drop};
 ghost use Rattle.rules.specs.Text.Bytes.{mark};
-ghost use Rattle.rules.specs.Text.Scan.{lexemeBy};
-ghost use Rattle.lexemes.specs.Codes.{markDigit, markCode, kindBy, pairs, singles};
-ghost use Rattle.lexemes.specs.Lexemes.{lexemeOf};
+ghost use Rattle.rules.specs.Text.Scan.{lexeme_by};
+ghost use Rattle.lexemes.specs.Codes.{mark_digit, mark_code, kind_by, pairs, singles};
+ghost use Rattle.lexemes.specs.Lexemes.{lexeme_of};
 
 use crate::lexemes::Lexeme;
 use rules::kinds::{
@@ -13,7 +13,7 @@ use rules::kinds::{
 
 // The byte as a digit of a mark's number.
 fn mark_digit(b: u8) -> u32
-    ensures { (result ≡ markDigit b) × (result ≤ 256) }
+    ensures { (result ≡ mark_digit b) × (result ≤ 256) }
 {
     b as u32 + 1
 }
@@ -21,7 +21,7 @@ fn mark_digit(b: u8) -> u32
 // The number of the two bytes at a place, or of the last byte of a text.
 fn pair_code(text: &[u8], at: usize) -> u32
     requires { at < length text.now }
-    ensures { result ≡ markCode (take 2 (drop at text.now)) }
+    ensures { result ≡ mark_code (take 2 (drop at text.now)) }
 {
     let first = mark_digit(text[at]);
     let next = at + 1;
@@ -33,7 +33,7 @@ fn pair_code(text: &[u8], at: usize) -> u32
 
 // The kind of the mark of two bytes that has this number, and 0 where none has.
 fn pair_kind(code: u32) -> u8
-    ensures { result ≡ kindBy markCode code pairs }
+    ensures { result ≡ kind_by mark_code code pairs }
 {
     match code {
         15993 => BECOMES, // :=
@@ -45,7 +45,7 @@ fn pair_kind(code: u32) -> u8
 
 // The kind of the mark of one byte that has this number, and 0 where none has.
 fn single_kind(code: u32) -> u8
-    ensures { result ≡ kindBy markCode code singles }
+    ensures { result ≡ kind_by mark_code code singles }
 {
     match code {
         41 => LPAR, // (
@@ -68,7 +68,7 @@ fn single_kind(code: u32) -> u8
 // The mark at a place.
 pub fn mark_at(text: &[u8], at: usize) -> Lexeme
     requires { at < length text.now }
-    ensures { result ≡ lexemeOf (lexemeBy mark at (get_or text.now at 0) (drop (at + 1) text.now)) }
+    ensures { result ≡ lexeme_of (lexeme_by mark at (get_or text.now at 0) (drop (at + 1) text.now)) }
 {
     let pair = pair_kind(pair_code(text, at));
     if pair != 0 {

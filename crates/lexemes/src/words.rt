@@ -1,13 +1,13 @@
 // Words: names, and the keywords among them.
 ghost use Rattle.std.specs.Prelude.{◌≡◌, true, map, ◌+◌, ◌<◌, ◌≤◌, length, get_or, drop};
 ghost use Rattle.std.proofs.Math.Seq.{slice};
-ghost use Rattle.rules.specs.Text.Bytes.{letter, fold, inName};
-ghost use Rattle.rules.specs.Text.Tokens.{keywords, kindNo};
+ghost use Rattle.rules.specs.Text.Bytes.{letter, fold, in_name};
+ghost use Rattle.rules.specs.Text.Tokens.{keywords, kind_no};
 ghost use Rattle.rules.specs.Text.Constants.{all};
-ghost use Rattle.rules.specs.Text.Scan.{wordKind, lexemeBy};
+ghost use Rattle.rules.specs.Text.Scan.{word_kind, lexeme_by};
 ghost use Rattle.classes.specs.Classes.{Classed};
-ghost use Rattle.lexemes.specs.Codes.{wordCode, wordDigit, kindBy};
-ghost use Rattle.lexemes.specs.Lexemes.{lexemeOf};
+ghost use Rattle.lexemes.specs.Codes.{word_code, word_digit, kind_by};
+ghost use Rattle.lexemes.specs.Lexemes.{lexeme_of};
 
 use crate::lexemes::Lexeme;
 use classes::classes::{IN_NAME, run_end};
@@ -20,7 +20,7 @@ use rules::limits::LONGEST_NAME;
 
 // The byte as a digit of a word's number.
 fn word_digit(b: u8) -> u64
-    ensures { (result ≡ wordDigit (fold b)) × (result < 64) }
+    ensures { (result ≡ word_digit (fold b)) × (result < 64) }
 {
     (upper(b) as u64 + 32) % 64
 }
@@ -28,7 +28,7 @@ fn word_digit(b: u8) -> u64
 // The number of the word from `at` to `end`, its first byte the lowest digit: six bits a byte, so that the longest keyword fits.
 fn word_code(text: &[u8], at: usize, end: usize) -> u64
     requires { (at ≤ end) × ((end ≤ at + 9) × (end ≤ length text.now)) }
-    ensures { result ≡ wordCode (map fold (slice at end text.now)) }
+    ensures { result ≡ word_code (map fold (slice at end text.now)) }
 {
     let mut code: u64 = 0;
     let mut i = end;
@@ -41,7 +41,7 @@ fn word_code(text: &[u8], at: usize, end: usize) -> u64
 
 // The kind of the keyword that has this number, and that of a name where none has.
 fn keyword_kind(code: u64) -> u8
-    ensures { result ≡ kindBy wordCode code keywords }
+    ensures { result ≡ kind_by word_code code keywords }
 {
     match code {
         782661986 => BEGIN,
@@ -73,8 +73,8 @@ fn keyword_kind(code: u64) -> u8
 
 // The kind of the word from `at` to `end`. No keyword has over 9 bytes.
 fn word_kind(text: &[u8], at: usize, end: usize) -> u8
-    requires { (at ≤ end) × ((end ≤ length text.now) × (all inName (slice at end text.now) ≡ true)) }
-    ensures { result ≡ kindNo (wordKind keywords (map fold (slice at end text.now))) }
+    requires { (at ≤ end) × ((end ≤ length text.now) × (all in_name (slice at end text.now) ≡ true)) }
+    ensures { result ≡ kind_no (word_kind keywords (map fold (slice at end text.now))) }
 {
     if 9 < end - at {
         return NAME;
@@ -84,8 +84,8 @@ fn word_kind(text: &[u8], at: usize, end: usize) -> u8
 
 // The word at a place where a letter stands.
 pub fn word_at(text: &[u8], classes: &[u8; 256], at: usize) -> Lexeme
-    requires { (Classed classes.now) × ((at < length text.now) × (inName (get_or text.now at 0) ≡ true)) }
-    ensures { result ≡ lexemeOf (lexemeBy letter at (get_or text.now at 0) (drop (at + 1) text.now)) }
+    requires { (Classed classes.now) × ((at < length text.now) × (in_name (get_or text.now at 0) ≡ true)) }
+    ensures { result ≡ lexeme_of (lexeme_by letter at (get_or text.now at 0) (drop (at + 1) text.now)) }
 {
     let end = run_end(text, classes, at + 1, IN_NAME);
     let size = end - at;

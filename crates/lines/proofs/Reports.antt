@@ -7,14 +7,14 @@ use native.Mathlib.Omega.{arith}
 use borrow.Author.Tests.{eq-eqb, ne_eqb}
 use lib.Dec.{eqb}
 use Rattle.rules.specs.Text.Bytes.{bytes}
-use Rattle.cells.specs.Cells.{leAt, cell}
+use Rattle.cells.specs.Cells.{le_at, cell}
 use Rattle.lines.specs.Appended.{Appended}
-use Rattle.lines.specs.Endings.{labelled, endingBytes}
+use Rattle.lines.specs.Endings.{labelled, ending_bytes}
 use Rattle.lines.specs.Answers.{unless12}
 
 -- two cells of 16 bits are one of 32
 pub two_cells : (b : List ℕ) (i : ℕ) {x y : ℕ} → x ≡ cell 2 b (2 * i) → y ≡ cell 2 b (2 * i + 1) → x + 65536 * y ≡ cell 4 b i
-unfolding leAt
+unfolding le_at
 two_cells b i e f =
     let low : 2 * (2 * i) ≡ 4 * i = omega arith in
     let high : 2 * (2 * i + 1) ≡ 4 * i + 1 + 1 = omega arith in
@@ -22,39 +22,39 @@ two_cells b i e f =
 
 -- the refusals 1 and 2, and what is written otherwise
 module _ (number u e : ℕ) where
-  pub unwritten-1 : number ≡ 1 → u ≡ unless12 (eqb number 1) (eqb number 2) u e
-  unwritten-1 h = rw (eq-eqb number 1 h)
+  pub unwritten_1 : number ≡ 1 → u ≡ unless12 (eqb number 1) (eqb number 2) u e
+  unwritten_1 h = rw (eq-eqb number 1 h)
 
-  pub unwritten-2 : (number ≡ 1 → ⊥) → number ≡ 2 → u ≡ unless12 (eqb number 1) (eqb number 2) u e
-  unwritten-2 d h = rw (ne_eqb number 1 d, eq-eqb number 2 h)
+  pub unwritten_2 : (number ≡ 1 → ⊥) → number ≡ 2 → u ≡ unless12 (eqb number 1) (eqb number 2) u e
+  unwritten_2 d h = rw (ne_eqb number 1 d, eq-eqb number 2 h)
 
   pub written : {r : ℕ} → (number ≡ 1 → ⊥) → (number ≡ 2 → ⊥) → r ≡ e → r ≡ unless12 (eqb number 1) (eqb number 2) u e
   written d f h = rw (ne_eqb number 1 d, ne_eqb number 2 f) h
 
 module _ (e n p s : ℕ) {before after : List ℕ} {at r : ℕ} where
-  pub is-done : e ≡ 0 → Appended before after at r (labelled (bytes "done ") s) → Appended before after at r (endingBytes e n p s)
-  unfolding endingBytes
-  is-done z h = rw (z, endingBytes) h
+  pub is_done : e ≡ 0 → Appended before after at r (labelled (bytes "done ") s) → Appended before after at r (ending_bytes e n p s)
+  unfolding ending_bytes
+  is_done z h = rw (z, ending_bytes) h
 
-  pub is-stopped : e ≡ 1 → Appended before after at r (labelled (bytes "stopped ") s) → Appended before after at r (endingBytes e n p s)
-  unfolding endingBytes
-  is-stopped z h = rw (z, endingBytes) h
+  pub is_stopped : e ≡ 1 → Appended before after at r (labelled (bytes "stopped ") s) → Appended before after at r (ending_bytes e n p s)
+  unfolding ending_bytes
+  is_stopped z h = rw (z, ending_bytes) h
 
-  pub is-paused : e ≡ 2 → Appended before after at r (labelled (bytes "paused ") s) → Appended before after at r (endingBytes e n p s)
-  unfolding endingBytes
-  is-paused z h = rw (z, endingBytes) h
+  pub is_paused : e ≡ 2 → Appended before after at r (labelled (bytes "paused ") s) → Appended before after at r (ending_bytes e n p s)
+  unfolding ending_bytes
+  is_paused z h = rw (z, ending_bytes) h
 
-  pub is-fault : e ≡ 3 → Appended before after at r (labelled (bytes "fault ") n ++ (labelled (bytes " ") p ++ labelled (bytes " ") s))
-      → Appended before after at r (endingBytes e n p s)
-  unfolding endingBytes
-  is-fault z h = rw (z, endingBytes) h
+  pub is_fault : e ≡ 3 → Appended before after at r (labelled (bytes "fault ") n ++ (labelled (bytes " ") p ++ labelled (bytes " ") s))
+      → Appended before after at r (ending_bytes e n p s)
+  unfolding ending_bytes
+  is_fault z h = rw (z, ending_bytes) h
 
-  pub is-refused : (e ≡ 0 → ⊥) → (e ≡ 1 → ⊥) → (e ≡ 2 → ⊥) → (e ≡ 3 → ⊥) → Appended before after at r (labelled (bytes "refused ") n ++ labelled (bytes " ") p)
-      → Appended before after at r (endingBytes e n p s)
-  unfolding endingBytes
-  is-refused d₀ d₁ d₂ d₃ h = by e d₀ d₁ d₂ d₃
+  pub is_refused : (e ≡ 0 → ⊥) → (e ≡ 1 → ⊥) → (e ≡ 2 → ⊥) → (e ≡ 3 → ⊥) → Appended before after at r (labelled (bytes "refused ") n ++ labelled (bytes " ") p)
+      → Appended before after at r (ending_bytes e n p s)
+  unfolding ending_bytes
+  is_refused d₀ d₁ d₂ d₃ h = by e d₀ d₁ d₂ d₃
     where
-      by : (e : ℕ) → (e ≡ 0 → ⊥) → (e ≡ 1 → ⊥) → (e ≡ 2 → ⊥) → (e ≡ 3 → ⊥) → Appended before after at r (endingBytes e n p s)
+      by : (e : ℕ) → (e ≡ 0 → ⊥) → (e ≡ 1 → ⊥) → (e ≡ 2 → ⊥) → (e ≡ 3 → ⊥) → Appended before after at r (ending_bytes e n p s)
       by zero d₀ d₁ d₂ d₃ = absurd (d₀ refl)
       by (suc zero) d₀ d₁ d₂ d₃ = absurd (d₁ refl)
       by (suc (suc zero)) d₀ d₁ d₂ d₃ = absurd (d₂ refl)

@@ -1,7 +1,7 @@
 // An answer of the calls.
 ghost use Rattle.std.specs.Prelude.{◌≡◌, ◌+◌, ◌*◌, ◌≤◌, length};
 ghost use Rattle.cells.specs.Cells.{cell};
-ghost use Rattle.lines.specs.Answers.{endingIn, countIn, Reads};
+ghost use Rattle.lines.specs.Answers.{ending_in, count_in, Reads};
 
 use cells::get16;
 
@@ -29,7 +29,7 @@ pub fn get32(answer: &[u8], i: usize) -> u64
 
 fn ending_in(number: u64, answer: &[u8]) -> u64
     requires { 4 ≤ length answer.now }
-    ensures { result ≡ endingIn number answer.now }
+    ensures { result ≡ ending_in number answer.now }
 {
     if number == 1 {
         return REFUSED;
@@ -43,7 +43,7 @@ fn ending_in(number: u64, answer: &[u8]) -> u64
 // The line or the column, which is the number i.
 fn count_in(number: u64, answer: &[u8], i: usize) -> u64
     requires { 4 * i + 4 ≤ length answer.now }
-    ensures { result ≡ countIn number answer.now i }
+    ensures { result ≡ count_in number answer.now i }
 {
     if number == 1 {
         return 1;

@@ -1,14 +1,14 @@
 // Numbers: in decimal, as many digits as they take; in hexadecimal, 16 digits.
 ghost use Rattle.std.specs.Prelude.{◌≡◌, ◌+◌, ◌<◌, ◌≤◌, length};
 ghost use Rattle.lines.specs.Appended.{Appended};
-ghost use Rattle.lines.specs.Digits.{decimalIn, decimalBytes, hexDigit, hexIn, hexCapitals};
+ghost use Rattle.lines.specs.Digits.{decimal_in, decimal_bytes, hex_digit, hex_in, hex_capitals};
 
 use crate::bytes::put_byte;
 
 // At most k decimal digits.
 fn decimal_in(out: &mut [u8], at: usize, k: usize, n: u64) -> usize
     requires { at + k ≤ length out.old }
-    ensures { Appended out.old out.new at result (decimalIn k n) }
+    ensures { Appended out.old out.new at result (decimal_in k n) }
 {
     if k == 0 {
         return at;
@@ -22,7 +22,7 @@ fn decimal_in(out: &mut [u8], at: usize, k: usize, n: u64) -> usize
 
 pub fn put_decimal(out: &mut [u8], at: usize, n: u64) -> usize
     requires { at + 20 ≤ length out.old }
-    ensures { Appended out.old out.new at result (decimalBytes n) × (result ≤ at + 20) }
+    ensures { Appended out.old out.new at result (decimal_bytes n) × (result ≤ at + 20) }
 {
     decimal_in(out, at, 20, n)
 }
@@ -30,7 +30,7 @@ pub fn put_decimal(out: &mut [u8], at: usize, n: u64) -> usize
 // A digit below 16, in capitals.
 fn hex_digit(d: u64) -> u8
     requires { d < 16 }
-    ensures { result ≡ hexDigit d }
+    ensures { result ≡ hex_digit d }
 {
     if d < 10 {
         return 48 + d as u8;
@@ -41,7 +41,7 @@ fn hex_digit(d: u64) -> u8
 // The last k hexadecimal digits.
 fn hex_in(out: &mut [u8], at: usize, k: usize, n: u64) -> usize
     requires { at + k ≤ length out.old }
-    ensures { Appended out.old out.new at result (hexIn k n) }
+    ensures { Appended out.old out.new at result (hex_in k n) }
 {
     if k == 0 {
         return at;
@@ -52,7 +52,7 @@ fn hex_in(out: &mut [u8], at: usize, k: usize, n: u64) -> usize
 
 pub fn put_hex_capitals(out: &mut [u8], at: usize, n: u64) -> usize
     requires { at + 16 ≤ length out.old }
-    ensures { Appended out.old out.new at result (hexCapitals n) × (result ≡ at + 16) }
+    ensures { Appended out.old out.new at result (hex_capitals n) × (result ≡ at + 16) }
 {
     hex_in(out, at, 16, n)
 }

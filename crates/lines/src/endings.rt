@@ -2,7 +2,7 @@
 ghost use Rattle.std.specs.Prelude.{◌++◌, ◌+◌, ◌≤◌, length};
 ghost use Rattle.rules.specs.Text.Bytes.{bytes};
 ghost use Rattle.lines.specs.Appended.{Appended};
-ghost use Rattle.lines.specs.Endings.{labelled, endingBytes};
+ghost use Rattle.lines.specs.Endings.{labelled, ending_bytes};
 
 use crate::answers::Answer;
 use crate::bytes::put_bytes;
@@ -37,7 +37,7 @@ fn put_fault(out: &mut [u8], at: usize, number: u64, place: u64, steps: u64) -> 
 
 pub fn put_ending(out: &mut [u8], at: usize, a: Answer) -> usize
     requires { at + 72 ≤ length out.old }
-    ensures { Appended out.old out.new at result (endingBytes a.ending a.number a.place a.steps) × (result ≤ at + 72) }
+    ensures { Appended out.old out.new at result (ending_bytes a.ending a.number a.place a.steps) × (result ≤ at + 72) }
 {
     let ending = a.ending;
     if ending == 0 {

@@ -4,7 +4,7 @@ use Rattle.std.proofs.Math.Option.{Option, none, some}
 use Rattle.cells.specs.Cells.{cell}
 use Rattle.rules.specs.Stores.{Entry}
 use Rattle.traces.specs.Cited.Marking.{Cells}
-use Rattle.matching.specs.Room.{matchingIn, Reached, Stands}
+use Rattle.matching.specs.Room.{matching_in, Reached, Stands}
 
 abbrev pub OfWord : ℕ → Option Entry → Type 0
 OfWord w none = ⊥
@@ -18,8 +18,8 @@ pub record Sought (w : ℕ) (cs : Cells) (r : ℕ) : Type 0 where
 
 -- what the search finds; it leaves the matching as it was
 pub record Seeks (l : List Entry) (before after : List ℕ) (w r : ℕ) : Type 0 where
-  pub stands : Stands l after (matchingIn l before)
-  pub sought : Sought w (matchingIn l before).cells r
+  pub stands : Stands l after (matching_in l before)
+  pub sought : Sought w (matching_in l before).cells r
 
 -- r is reached, and it is not taken
 pub record Reaches (l : List Entry) (room : List ℕ) (w r : ℕ) : Type 0 where

@@ -1,10 +1,10 @@
 // The matching before anything is told: the entries of each word are linked.
 ghost use Rattle.std.specs.Prelude.{◌+◌, ◌<◌, ◌≤◌, length};
-ghost use Rattle.rules.specs.Limits.{mostWords};
-ghost use Rattle.rules.specs.Entries.{mostEntries, entriesIn};
+ghost use Rattle.rules.specs.Limits.{most_words};
+ghost use Rattle.rules.specs.Entries.{most_entries, entries_in};
 ghost use Rattle.matching.specs.Matching.{untold};
 ghost use Rattle.matching.specs.Room.{Filled, Linked, Stands};
-ghost use Rattle.room.specs.Trace.{roomSize};
+ghost use Rattle.room.specs.Trace.{room_size};
 
 use cells::{get16, put16};
 use listed::entries::{count, entry_at};
@@ -14,8 +14,8 @@ use rules::limits::MOST_WORDS;
 
 // Puts v as the first entry of every word.
 fn fill(room: &mut [u8], v: u16)
-    requires { roomSize ≤ length room.old }
-    ensures { Filled room.old room.new v mostWords }
+    requires { room_size ≤ length room.old }
+    ensures { Filled room.old room.new v most_words }
 {
     let mut w: usize = 0;
     while w < MOST_WORDS {
@@ -26,8 +26,8 @@ fn fill(room: &mut [u8], v: u16)
 
 // Puts the entry i in front of those of its word, which lie behind it.
 fn link(room: &mut [u8], entries: &[u8], i: usize)
-    requires { Linked (entriesIn entries.now) room.old (i + 1) }
-    ensures { Linked (entriesIn entries.now) room.new i }
+    requires { Linked (entries_in entries.now) room.old (i + 1) }
+    ensures { Linked (entries_in entries.now) room.new i }
 {
     put16(room, i, 0);
     let x = entry_at(entries, i);
@@ -42,8 +42,8 @@ fn link(room: &mut [u8], entries: &[u8], i: usize)
 
 // Links all entries, the last one first.
 fn link_all(room: &mut [u8], entries: &[u8])
-    requires { Linked (entriesIn entries.now) room.old (length (entriesIn entries.now)) }
-    ensures { Linked (entriesIn entries.now) room.new 0 }
+    requires { Linked (entries_in entries.now) room.old (length (entries_in entries.now)) }
+    ensures { Linked (entries_in entries.now) room.new 0 }
 {
     let mut i = count(entries);
     while 0 < i {
@@ -54,8 +54,8 @@ fn link_all(room: &mut [u8], entries: &[u8])
 
 // Nothing is told yet.
 pub fn begin(room: &mut [u8], entries: &[u8])
-    requires { (roomSize ≤ length room.old) × (length (entriesIn entries.now) ≤ mostEntries) }
-    ensures { Stands (entriesIn entries.now) room.new (untold (entriesIn entries.now)) }
+    requires { (room_size ≤ length room.old) × (length (entries_in entries.now) ≤ most_entries) }
+    ensures { Stands (entries_in entries.now) room.new (untold (entries_in entries.now)) }
 {
     fill(room, count(entries) as u16);
     link_all(room, entries);

@@ -1,14 +1,14 @@
 -- The alternatives of a DECODE one by one, from a separator on: what stands there, and what is done.
 use Rattle.std.specs.Prelude.{ℕ, ◌+◌, ◌<◌, ◌≤◌, ◌≡◌, List, length, drop}
 use Rattle.rules.specs.Grammar.Trees.{Tokens}
-use Rattle.laws_grammar.specs.Cited.Nesting.{actionNest}
+use Rattle.laws_grammar.specs.Cited.Nesting.{action_nest}
 use Rattle.laws_code.specs.Cited.Code.{size}
 use Rattle.ways.specs.Seeking.{Ground}
 use Rattle.records.specs.Kept.{Kept}
 use Rattle.ways.specs.Linked.{Same}
 use Rattle.ways.specs.Stack.{LabelsKept}
 use Rattle.links.specs.Setting.{Setting}
-use Rattle.ways.specs.Turns.{moreNest, Turn, turnTokens, TurnLinked}
+use Rattle.ways.specs.Turns.{more_nest, Turn, turn_tokens, TurnLinked}
 
 -- an alternative stands behind the separator p, with those behind it; control goes behind the DECODE by the link
 pub record TurnsAt (g : Ground) (records labels : List ℕ) (p link count depth : ℕ) : Type 0 where
@@ -16,18 +16,18 @@ pub record TurnsAt (g : Ground) (records labels : List ℕ) (p link count depth 
   pub turn : Turn
   pub rest : Tokens
   pub below : p < length g.tokens
-  pub reads : drop (p + 1) g.tokens ≡ turnTokens turn rest
-  pub action-shallow : actionNest turn.action < depth
-  pub more-shallow : moreNest turn.more < depth
+  pub reads : drop (p + 1) g.tokens ≡ turn_tokens turn rest
+  pub action_shallow : action_nest turn.action < depth
+  pub more_shallow : more_nest turn.more < depth
 
 -- what stands behind the DECODE begins there
-abbrev pub stopOf : {g : Ground} {records labels : List ℕ} {p link count depth : ℕ} → TurnsAt g records labels p link count depth → ℕ
-stopOf {p = p} v = p + 1 + size (turnTokens v.turn)
+abbrev pub stop_of : {g : Ground} {records labels : List ℕ} {p link count depth : ℕ} → TurnsAt g records labels p link count depth → ℕ
+stop_of {p = p} v = p + 1 + size (turn_tokens v.turn)
 
 -- the links of all of them are written, and nothing else
 pub record TurnsDone {g : Ground} {records labels : List ℕ} {p link count depth : ℕ} (v : TurnsAt g records labels p link count depth) (now after : List ℕ) : Type 0 where
   pub linked : TurnLinked now g.outer g.table v.setting.around p v.setting.behind v.turn
-  pub kept : Kept records now p (stopOf v)
+  pub kept : Kept records now p (stop_of v)
   pub stack : LabelsKept labels after count
 
 -- some are passed: the rest stands at p', and its links make those of all
@@ -47,4 +47,4 @@ pub record TurnAnswer {g : Ground} {records labels : List ℕ} {p link count dep
     : Type 0 where
   pub done : p' ≡ 0 → TurnsDone v records' labels'
   pub left : (p' ≡ 0 → ⊥) → TurnsLeft v records' labels' p'
-  pub further-on : (p' ≡ 0 → ⊥) → p < p'
+  pub further_on : (p' ≡ 0 → ⊥) → p < p'

@@ -1,10 +1,10 @@
 -- The members of a block one by one, from a member on: what stands there, and what is done.
 use Rattle.std.specs.Prelude.{ℕ, ◌+◌, ◌<◌, ◌≤◌, ◌≡◌, List, length, drop}
-use Rattle.rules.specs.Grammar.Trees.{Tokens, Action, actionTokens, Members, membersTokens}
+use Rattle.rules.specs.Grammar.Trees.{Tokens, Action, action_tokens, Members, members_tokens}
 use Rattle.rules.specs.Declarations.{Word, Table}
-use Rattle.laws_grammar.specs.Cited.Nesting.{actionNest, membersNest}
+use Rattle.laws_grammar.specs.Cited.Nesting.{action_nest, members_nest}
 use Rattle.laws_orders.specs.Cited.Flat.{Link, Labels}
-use Rattle.laws_code.specs.Cited.Code.{size, actionSize, first_of, behind}
+use Rattle.laws_code.specs.Cited.Code.{size, action_size, first_of, behind}
 use Rattle.ways.specs.Seeking.{Ground}
 use Rattle.records.specs.Kept.{Kept}
 use Rattle.ways.specs.Linked.{Linked, MembersLinked, Same}
@@ -12,7 +12,7 @@ use Rattle.ways.specs.Stack.{LabelsKept}
 use Rattle.links.specs.Setting.{Setting}
 
 abbrev pub RunLinked : List ℕ → Word → Table → Labels → ℕ → Link → Action → Members → Type 0
-RunLinked records o ds ρ i k a m = Linked records o ds ρ i (behind (i + actionSize a) k m) a × MembersLinked records o ds ρ (i + actionSize a) k m
+RunLinked records o ds ρ i k a m = Linked records o ds ρ i (behind (i + action_size a) k m) a × MembersLinked records o ds ρ (i + action_size a) k m
 
 -- a member stands at `at`, with those behind it; control goes behind the block by the link
 pub record MembersAt (g : Ground) (records labels : List ℕ) (at link count first depth : ℕ) : Type 0 where
@@ -20,14 +20,14 @@ pub record MembersAt (g : Ground) (records labels : List ℕ) (at link count fir
   pub action : Action
   pub members : Members
   pub rest : Tokens
-  pub reads : drop at g.tokens ≡ actionTokens action (membersTokens members rest)
+  pub reads : drop at g.tokens ≡ action_tokens action (members_tokens members rest)
   pub begins : first ≡ first_of at action
-  pub action-shallow : actionNest action < depth
-  pub members-shallow : membersNest members < depth
+  pub action_shallow : action_nest action < depth
+  pub members_shallow : members_nest members < depth
 
 -- what stands behind the block begins there
 abbrev pub end_of : {g : Ground} {records labels : List ℕ} {i link count first depth : ℕ} → MembersAt g records labels i link count first depth → ℕ
-end_of {i = i} v = i + (actionSize v.action + size (membersTokens v.members))
+end_of {i = i} v = i + (action_size v.action + size (members_tokens v.members))
 
 -- the links of all of them are written, and nothing else
 pub record MembersDone {g : Ground} {records labels : List ℕ} {i link count first depth : ℕ} (v : MembersAt g records labels i link count first depth) (now after : List ℕ)
@@ -53,4 +53,4 @@ pub record MemberAnswer {g : Ground} {records labels : List ℕ} {i link count f
     (records' labels' : List ℕ) (i' first' : ℕ) : Type 0 where
   pub done : i' ≡ 0 → MembersDone v records' labels'
   pub left : (i' ≡ 0 → ⊥) → MembersLeft v records' labels' i' first'
-  pub further-on : (i' ≡ 0 → ⊥) → i < i'
+  pub further_on : (i' ≡ 0 → ⊥) → i < i'

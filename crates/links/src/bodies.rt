@@ -4,7 +4,7 @@ ghost use Rattle.rules.specs.Grammar.Trees.{Tokens, Description};
 ghost use Rattle.table.specs.Ready.{Ready};
 ghost use Rattle.spelling.specs.Spelled.{Spelled};
 ghost use Rattle.ways.specs.Seeking.{Ground};
-ghost use Rattle.room.specs.Links.{hintsEnd};
+ghost use Rattle.room.specs.Links.{hints_end};
 ghost use Rattle.links.specs.Links.{Links};
 ghost use Rattle.links.specs.Bodies.{BodyIn, BodyDone, PartlyAt, Partly};
 
@@ -51,7 +51,7 @@ fn declaration(text: &[u8], records: &mut [u8], decls: &[u8], labels: &mut [u8],
 // All m declarations, where names are spelled. The room takes the labels around an action; what it holds afterwards means nothing.
 pub fn link(text: &[u8], records: &mut [u8], decls: &[u8], room: &mut [u8], m: usize)
     requires { ((values : List ℕ) × (ts : Tokens) × (d : Description) × Ready text.now records.old values decls.now ts d m × Spelled records.old ts)
-        × (2 * hintsEnd ≤ length room.old) }
+        × (2 * hints_end ≤ length room.old) }
     ensures { (values : List ℕ) (ts : Tokens) (d : Description) → Ready text.now records.old values decls.now ts d m
         → Spelled records.old ts → Links records.old records.new decls.now ts d }
 {

@@ -2,8 +2,8 @@
 ghost use Rattle.std.specs.Prelude.{◌≡◌, ◌+◌, ◌*◌, ◌<◌, ◌≤◌, length, get_or};
 ghost use Rattle.cells.specs.Cells.{cell};
 ghost use Rattle.rules.specs.Stores.{entry};
-ghost use Rattle.traces.specs.Cited.Entries.{sameEntry};
-ghost use Rattle.rules.specs.Entries.{entriesIn, isList};
+ghost use Rattle.traces.specs.Cited.Entries.{same_entry};
+ghost use Rattle.rules.specs.Entries.{entries_in, is_list};
 ghost use Rattle.listed.specs.Named.{entry_of};
 
 use cells::{get16, get64};
@@ -22,7 +22,7 @@ pub struct Entry {
 
 // Whether these bytes are a list of whole entries that is not too long; else it is refused with 110.
 pub fn is_list(entries: &[u8]) -> bool
-    ensures { result ≡ isList entries.now }
+    ensures { result ≡ is_list entries.now }
 {
     if entries.len() % ENTRY_SIZE != 0 {
         return false;
@@ -32,7 +32,7 @@ pub fn is_list(entries: &[u8]) -> bool
 
 // The number of entries.
 pub fn count(entries: &[u8]) -> usize
-    ensures { result ≡ length (entriesIn entries.now) }
+    ensures { result ≡ length (entries_in entries.now) }
 {
     entries.len() / ENTRY_SIZE
 }
@@ -47,8 +47,8 @@ fn get32(b: &[u8], i: usize) -> u32
 
 // The entry i.
 pub fn entry_at(entries: &[u8], i: usize) -> Entry
-    requires { i < length (entriesIn entries.now) }
-    ensures { entry_of result ≡ get_or (entriesIn entries.now) i (entry 0 0 0) }
+    requires { i < length (entries_in entries.now) }
+    ensures { entry_of result ≡ get_or (entries_in entries.now) i (entry 0 0 0) }
 {
     Entry {
         place: get32(entries, 4 * i),
@@ -59,7 +59,7 @@ pub fn entry_at(entries: &[u8], i: usize) -> Entry
 
 // Whether two entries are the same in all three.
 pub fn is_same(a: Entry, b: Entry) -> bool
-    ensures { result ≡ sameEntry (entry_of a) (entry_of b) }
+    ensures { result ≡ same_entry (entry_of a) (entry_of b) }
 {
     if a.place != b.place {
         return false;

@@ -1,12 +1,12 @@
 // The words of a description, declaration by declaration.
 ghost use Rattle.std.specs.Prelude.{◌+◌, ◌*◌, ◌≤◌, length};
 ghost use Rattle.rules.specs.Grammar.Trees.{Tokens, Description};
-ghost use Rattle.rules.specs.Declarations.{declaredOf, declarations};
-ghost use Rattle.rules.specs.Limits.{mostWords};
+ghost use Rattle.rules.specs.Declarations.{declared_of, declarations};
+ghost use Rattle.rules.specs.Limits.{most_words};
 ghost use Rattle.table.specs.Ready.{Ready};
 ghost use Rattle.lines.specs.Appended.{Appended};
 ghost use Rattle.listing.specs.Standing.{Stands, Counted};
-ghost use Rattle.listing.specs.Listing.{declarationLines, tableLines};
+ghost use Rattle.listing.specs.Listing.{declaration_lines, table_lines};
 
 use crate::words::{put_array, put_word};
 use cells::{get16, get64};
@@ -28,7 +28,7 @@ fn put_declaration(
     requires counted { Counted text.now records.now values.now p n }
     requires n_in_bounds { (at + 128 * n ≤ length out.old) × (8 * (w + n) ≤ length carriers.now) }
     ensures { ((v : Stands text.now records.now values.now p)
-        → Appended out.old out.new at result (declarationLines carriers.now w (declaredOf v.declaration))) × (result ≤ at + 128 * n) }
+        → Appended out.old out.new at result (declaration_lines carriers.now w (declared_of v.declaration))) × (result ≤ at + 128 * n) }
 {
     if n == 0 {
         return at;
@@ -54,9 +54,9 @@ pub fn put_listing(
     carriers: &[u8],
 ) -> usize
     requires ready { (ts : Tokens) × (d : Description) × Ready text.now records.now values.now decls.now ts d m }
-    requires most_words_in_bounds { (at + 128 * mostWords ≤ length out.old) × (8 * mostWords ≤ length carriers.now) }
+    requires most_words_in_bounds { (at + 128 * most_words ≤ length out.old) × (8 * most_words ≤ length carriers.now) }
     ensures { ((ts : Tokens) (d : Description) → Ready text.now records.now values.now decls.now ts d m
-        → Appended out.old out.new at result (tableLines carriers.now 0 (declarations d))) × (result ≤ at + 128 * mostWords) }
+        → Appended out.old out.new at result (table_lines carriers.now 0 (declarations d))) × (result ≤ at + 128 * most_words) }
 {
     let mut next = at;
     let mut w: usize = 0;

@@ -23,7 +23,7 @@ within d x = nest d x 0 x
 -- in front of the token p, which begins an action of a block
 pub record Enters (depth outer before p : ℕ) (more : Bool) (r : Nest) : Type 0 where
   pub depth_is : r.depth ≡ depth
-  pub around-is : r.around ≡ inner outer p before more
+  pub around_is : r.around ≡ inner outer p before more
   pub rank_is : r.rank ≡ ranked before more
   pub up_is : r.up ≡ outer
 
@@ -34,9 +34,9 @@ enough = 128
 -- the frame number j, from the outermost on, in front of the token i: no more members come before a token than tokens
 pub record FrameAt (room : List ℕ) (i j : ℕ) (f : Frame) : Type 0 where
   pub outer : cell 2 room (2 * j) ≡ f.outer
-  pub outer-low : f.outer < 65536
+  pub outer_low : f.outer < 65536
   pub before : cell 2 room (2 * j + 1) ≡ f.before
-  pub before-low : f.before ≤ i
+  pub before_low : f.before ≤ i
 
 pub data Frames (room : List ℕ) (i : ℕ) : List Frame → Type 0 where
   no_frames : Frames room i []
@@ -46,12 +46,12 @@ pub record Shows (room : List ℕ) (i : ℕ) (x : Nest) (z : State) : Type 0 whe
   pub space : enough ≤ length room
   pub depth_is : x.depth ≡ length z.frames
   pub shallow : x.depth ≤ deepest
-  pub around-is : x.around ≡ z.around
-  pub around-low : x.around < 65536
+  pub around_is : x.around ≡ z.around
+  pub around_low : x.around < 65536
   pub rank_is : x.rank ≡ z.rank
-  pub rank-low : x.rank < 65536
+  pub rank_low : x.rank < 65536
   pub up_is : x.up ≡ z.up
-  pub up-low : x.up < 65536
+  pub up_low : x.up < 65536
   pub frames : Frames room i z.frames
 
 -- it shows some state

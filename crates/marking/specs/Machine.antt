@@ -1,7 +1,7 @@
 -- The cells of the tokens of a description, worked out from its first token to its last: the member that a token is in, whether it begins one, and a frame for
 -- each BEGIN that is open.
 use Rattle.std.specs.Prelude.{ℕ, zero, suc, ◌-◌, ◌≡◌, Bool, true, false, List, [], ◌∷◌, eqb, ltb, length}
-use Rattle.rules.specs.Text.Tokens.{Semi, BEGIN, END, NEXT, kindNo}
+use Rattle.rules.specs.Text.Tokens.{Semi, BEGIN, END, NEXT, kind_no}
 use Rattle.rules.specs.Grammar.Trees.{Tokens}
 use Rattle.rules.specs.Limits.{deepest}
 use Rattle.table.specs.Scans.{no}
@@ -63,13 +63,13 @@ next (f ∷ fs) p b s = begun p b (frame f.outer 0) fs
 -- what a token of the kind k does, with the token p behind it, and b for what begins there
 unfoldable pub acted : ℕ → ℕ → Bool → State → State
 acted p k b s =
-    elim (eqb k (kindNo BEGIN)) [
+    elim (eqb k (kind_no BEGIN)) [
       | true ↦ opened (ltb (length s.frames) deepest) p b s
-      | false ↦ elim (eqb k (kindNo END)) [
+      | false ↦ elim (eqb k (kind_no END)) [
         | true ↦ closed s.frames s
-        | false ↦ elim (eqb k (kindNo Semi)) [
+        | false ↦ elim (eqb k (kind_no Semi)) [
           | true ↦ also s.frames p b s
-          | false ↦ elim (eqb k (kindNo NEXT)) [ true ↦ next s.frames p b s | false ↦ inside s.frames s.around ]
+          | false ↦ elim (eqb k (kind_no NEXT)) [ true ↦ next s.frames p b s | false ↦ inside s.frames s.around ]
         ]
       ]
     ]

@@ -1,6 +1,6 @@
 // The frames of the open BEGINs: the member around each, and how many members of its present group come before the present one.
 ghost use Rattle.std.specs.Prelude.{◌≡◌, List, ◌+◌, ◌<◌, ◌≤◌, ltb, length};
-ghost use Rattle.rules.specs.Limits.{deepest, mostTokens};
+ghost use Rattle.rules.specs.Limits.{deepest, most_tokens};
 ghost use Rattle.marking.specs.Machine.{Frame, frame, begun, opened, closed, also, next};
 ghost use Rattle.marking.specs.Holding.{enough, within, Enters, Frames, Shows, Standing, Does};
 
@@ -31,7 +31,7 @@ pub fn inside(depth: usize, around: usize) -> Nest
 
 // The token p begins an action of a block. It is a member if others of its group come before it, or `;` stands behind it.
 fn enter(depth: usize, outer: usize, before: usize, p: usize, more: bool) -> Nest
-    requires { before ≤ mostTokens }
+    requires { before ≤ most_tokens }
     ensures { Enters depth outer before p more result }
 {
     if more {
@@ -55,7 +55,7 @@ fn enter(depth: usize, outer: usize, before: usize, p: usize, more: bool) -> Nes
 
 // The same behind the token i, in the frame of this number.
 fn begin(room: &mut [u8], number: usize, outer: usize, before: usize, i: usize, more: bool) -> Nest
-    requires { (number < deepest) × (enough ≤ length room.old) × (outer < 65536) × (before ≤ i + 1) × (i < mostTokens) }
+    requires { (number < deepest) × (enough ≤ length room.old) × (outer < 65536) × (before ≤ i + 1) × (i < most_tokens) }
     ensures { (fs : List Frame) → number ≡ length fs → Frames room.old i fs
         → Shows room.new (i + 1) result (begun (i + 1) more (frame outer before) fs) }
 {
@@ -65,7 +65,7 @@ fn begin(room: &mut [u8], number: usize, outer: usize, before: usize, i: usize, 
 
 // BEGIN
 pub fn open(room: &mut [u8], s: Nest, i: usize, more: bool) -> Nest
-    requires { Standing room.old i s × (i < mostTokens) }
+    requires { Standing room.old i s × (i < most_tokens) }
     ensures { Does i (λ z. opened (ltb (length z.frames) deepest) (i + 1) more z) room.old s room.new result }
 {
     let depth = s.depth;
@@ -92,7 +92,7 @@ pub fn close(room: &[u8], s: Nest, i: usize) -> Nest
 
 // `;`: one more member of the group.
 pub fn also(room: &mut [u8], s: Nest, i: usize, more: bool) -> Nest
-    requires { Standing room.old i s × (i < mostTokens) }
+    requires { Standing room.old i s × (i < most_tokens) }
     ensures { Does i (λ z. also z.frames (i + 1) more z) room.old s room.new result }
 {
     let depth = s.depth;
@@ -107,7 +107,7 @@ pub fn also(room: &mut [u8], s: Nest, i: usize, more: bool) -> Nest
 
 // NEXT: another group.
 pub fn next(room: &mut [u8], s: Nest, i: usize, more: bool) -> Nest
-    requires { Standing room.old i s × (i < mostTokens) }
+    requires { Standing room.old i s × (i < most_tokens) }
     ensures { Does i (λ z. next z.frames (i + 1) more z) room.old s room.new result }
 {
     let depth = s.depth;

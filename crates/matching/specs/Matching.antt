@@ -45,18 +45,18 @@ told opens z = matching z.cells z.floor z.bad (group z.floor (at 0) ∷ z.groups
 told turns z = turned z.cells z.floor z.bad z.groups
 told closes z = closed z.cells z.floor z.bad z.groups
 
-unfoldable pub toldAll : List Event → Matching → Matching
-toldAll [] z = z
-toldAll (e ∷ es) z = toldAll es (told e z)
+unfoldable pub told_all : List Event → Matching → Matching
+told_all [] z = z
+told_all (e ∷ es) z = told_all es (told e z)
 
 -- a part at the entry k
-unfoldable pub fitAt : ℕ → Entry → Cells → Marked
-fitAt zero x cs = fit (x ∷ []) cs
-fitAt (suc k) x [] = marked [] never never
-fitAt (suc k) x (c ∷ cs) = behind c (fitAt k x cs)
+unfoldable pub fit_at : ℕ → Entry → Cells → Marked
+fit_at zero x cs = fit (x ∷ []) cs
+fit_at (suc k) x [] = marked [] never never
+fit_at (suc k) x (c ∷ cs) = behind c (fit_at k x cs)
 
 abbrev pub part_at : Pos → Entry → Matching → Matching
-part_at (at k) x z = with (fitAt k x z.cells) z
+part_at (at k) x z = with (fit_at k x z.cells) z
 part_at never x z = z
 
 -- the entry k is bad for a store
@@ -64,8 +64,8 @@ abbrev pub spoilt : ℕ → Matching → Matching
 spoilt k z = with (marked z.cells never (at k)) z
 
 -- one more part of the transfer that was told last: the floor is the end of its parts so far, or they do not stand together
-abbrev pub toldPart : Entry → Matching → Matching
-toldPart x z = part_at z.floor x z
+abbrev pub told_part : Entry → Matching → Matching
+told_part x z = part_at z.floor x z
 
 unfoldable pub answer_in : Matching → ℕ → TraceVerdict
 answer_in z n = verdict (lesser z.bad (untaken z.cells)) z.floor n

@@ -3,6 +3,6 @@ use Rattle.rules.specs.Stores.{TraceVerdict, just_so, up_to}
 use Rattle.matching.specs.declared.answering.Verdict.{Verdict}
 use Rattle.matching.specs.declared.answering.Verdict.TheVariants.{Yes, No}
 
-abbrev pub verdictOf : Verdict → TraceVerdict
-verdictOf Yes = just_so
-verdictOf (No i) = up_to i
+abbrev pub verdict_of : Verdict → TraceVerdict
+verdict_of Yes = just_so
+verdict_of (No i) = up_to i

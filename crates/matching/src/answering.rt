@@ -1,10 +1,10 @@
 // The answer about a list, when all is told.
 ghost use Rattle.std.specs.Prelude.{◌≡◌, length};
 ghost use Rattle.traces.specs.Cited.Marking as marking;
-ghost use Rattle.rules.specs.Entries.{entriesIn};
-ghost use Rattle.matching.specs.Named.{verdictOf};
+ghost use Rattle.rules.specs.Entries.{entries_in};
+ghost use Rattle.matching.specs.Named.{verdict_of};
 ghost use Rattle.matching.specs.Matching.{answer_in};
-ghost use Rattle.matching.specs.Room.{posOf, matchingIn, Sound};
+ghost use Rattle.matching.specs.Room.{pos_of, matching_in, Sound};
 
 use crate::positions::{NEVER, lesser};
 use cells::get16;
@@ -20,8 +20,8 @@ pub enum Verdict {
 
 // The first entry that nothing took.
 fn first_left(room: &[u8], entries: &[u8]) -> u16
-    requires { Sound (entriesIn entries.now) room.now }
-    ensures { posOf result ≡ marking.untaken (matchingIn (entriesIn entries.now) room.now).cells }
+    requires { Sound (entries_in entries.now) room.now }
+    ensures { pos_of result ≡ marking.untaken (matching_in (entries_in entries.now) room.now).cells }
 {
     let n = count(entries);
     let mut i: usize = 0;
@@ -36,8 +36,8 @@ fn first_left(room: &[u8], entries: &[u8]) -> u16
 
 // The least entry that is bad or that nothing took; else the length of the list where a store found none.
 pub fn answer(room: &[u8], entries: &[u8]) -> Verdict
-    requires { Sound (entriesIn entries.now) room.now }
-    ensures { verdictOf result ≡ answer_in (matchingIn (entriesIn entries.now) room.now) (length (entriesIn entries.now)) }
+    requires { Sound (entries_in entries.now) room.now }
+    ensures { verdict_of result ≡ answer_in (matching_in (entries_in entries.now) room.now) (length (entries_in entries.now)) }
 {
     let first = lesser(get16(room, BAD), first_left(room, entries));
     if first != NEVER {

@@ -1,6 +1,6 @@
 // The members of groups, in two cells of two bytes for each token: its rank, and the member around it. What is behind the last token is in no member.
 ghost use Rattle.std.specs.Prelude.{◌≡◌, ◌*◌, ◌≤◌, length};
-ghost use Rattle.telling.specs.Cited.Cells.{memberOf};
+ghost use Rattle.telling.specs.Cited.Cells.{member_of};
 ghost use Rattle.members.specs.Cells.{cells_in};
 
 use cells::get16;
@@ -30,7 +30,7 @@ pub fn up_at(cells: &[u8], n: usize, i: usize) -> usize
 // The innermost member around the instruction i of n.
 pub fn member_of(cells: &[u8], n: usize, i: usize) -> usize
     requires { 4 * n ≤ length cells.now }
-    ensures { result ≡ memberOf (cells_in cells.now n) i }
+    ensures { result ≡ member_of (cells_in cells.now n) i }
 {
     if rank_at(cells, n, i) == 0 {
         return up_at(cells, n, i);

@@ -2,15 +2,15 @@
 use Rattle.std.specs.Prelude.{ℕ, ◌≡◌, Bool, true, false}
 use Rattle.std.proofs.Math.Option.{Option, none, some}
 use Rattle.rules.specs.Declarations.{Word, BitNames, Target, Declared, Table, number_of, body_of}
-use Rattle.rules.specs.Paths.{storageOf}
+use Rattle.rules.specs.Paths.{storage_of}
 
-abbrev pub hasStorage : Option Target → Option BitNames → Bool
-hasStorage (some t) b = false
-hasStorage none none = false
-hasStorage none (some b) = true
+abbrev pub has_storage : Option Target → Option BitNames → Bool
+has_storage (some t) b = false
+has_storage none none = false
+has_storage none (some b) = true
 
-abbrev pub isStorage : Declared → Bool
-isStorage d = hasStorage d.target d.bits
+abbrev pub is_storage_of : Declared → Bool
+is_storage_of d = has_storage d.target d.bits
 
 -- r is the number of the test among m declarations; at m it is no body
 pub record Test (ds : Table) (test : Word) (m r : ℕ) : Type 0 where
@@ -19,5 +19,5 @@ pub record Test (ds : Table) (test : Word) (m r : ℕ) : Type 0 where
 
 -- r is the number of the output; at m it is no storage carrier
 pub record Output (ds : Table) (output : Word) (m r : ℕ) : Type 0 where
-  pub missing : r ≡ m → storageOf ds output ≡ none
-  pub there : (r ≡ m → ⊥) → (storageOf ds output ≡ some r) × (number_of ds output ≡ some r)
+  pub missing : r ≡ m → storage_of ds output ≡ none
+  pub there : (r ≡ m → ⊥) → (storage_of ds output ≡ some r) × (number_of ds output ≡ some r)

@@ -1,14 +1,14 @@
 // The lent names: the number of the declaration that each one means.
 ghost use Rattle.std.specs.Prelude.{◌≡◌, ◌+◌, ◌≤◌, eqb, length};
 ghost use Rattle.rules.specs.Text.Bytes.{fold};
-ghost use Rattle.rules.specs.Text.Scan.{sameBytes};
-ghost use Rattle.rules.specs.Declarations.{declaredOf, number_of};
+ghost use Rattle.rules.specs.Text.Scan.{same_bytes};
+ghost use Rattle.rules.specs.Declarations.{declared_of, number_of};
 ghost use Rattle.rules.specs.Paths.{folded};
-ghost use Rattle.records.specs.Holds.{foldedAt};
+ghost use Rattle.records.specs.Holds.{folded_at};
 ghost use Rattle.table.specs.Lookups.{or_else};
 ghost use Rattle.table.specs.Views.{View};
 ghost use Rattle.whole.specs.Written.{Written, whole};
-ghost use Rattle.naming.specs.Names.{isStorage, Test};
+ghost use Rattle.naming.specs.Names.{is_storage_of, Test};
 
 use cells::get16;
 use classes::letters::upper;
@@ -28,7 +28,7 @@ fn same_letter(x: u8, y: u8) -> bool
 // Whether n bytes of the text from p on are a lent name, but for the case of letters.
 fn is_name(text: &[u8], p: usize, n: usize, name: &[u8]) -> bool
     requires { p + n ≤ length text.now }
-    ensures { result ≡ sameBytes (foldedAt text.now p n) (folded name.now) }
+    ensures { result ≡ same_bytes (folded_at text.now p n) (folded name.now) }
 {
     if name.len() != n {
         return false;
@@ -70,7 +70,7 @@ pub fn number_of(
 // Whether the declaration whose name is the token p is a storage carrier: it has bits, and is no mapping.
 pub fn is_storage(records: &[u8], values: &[u8], p: usize) -> bool
     requires { View records.now values.now p }
-    ensures { (v : View records.now values.now p) → result ≡ isStorage (declaredOf v.declaration) }
+    ensures { (v : View records.now values.now p) → result ≡ is_storage_of (declared_of v.declaration) }
 {
     if target_of(records, p) != 0 {
         return false;

@@ -2,7 +2,7 @@
 use Rattle.std.specs.Prelude.{ℕ, ◌+◌, ◌-◌, ◌<◌, ◌≤◌, ◌≡◌, Bool, false, List, length}
 use Rattle.cells.specs.Cells.{cell}
 use Rattle.nesting.specs.Holding.{Kept, Pushed}
-use Rattle.room.specs.Profile.{roomSize}
+use Rattle.room.specs.Profile.{room_size}
 use Rattle.nesting.specs.declared.nests.Nest.{Nest}
 use Rattle.nesting.specs.declared.frames.Frame.{Frame}
 
@@ -33,10 +33,10 @@ resumed s f b = nest s.depth s.free f.label f.own b false false 0 false s.low
 pub record Resuming (room : List ℕ) (s : Nest) (f : Frame) : Type 0 where
   pub inside : 0 < s.depth
   pub shallow : s.depth ≤ 32
-  pub space : roomSize ≤ length room
-  pub label-fits : f.label < 65536
-  pub flag-fits : f.flag < 65536
-  pub own-fits : f.own < 65536
+  pub space : room_size ≤ length room
+  pub label_fits : f.label < 65536
+  pub flag_fits : f.flag < 65536
+  pub own_fits : f.own < 65536
 
 pub record Resumed (old new : List ℕ) (s : Nest) (f : Frame) (b c : Bool) (r : Nest) : Type 0 where
   pub pushed : Pushed old new (s.depth - 1) (kept f.label f.flag f.own b c f.group)

@@ -1,13 +1,13 @@
 -- Where a walk stands, as it is kept: the flags, the frames of the open BEGINs, the labels around it, of each its token and its flag, and hints, one for each
 -- spelling: of the labels with a spelling none stands above the one that the hint leads to.
 use Rattle.std.specs.Prelude.{ℕ, suc, ◌+◌, ◌-◌, ◌<◌, ◌≤◌, ◌≡◌, Bool, true, false, List, [], ◌∷◌, eqb, length}
-use Rattle.cells.specs.Cells.{cell, putCell}
+use Rattle.cells.specs.Cells.{cell, put_cell}
 use Rattle.rules.specs.Grammar.Trees.{Tokens}
-use Rattle.rules.specs.Limits.{deepest, mostTokens}
-use Rattle.room.specs.Profile.{mostFlags, labels_from, hintsFrom, frameCell, labelCell, hintCell, roomSize}
+use Rattle.rules.specs.Limits.{deepest, most_tokens}
+use Rattle.room.specs.Profile.{most_flags, labels_from, hints_from, frame_cell, label_cell, hint_cell, room_size}
 use Rattle.paths.specs.Cited.Marks.{Marks, Slot}
 use Rattle.paths.specs.Cited.Least.{least}
-use Rattle.records.specs.Holds.{linkCell}
+use Rattle.records.specs.Holds.{link_cell}
 use Rattle.records.specs.Words.{NameAt, word_at}
 use Rattle.nesting.specs.Machine.{Frame, State}
 use Rattle.nesting.specs.declared.nests.Nest.{Nest}
@@ -27,7 +27,7 @@ pub record Book : Type 0 where
   pub spelling : ℕ → ℕ
 
 abbrev pub book : List ℕ → Tokens → Book
-book records ts = record { tokens = ts; spelling = linkCell records }
+book records ts = record { tokens = ts; spelling = link_cell records }
 
 -- only the cells from a up to b differ
 pub record Kept (old new : List ℕ) (a b : ℕ) : Type 0 where
@@ -37,63 +37,63 @@ pub record Kept (old new : List ℕ) (a b : ℕ) : Type 0 where
 -- p labels, the innermost last
 pub data Linked (ts : Book) (room : List ℕ) : ℕ → List Slot → Type 0 where
   unlinked : Linked ts room 0 []
-  linked : {p : ℕ} {l : Slot} {ls : List Slot} → NameAt ts.tokens (cell 2 room (labelCell p)) → word_at ts.tokens (cell 2 room (labelCell p)) ≡ l.name
-      → cell 2 room (labelCell p + 1) ≡ l.flag → l.flag < mostFlags → p ≤ cell 2 room (hintCell (ts.spelling (cell 2 room (labelCell p))))
+  linked : {p : ℕ} {l : Slot} {ls : List Slot} → NameAt ts.tokens (cell 2 room (label_cell p)) → word_at ts.tokens (cell 2 room (label_cell p)) ≡ l.name
+      → cell 2 room (label_cell p + 1) ≡ l.flag → l.flag < most_flags → p ≤ cell 2 room (hint_cell (ts.spelling (cell 2 room (label_cell p))))
       → Linked ts room p ls → Linked ts room (suc p) (l ∷ ls)
 
 -- the first `top` labels are the same, and no hint leads below one of them where it did not before
 pub record Still (old new : List ℕ) (top : ℕ) : Type 0 where
-  pub cells : (q : ℕ) → labels_from ≤ q → q < labelCell top → cell 2 new q ≡ cell 2 old q
-  pub hints : (m c : ℕ) → m < top → hintsFrom ≤ c → m ≤ cell 2 old c → m ≤ cell 2 new c
+  pub cells : (q : ℕ) → labels_from ≤ q → q < label_cell top → cell 2 new q ≡ cell 2 old q
+  pub hints : (m c : ℕ) → m < top → hints_from ≤ c → m ≤ cell 2 old c → m ≤ cell 2 new c
 
 -- the label number j is put, and its hint
 pub record LabelPut (records old new : List ℕ) (j i flag : ℕ) : Type 0 where
   pub size : length new ≡ length old
   pub low : (q : ℕ) → q < labels_from → cell 2 new q ≡ cell 2 old q
   pub still : Still old new j
-  pub token : cell 2 new (labelCell j) ≡ i
-  pub flag_is : cell 2 new (labelCell j + 1) ≡ flag
-  pub hint : cell 2 new (hintCell (linkCell records i)) ≡ j
+  pub token : cell 2 new (label_cell j) ≡ i
+  pub flag_is : cell 2 new (label_cell j + 1) ≡ flag
+  pub hint : cell 2 new (hint_cell (link_cell records i)) ≡ j
 
 -- the frame number j, from the outermost on, with at most so many labels around it
 pub record FrameAt (ts : Book) (room : List ℕ) (top j : ℕ) (f : Frame) : Type 0 where
-  pub below : cell 2 room (frameCell j) ≤ top
-  pub labels : Linked ts room (cell 2 room (frameCell j)) f.labels
-  pub flag : cell 2 room (frameCell j + 1) ≡ f.flag
-  pub flag-low : f.flag < mostFlags
-  pub own : cell 2 room (frameCell j + 2) ≡ f.own
-  pub own-low : f.own ≤ j + 2
-  pub comes : cell 2 room (frameCell j + 3) ≡ bit f.comes
-  pub ended : cell 2 room (frameCell j + 4) ≡ bit f.ended
-  pub group : cell 2 room (frameCell j + 5) ≡ bit f.group
+  pub below : cell 2 room (frame_cell j) ≤ top
+  pub labels : Linked ts room (cell 2 room (frame_cell j)) f.labels
+  pub flag : cell 2 room (frame_cell j + 1) ≡ f.flag
+  pub flag_low : f.flag < most_flags
+  pub own : cell 2 room (frame_cell j + 2) ≡ f.own
+  pub own_low : f.own ≤ j + 2
+  pub comes : cell 2 room (frame_cell j + 3) ≡ bit f.comes
+  pub ended : cell 2 room (frame_cell j + 4) ≡ bit f.ended
+  pub group : cell 2 room (frame_cell j + 5) ≡ bit f.group
 
 -- no frame has more labels around it than those inside it
 pub data Frames (ts : Book) (room : List ℕ) : ℕ → List Frame → Type 0 where
   no_frames : {top : ℕ} → Frames ts room top []
-  frames : {top : ℕ} {f : Frame} {fs : List Frame} → FrameAt ts room top (length fs) f → Frames ts room (cell 2 room (frameCell (length fs))) fs
+  frames : {top : ℕ} {f : Frame} {fs : List Frame} → FrameAt ts room top (length fs) f → Frames ts room (cell 2 room (frame_cell (length fs))) fs
       → Frames ts room top (f ∷ fs)
 
 pub record Flagged (room : List ℕ) (w : Marks) : Type 0 where
-  pub at : (j : ℕ) → j < mostFlags → cell 2 room j ≡ bit (w.flags j)
+  pub at : (j : ℕ) → j < most_flags → cell 2 room j ≡ bit (w.flags j)
 
 pub record Shows (ts : Book) (room : List ℕ) (i : ℕ) (x : Nest) (z : State) : Type 0 where
-  pub space : roomSize ≤ length room
-  pub few : i ≤ mostTokens
+  pub space : room_size ≤ length room
+  pub few : i ≤ most_tokens
   pub depth_is : x.depth ≡ length z.frames
   pub shallow : x.depth ≤ deepest
-  pub free-is : x.free ≡ z.free
-  pub free-low : x.free ≤ x.depth + 2
-  pub label-low : x.label ≤ i
+  pub free_is : x.free ≡ z.free
+  pub free_low : x.free ≤ x.depth + 2
+  pub label_low : x.label ≤ i
   pub labels : Linked ts room x.label z.labels
   pub flag_is : x.flag ≡ z.flag
-  pub flag-low : x.flag < mostFlags
-  pub comes-is : x.comes ≡ z.comes
-  pub choosing-is : x.choosing ≡ z.choosing
-  pub begun-is : x.begun ≡ z.dest.begun
+  pub flag_low : x.flag < most_flags
+  pub comes_is : x.comes ≡ z.comes
+  pub choosing_is : x.choosing ≡ z.choosing
+  pub begun_is : x.begun ≡ z.dest.begun
   pub place_is : x.place ≡ z.dest.place
-  pub place-low : x.place < unseen
-  pub hit-is : x.hit ≡ z.dest.hit
-  pub low-is : x.low ≡ least unseen z.marks.places
+  pub place_low : x.place < unseen
+  pub hit_is : x.hit ≡ z.dest.hit
+  pub low_is : x.low ≡ least unseen z.marks.places
   pub frames : Frames ts room x.label z.frames
   pub flags : Flagged room z.marks
 
@@ -114,23 +114,23 @@ pub record Set (old new : List ℕ) (k : ℕ) (b : Bool) : Type 0 where
 -- a flag is read, and cleared
 pub record Taken (old new : List ℕ) (k : ℕ) (b : Bool) : Type 0 where
   pub was : b ≡ eqb (cell 2 old k) 1
-  pub put : new ≡ putCell 2 old k 0
+  pub put : new ≡ put_cell 2 old k 0
 
 -- the six cells of the innermost frame, with depth frames
 pub record Top (room : List ℕ) (depth : ℕ) (f : Kept-frame) : Type 0 where
-  pub label : f.label ≡ cell 2 room (frameCell (depth - 1))
-  pub flag : f.flag ≡ cell 2 room (frameCell (depth - 1) + 1)
-  pub own : f.own ≡ cell 2 room (frameCell (depth - 1) + 2)
-  pub comes : f.comes ≡ eqb (cell 2 room (frameCell (depth - 1) + 3)) 1
-  pub ended : f.ended ≡ eqb (cell 2 room (frameCell (depth - 1) + 4)) 1
-  pub group : f.group ≡ eqb (cell 2 room (frameCell (depth - 1) + 5)) 1
+  pub label : f.label ≡ cell 2 room (frame_cell (depth - 1))
+  pub flag : f.flag ≡ cell 2 room (frame_cell (depth - 1) + 1)
+  pub own : f.own ≡ cell 2 room (frame_cell (depth - 1) + 2)
+  pub comes : f.comes ≡ eqb (cell 2 room (frame_cell (depth - 1) + 3)) 1
+  pub ended : f.ended ≡ eqb (cell 2 room (frame_cell (depth - 1) + 4)) 1
+  pub group : f.group ≡ eqb (cell 2 room (frame_cell (depth - 1) + 5)) 1
 
 -- the frame number j is written
 pub record Pushed (old new : List ℕ) (j : ℕ) (f : Kept-frame) : Type 0 where
-  pub kept : Kept old new (frameCell j) (frameCell j + 6)
-  pub label : cell 2 new (frameCell j) ≡ f.label
-  pub flag : cell 2 new (frameCell j + 1) ≡ f.flag
-  pub own : cell 2 new (frameCell j + 2) ≡ f.own
-  pub comes : cell 2 new (frameCell j + 3) ≡ bit f.comes
-  pub ended : cell 2 new (frameCell j + 4) ≡ bit f.ended
-  pub group : cell 2 new (frameCell j + 5) ≡ bit f.group
+  pub kept : Kept old new (frame_cell j) (frame_cell j + 6)
+  pub label : cell 2 new (frame_cell j) ≡ f.label
+  pub flag : cell 2 new (frame_cell j + 1) ≡ f.flag
+  pub own : cell 2 new (frame_cell j + 2) ≡ f.own
+  pub comes : cell 2 new (frame_cell j + 3) ≡ bit f.comes
+  pub ended : cell 2 new (frame_cell j + 4) ≡ bit f.ended
+  pub group : cell 2 new (frame_cell j + 5) ≡ bit f.group

@@ -1,15 +1,15 @@
 -- A body read from its first token to its last, token by token: what `walk` does along the tree, with a frame for each BEGIN that is open.
 use Rattle.std.specs.Prelude.{ℕ, zero, suc, Bool, true, false, cond, ◌||◌, ◌&&◌, List, [], ◌∷◌, eqb, ltb, length}
-use Rattle.rules.specs.Text.Tokens.{Name, LPar, Comma, Semi, Becomes, Equals, BEGIN, END, NEXT, IF, DECODE, REPEAT, LEAVE, NO-OP, kindNo, Token}
+use Rattle.rules.specs.Text.Tokens.{Name, LPar, Comma, Semi, Becomes, Equals, BEGIN, END, NEXT, IF, DECODE, REPEAT, LEAVE, NO-OP, kind_no, Token}
 use Rattle.rules.specs.Grammar.Trees.{Tokens}
 use Rattle.rules.specs.Limits.{deepest}
 use Rattle.rules.specs.Declarations.{Word, Table}
 use Rattle.rules.specs.Whole.Sets.{member, owner}
 use Rattle.paths.specs.Cited.Early.{Report, activation}
-use Rattle.paths.specs.Cited.Marks.{Marks, Slot, slot, marked, cleared, added, flagOf, markedAt, unmarked}
-use Rattle.reading.specs.Kinds.{nextNo, stores, mode}
+use Rattle.paths.specs.Cited.Marks.{Marks, Slot, slot, marked, cleared, added, flag_of, marked_at, unmarked}
+use Rattle.reading.specs.Kinds.{next_no, stores, mode}
 use Rattle.table.specs.Scans.{no}
-use Rattle.scopes.specs.Walks.{nextWord}
+use Rattle.scopes.specs.Walks.{next_word}
 
 -- An open BEGIN: the labels around it and the flag at its end, its own flag, whether control comes to the present group, whether all of its members so far
 -- have ended; and whether it is a block, or has the alternatives of a DECODE.
@@ -101,7 +101,7 @@ abbrev pub looped : State → State
 looped s = state s.frames s.free s.marks s.labels 0 s.comes s.choosing s.dest
 
 abbrev pub left : Word → State → State
-left n s = state s.frames s.free (markedAt (flagOf s.labels n) s.comes s.marks) s.labels s.flag s.comes s.choosing s.dest
+left n s = state s.frames s.free (marked_at (flag_of s.labels n) s.comes s.marks) s.labels s.flag s.comes s.choosing s.dest
 
 -- LEAVE, if a name stands behind it
 abbrev pub aimed : Bool → Word → State → State
@@ -142,9 +142,9 @@ module _ (ds : Table) (test : Word) (output : ℕ) (known : Word → Report) whe
   -- a name at the start of an action or in a destination, by the kind behind it
   abbrev pub acting : Token → ℕ → State → State
   acting t k s =
-      elim (eqb k (kindNo Becomes)) [
+      elim (eqb k (kind_no Becomes)) [
         | true ↦ labelled t.info.word s
-        | false ↦ elim (eqb k (kindNo LPar)) [
+        | false ↦ elim (eqb k (kind_no LPar)) [
           | true ↦ activated t.info.word s
           | false ↦ elim (stores k) [ true ↦ destined t.info.place (member output (owner ds t.info.word)) s | false ↦ s ]
         ]
@@ -157,29 +157,29 @@ module _ (ds : Table) (test : Word) (output : ℕ) (known : Word → Report) whe
   -- what a token of the kind k does, with the mode before it and the tokens behind it
   unfoldable pub acted : ℕ → ℕ → Token → Tokens → State → State
   acted m k t ts s =
-      elim (eqb k (kindNo Name)) [
-        | true ↦ named m t (nextNo ts) s
-        | false ↦ elim (eqb k (kindNo BEGIN)) [
+      elim (eqb k (kind_no Name)) [
+        | true ↦ named m t (next_no ts) s
+        | false ↦ elim (eqb k (kind_no BEGIN)) [
           | true ↦ opened (ltb (length s.frames) deepest) s
-          | false ↦ elim (eqb k (kindNo END)) [
+          | false ↦ elim (eqb k (kind_no END)) [
             | true ↦ closed s.frames s
-            | false ↦ elim (eqb k (kindNo Semi)) [
+            | false ↦ elim (eqb k (kind_no Semi)) [
               | true ↦ also s.frames s
-              | false ↦ elim (eqb k (kindNo NEXT)) [
+              | false ↦ elim (eqb k (kind_no NEXT)) [
                 | true ↦ next s.frames s
-                | false ↦ elim (eqb k (kindNo Comma)) [
+                | false ↦ elim (eqb k (kind_no Comma)) [
                   | true ↦ another s.frames s
-                  | false ↦ elim (eqb k (kindNo Equals)) [
+                  | false ↦ elim (eqb k (kind_no Equals)) [
                     | true ↦ transferred s
-                    | false ↦ elim (eqb k (kindNo IF)) [
+                    | false ↦ elim (eqb k (kind_no IF)) [
                       | true ↦ reached (chosen false s) s.marks
-                      | false ↦ elim (eqb k (kindNo DECODE)) [
+                      | false ↦ elim (eqb k (kind_no DECODE)) [
                         | true ↦ chosen true s
-                        | false ↦ elim (eqb k (kindNo REPEAT)) [
+                        | false ↦ elim (eqb k (kind_no REPEAT)) [
                           | true ↦ looped s
-                          | false ↦ elim (eqb k (kindNo LEAVE)) [
-                            | true ↦ aimed (eqb (nextNo ts) (kindNo Name)) (nextWord ts) s
-                            | false ↦ elim (eqb k (kindNo NO-OP)) [ true ↦ reached s s.marks | false ↦ s ]
+                          | false ↦ elim (eqb k (kind_no LEAVE)) [
+                            | true ↦ aimed (eqb (next_no ts) (kind_no Name)) (next_word ts) s
+                            | false ↦ elim (eqb k (kind_no NO-OP)) [ true ↦ reached s s.marks | false ↦ s ]
                           ]
                         ]
                       ]

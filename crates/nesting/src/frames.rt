@@ -1,7 +1,7 @@
 // The frames of the open BEGINs, in six cells each, and what BEGIN, END, `;`, NEXT and `,` do to them.
 ghost use Rattle.std.specs.Prelude.{◌≡◌, true, false, ◌+◌, ◌*◌, ◌<◌, ◌≤◌, ltb, length};
 ghost use Rattle.rules.specs.Limits.{deepest};
-ghost use Rattle.room.specs.Profile.{roomSize};
+ghost use Rattle.room.specs.Profile.{room_size};
 ghost use Rattle.nesting.specs.Machine.{opened, closed, also, next, another};
 ghost use Rattle.nesting.specs.Holding.{bit, Standing, Does, Top, Pushed};
 ghost use Rattle.nesting.specs.Grouping.{settle, enter, Three, Resuming, Resumed};
@@ -25,7 +25,7 @@ pub struct Frame {
 
 // The innermost frame.
 fn top(room: &[u8], depth: usize) -> Frame
-    requires { (0 < depth) × (depth ≤ deepest) × (roomSize ≤ length room.now) }
+    requires { (0 < depth) × (depth ≤ deepest) × (room_size ≤ length room.now) }
     ensures { Top room.now depth result }
 {
     let at = FRAMES + 6 * (depth - 1);
@@ -60,7 +60,7 @@ fn put3(room: &mut [u8], at: usize, a: usize, b: usize, c: usize)
 
 // The frame number j.
 fn push(room: &mut [u8], j: usize, f: Frame)
-    requires { (j < deepest) × (roomSize ≤ length room.old) × (f.label < 65536) × (f.flag < 65536) × (f.own < 65536) }
+    requires { (j < deepest) × (room_size ≤ length room.old) × (f.label < 65536) × (f.flag < 65536) × (f.own < 65536) }
     ensures { Pushed room.old room.new j f }
 {
     let at = FRAMES + 6 * j;

@@ -1,14 +1,14 @@
 // The labels around an action, the innermost last: of each its token and its flag. Behind them stand hints: by spelling, where a label that has it was last
 // put. So no label above has the word, and a LEAVE looks from there outwards; labels of a body have different words, so it finds its own at once.
 ghost use Rattle.std.specs.Prelude.{◌≡◌, List, ◌+◌, ◌*◌, ◌<◌, ◌≤◌, length};
-ghost use Rattle.rules.specs.Limits.{mostTokens};
-ghost use Rattle.paths.specs.Cited.Marks.{Slot, flagOf};
-ghost use Rattle.records.specs.Holds.{linkCell};
+ghost use Rattle.rules.specs.Limits.{most_tokens};
+ghost use Rattle.paths.specs.Cited.Marks.{Slot, flag_of};
+ghost use Rattle.records.specs.Holds.{link_cell};
 ghost use Rattle.records.specs.Words.{word_at};
 ghost use Rattle.nesting.specs.Spelt.{Spelt};
 ghost use Rattle.nesting.specs.Machine.{State};
 ghost use Rattle.nesting.specs.Holding.{Book, book, Linked, Shows, LabelPut};
-ghost use Rattle.room.specs.Profile.{hintsFrom, hintCell, roomSize};
+ghost use Rattle.room.specs.Profile.{hints_from, hint_cell, room_size};
 ghost use Rattle.nesting.specs.Jumping.{Sought, Seeking, Jumping, Left, Labels, FlagFound};
 
 use crate::nests::{Nest, mark};
@@ -27,14 +27,14 @@ const NONE: usize = FRAMES;
 // The cell of the hint for the name i.
 fn hint_cell(records: &[u8], i: usize) -> usize
     requires { 8 * i + 8 ≤ length records.now }
-    ensures { (result ≡ hintCell (linkCell records.now i)) × (hintsFrom ≤ result) × (2 * result + 2 ≤ roomSize) }
+    ensures { (result ≡ hint_cell (link_cell records.now i)) × (hints_from ≤ result) × (2 * result + 2 ≤ room_size) }
 {
     HINTS + link_at(records, i) % MOST_TOKENS
 }
 
 // The label number j: its name is the token i.
 pub fn put_label(records: &[u8], room: &mut [u8], j: usize, i: usize, flag: usize)
-    requires { (roomSize ≤ length room.old) × (j < mostTokens) × (i < mostTokens) × (8 * i + 8 ≤ length records.now) × (flag < 65536) }
+    requires { (room_size ≤ length room.old) × (j < most_tokens) × (i < most_tokens) × (8 * i + 8 ≤ length records.now) × (flag < 65536) }
     ensures { LabelPut records.now room.old room.new j i flag }
 {
     let at = LABELS + 2 * j;
@@ -46,7 +46,7 @@ pub fn put_label(records: &[u8], room: &mut [u8], j: usize, i: usize, flag: usiz
 
 // The name that is the token i is a label.
 pub fn label(records: &[u8], room: &mut [u8], i: usize, s: Nest) -> Nest
-    requires { (i < mostTokens) × (8 * i + 8 ≤ length records.now) × ((ts : Book) × (z : State) × Shows ts room.old i s z) }
+    requires { (i < most_tokens) × (8 * i + 8 ≤ length records.now) × ((ts : Book) × (z : State) × Shows ts room.old i s z) }
     ensures { Labels records.now room.old room.new i s result }
 {
     let count = s.label;
@@ -73,7 +73,7 @@ fn lookable(records: &[u8], room: &[u8], n: usize, count: usize, name: usize) ->
 fn flag_of(records: &[u8], room: &[u8], n: usize, count: usize, name: usize) -> usize
     requires { Sought records.now room.now n count name }
     ensures { (w : Spelt records.now n) (ls : List Slot) → Linked (book records.now w.tokens) room.now count ls
-        → FlagFound (flagOf ls (word_at w.tokens name)) result }
+        → FlagFound (flag_of ls (word_at w.tokens name)) result }
 {
     let mut j = lookable(records, room, n, count, name);
     while 0 < j {

@@ -5,7 +5,7 @@ mod carriers;
 mod files;
 
 ghost use Rattle.std.specs.Prelude.{◌≤◌, length};
-ghost use Rattle.rules.specs.Limits.{longestText};
+ghost use Rattle.rules.specs.Limits.{longest_text};
 
 use crate::budgets::{Budget, budget_in};
 use crate::carriers::{finish, start};
@@ -41,7 +41,7 @@ fn say(a: Answer) {
 
 // The words that a run left.
 fn say_words(text: &[u8], carriers: &[u8], a: &mut [u8], b: &mut [u8], c: &mut [u8])
-    requires text_len_bound { (length text.now ≤ longestText) × ((65536 ≤ length a.old) × ((65536 ≤ length b.old) × (65536 ≤ length c.old))) }
+    requires text_len_bound { (length text.now ≤ longest_text) × ((65536 ≤ length a.old) × ((65536 ≤ length b.old) × (65536 ≤ length c.old))) }
     requires in_bounds { 32768 ≤ length carriers.now }
 {
     let mut out = page();
@@ -114,7 +114,7 @@ fn run_accepted(
     b: &mut [u8],
     c: &mut [u8],
 )
-    requires text_len_bound { (length text.now ≤ longestText) × ((65536 ≤ length a.old) × ((65536 ≤ length b.old) × (65536 ≤ length c.old))) }
+    requires text_len_bound { (length text.now ≤ longest_text) × ((65536 ≤ length a.old) × ((65536 ≤ length b.old) × (65536 ≤ length c.old))) }
     requires path_len_bound { (length path.now ≤ 4096) × ((size ≤ 32768) × (32768 ≤ length carriers.old)) }
 {
     if run_first(path, budget, text, carriers, size, a, b, c) {
@@ -133,7 +133,7 @@ fn run_judged(
     b: &mut [u8],
     c: &mut [u8],
 )
-    requires text_len_bound { (length text.now ≤ longestText) × ((65536 ≤ length a.old) × ((65536 ≤ length b.old) × (65536 ≤ length c.old))) }
+    requires text_len_bound { (length text.now ≤ longest_text) × ((65536 ≤ length a.old) × ((65536 ≤ length b.old) × (65536 ≤ length c.old))) }
     requires path_len_bound { (length path.now ≤ 4096) × (32768 ≤ length carriers.old) }
 {
     if judged.ending == REFUSED {
@@ -153,7 +153,7 @@ fn go_on(
     b: &mut [u8],
     c: &mut [u8],
 )
-    requires text_len_bound { (length text.now ≤ longestText) × ((65536 ≤ length a.old) × ((65536 ≤ length b.old) × (65536 ≤ length c.old))) }
+    requires text_len_bound { (length text.now ≤ longest_text) × ((65536 ≤ length a.old) × ((65536 ≤ length b.old) × (65536 ≤ length c.old))) }
     requires path_len_bound { (length path.now ≤ 4096) × (32768 ≤ length carriers.old) }
 {
     let judged = check(text, a, b, c);
@@ -161,7 +161,7 @@ fn go_on(
 }
 
 fn with_memory(path: &[u8], budget: u32, text: &[u8])
-    requires { (length path.now ≤ 4096) × (length text.now ≤ longestText) }
+    requires { (length path.now ≤ 4096) × (length text.now ≤ longest_text) }
 {
     let mut carriers = [0u8; 32768];
     let mut a = io::large_buffer();

@@ -1,6 +1,6 @@
 -- An operand behind its NOTs.
 use Rattle.std.specs.Prelude.{ℕ, suc, ◌+◌, ◌≡◌, List, drop}
-use Rattle.rules.specs.Grammar.Trees.{Tokens, Operand, constant, access, parens, negated, operandTokens}
+use Rattle.rules.specs.Grammar.Trees.{Tokens, Operand, constant, access, parens, negated, operand_tokens}
 use Rattle.records.specs.Holds.{Holds}
 
 -- without the NOTs in front of it, and how many they are
@@ -24,8 +24,8 @@ pub record OperandIn (records : List ℕ) (i : ℕ) : Type 0 where
   pub holds : Holds text records values tokens
   pub operand : Operand
   pub rest : Tokens
-  pub reads : drop i tokens ≡ operandTokens operand rest
+  pub reads : drop i tokens ≡ operand_tokens operand rest
 
 pub record Bared {records : List ℕ} {i : ℕ} (v : OperandIn records i) (p : ℕ) : Type 0 where
   pub past : p ≡ i + nots v.operand
-  pub reads : drop p v.tokens ≡ operandTokens (bare v.operand) v.rest
+  pub reads : drop p v.tokens ≡ operand_tokens (bare v.operand) v.rest

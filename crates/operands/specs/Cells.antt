@@ -2,40 +2,40 @@
 use Rattle.std.specs.Prelude.{ℕ, ◌+◌, ◌/◌, ◌%◌, ◌≡◌}
 use Rattle.std.proofs.Math.Option.{Option, none, some}
 use Rattle.rules.specs.Grammar.Trees.{Bits}
-use Rattle.rules.specs.Declarations.{Reach, accessLow, accessBits}
-use Rattle.promise.specs.Accesses.{leftName, rightName}
+use Rattle.rules.specs.Declarations.{Reach, access_low, access_bits}
+use Rattle.promise.specs.Accesses.{left_name, right_name}
 use Rattle.operands.specs.declared.accesses.Located.{Located}
 use Rattle.operands.specs.declared.accesses.Located.TheVariants.{Field as located}
 use Rattle.operands.specs.declared.accesses.Word.{Word}
 use Rattle.operands.specs.declared.accesses.Word.TheVariants.{Number, Outside}
 
-abbrev pub cellFirst : ℕ → ℕ
-cellFirst c = c % 65536
+abbrev pub cell_first : ℕ → ℕ
+cell_first c = c % 65536
 
-abbrev pub cellLow : ℕ → ℕ
-cellLow c = c / 65536 % 256
+abbrev pub cell_low : ℕ → ℕ
+cell_low c = c / 65536 % 256
 
-abbrev pub cellBits : ℕ → ℕ
-cellBits c = c / 16777216 % 256
+abbrev pub cell_bits : ℕ → ℕ
+cell_bits c = c / 16777216 % 256
 
-abbrev pub cellLeft : ℕ → ℕ
-cellLeft c = c / 4294967296 % 65536
+abbrev pub cell_left : ℕ → ℕ
+cell_left c = c / 4294967296 % 65536
 
-abbrev pub cellRight : ℕ → ℕ
-cellRight c = c / 281474976710656
+abbrev pub cell_right : ℕ → ℕ
+cell_right c = c / 281474976710656
 
 -- the bits in the word that stands k words behind the first
-abbrev pub locatedAt : ℕ → ℕ → ℕ → Located
-locatedAt c k next = located (cellFirst c + k) (cellLow c) (cellBits c) next
+abbrev pub located_at : ℕ → ℕ → ℕ → Located
+located_at c k next = located (cell_first c + k) (cell_low c) (cell_bits c) next
 
 pub record Parts (c : ℕ) (r : Reach) (b : Bits) : Type 0 where
-  pub first : cellFirst c ≡ r.first
-  pub low : cellLow c ≡ accessLow r b
-  pub bits : cellBits c ≡ accessBits r b
-  pub left : cellLeft c ≡ leftName r.words
-  pub right : cellRight c ≡ rightName r.words
+  pub first : cell_first c ≡ r.first
+  pub low : cell_low c ≡ access_low r b
+  pub bits : cell_bits c ≡ access_bits r b
+  pub left : cell_left c ≡ left_name r.words
+  pub right : cell_right c ≡ right_name r.words
 
 -- a word's number as the code has it
-abbrev pub shownWord : Option ℕ → Word
-shownWord none = Outside
-shownWord (some k) = Number k
+abbrev pub shown_word : Option ℕ → Word
+shown_word none = Outside
+shown_word (some k) = Number k

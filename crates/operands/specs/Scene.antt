@@ -2,18 +2,18 @@
 use Rattle.std.specs.Prelude.{ℕ, ◌*◌, ◌^◌, ◌<◌, ◌≤◌, max, ◌≡◌, true, List, ◌∷◌, length, drop}
 use Rattle.cells.specs.Cells.{cells}
 use Rattle.rules.specs.Text.Tokens.{Name, Const, Info, Token, tk}
-use Rattle.rules.specs.Grammar.Trees.{Tokens, Bits, bitsTokens, Operand, operandTokens, Tail, tailTokens, Subscript, subscriptTokens}
-use Rattle.rules.specs.Grammar.Precedence.{cell, factorOf, index_of, exprOf}
+use Rattle.rules.specs.Grammar.Trees.{Tokens, Bits, bits_tokens, Operand, operand_tokens, Tail, tail_tokens, Subscript, subscript_tokens}
+use Rattle.rules.specs.Grammar.Precedence.{cell, factor_of, index_of, expr_of}
 use Rattle.rules.specs.Values.{Value, value}
-use Rattle.rules.specs.Declarations.{Word, Table, totalWords}
+use Rattle.rules.specs.Declarations.{Word, Table, total_words}
 use Rattle.rules.specs.Steps.Actions as actions
-use Rattle.rules.specs.Steps.Evaluation.{Carriers, Outcome, gives, faulty, Field, evaluate, evaluateFactor, evaluateAccess}
-use Rattle.laws_grammar.specs.Cited.Nesting.{operandNest, tailNest, subscriptNest}
+use Rattle.rules.specs.Steps.Evaluation.{Carriers, Outcome, gives, faulty, Field, evaluate, evaluate_factor, evaluate_access}
+use Rattle.laws_grammar.specs.Cited.Nesting.{operand_nest, tail_nest, subscript_nest}
 use Rattle.laws_accepted.specs.Cited.Declared.{Declares}
 use Rattle.laws_accepted.specs.Cited.Lengths.{Sized, SizedFactor}
-use Rattle.records.specs.Holds.{Holds, tokenAt}
+use Rattle.records.specs.Holds.{Holds, token_at}
 use Rattle.promise.specs.Accesses.{AccessesHold}
-use Rattle.table.specs.Operators.{endsAccess, endsExpression}
+use Rattle.table.specs.Operators.{ends_access, ends_expression}
 use Rattle.operands.specs.declared.accesses.Located.{Located}
 use Rattle.operands.specs.declared.accesses.Located.TheVariants.{Field as located, Fault as outside}
 use Rattle.operands.specs.declared.expressions.Evaluated.{Evaluated}
@@ -26,17 +26,17 @@ pub record Scene (records values carriers : List ℕ) : Type 0 where
   pub outer : Word
   pub table : Table
   pub holds : Holds text records values tokens
-  pub fits : (i : ℕ) → i < length tokens → (tokenAt tokens i).kind ≡ Const → (tokenAt tokens i).info.value < 2 ^ (tokenAt tokens i).info.bits
+  pub fits : (i : ℕ) → i < length tokens → (token_at tokens i).kind ≡ Const → (token_at tokens i).info.value < 2 ^ (token_at tokens i).info.bits
   pub declares : Declares outer table
   pub accesses : AccessesHold values tokens outer table
-  pub words : length carriers ≡ 8 * totalWords table
+  pub words : length carriers ≡ 8 * total_words table
 
 -- the carriers' words in a lent buffer
-abbrev pub carrierWords : ℕ → List ℕ → Carriers
-carrierWords n bytes = cells 8 n bytes
+abbrev pub carrier_words : ℕ → List ℕ → Carriers
+carrier_words n bytes = cells 8 n bytes
 
 abbrev pub words_of : {records values carriers : List ℕ} → Scene records values carriers → Carriers
-words_of {carriers = c} s = carrierWords (totalWords s.table) c
+words_of {carriers = c} s = carrier_words (total_words s.table) c
 
 -- an expression, an operand and an access from the token i on, sound and nested at most `depth` deep, with the token behind it
 pub record ExpressionAt (records values carriers : List ℕ) (i depth : ℕ) : Type 0 where
@@ -45,20 +45,20 @@ pub record ExpressionAt (records values carriers : List ℕ) (i depth : ℕ) : T
   pub tail : Tail
   pub next : Token
   pub rest : Tokens
-  pub reads : drop i scene.tokens ≡ operandTokens first (tailTokens tail (next ∷ rest))
-  pub ends : endsExpression next.kind ≡ true
-  pub shallow : max (operandNest first) (tailNest tail) ≤ depth
-  pub sized : Sized scene.outer scene.table (exprOf first tail)
+  pub reads : drop i scene.tokens ≡ operand_tokens first (tail_tokens tail (next ∷ rest))
+  pub ends : ends_expression next.kind ≡ true
+  pub shallow : max (operand_nest first) (tail_nest tail) ≤ depth
+  pub sized : Sized scene.outer scene.table (expr_of first tail)
 
 pub record OperandAt (records values carriers : List ℕ) (i depth : ℕ) : Type 0 where
   pub scene : Scene records values carriers
   pub operand : Operand
   pub next : Token
   pub rest : Tokens
-  pub reads : drop i scene.tokens ≡ operandTokens operand (next ∷ rest)
-  pub ends : endsAccess next.kind ≡ true
-  pub shallow : operandNest operand ≤ depth
-  pub sized : SizedFactor scene.outer scene.table (factorOf operand)
+  pub reads : drop i scene.tokens ≡ operand_tokens operand (next ∷ rest)
+  pub ends : ends_access next.kind ≡ true
+  pub shallow : operand_nest operand ≤ depth
+  pub sized : SizedFactor scene.outer scene.table (factor_of operand)
 
 pub record AccessAt (records values carriers : List ℕ) (i depth : ℕ) : Type 0 where
   pub scene : Scene records values carriers
@@ -67,9 +67,9 @@ pub record AccessAt (records values carriers : List ℕ) (i depth : ℕ) : Type 
   pub bits : Bits
   pub next : Token
   pub rest : Tokens
-  pub reads : drop i scene.tokens ≡ tk Name name ∷ subscriptTokens subscript (bitsTokens bits (next ∷ rest))
-  pub ends : endsAccess next.kind ≡ true
-  pub shallow : subscriptNest subscript ≤ depth
+  pub reads : drop i scene.tokens ≡ tk Name name ∷ subscript_tokens subscript (bits_tokens bits (next ∷ rest))
+  pub ends : ends_access next.kind ≡ true
+  pub shallow : subscript_nest subscript ≤ depth
   pub sized : SizedFactor scene.outer scene.table (cell name (index_of subscript) bits)
 
 -- What stands from i on, with `rest` behind it, is worked out: it gives this, and ends before the token p.
@@ -90,13 +90,13 @@ Locates tokens rest i o (outside p) = o ≡ faulty 70 p
 module _ {records values carriers : List ℕ} {i depth : ℕ} where
   abbrev pub ExpressionAnswer : ExpressionAt records values carriers i depth → Evaluated → Type 0
   ExpressionAnswer v r =
-      Answers v.scene.tokens (v.next ∷ v.rest) i (evaluate v.scene.table (words_of v.scene) (exprOf v.first v.tail)) r
+      Answers v.scene.tokens (v.next ∷ v.rest) i (evaluate v.scene.table (words_of v.scene) (expr_of v.first v.tail)) r
 
   abbrev pub OperandAnswer : OperandAt records values carriers i depth → Evaluated → Type 0
   OperandAnswer v r =
-      Answers v.scene.tokens (v.next ∷ v.rest) i (evaluateFactor v.scene.table (words_of v.scene) (factorOf v.operand)) r
+      Answers v.scene.tokens (v.next ∷ v.rest) i (evaluate_factor v.scene.table (words_of v.scene) (factor_of v.operand)) r
 
   abbrev pub AccessAnswer : AccessAt records values carriers i depth → Located → Type 0
   AccessAnswer v r =
       Locates v.scene.tokens (v.next ∷ v.rest) i
-      (evaluateAccess v.scene.table (words_of v.scene) (actions.access v.name v.subscript v.bits)) r
+      (evaluate_access v.scene.table (words_of v.scene) (actions.access v.name v.subscript v.bits)) r

@@ -6,8 +6,8 @@ use Rattle.laws_grammar.specs.Cited.Shunting.{Waiting, looser, settled}
 abbrev pub Waits : Type 0
 Waits = List (Waiting Expr)
 
-abbrev pub treeLeft : ℕ → Waits → Expr → Waits
-treeLeft = looser node leaf
+abbrev pub tree_left : ℕ → Waits → Expr → Waits
+tree_left = looser node leaf
 
-abbrev pub treeSettled : ℕ → Waits → Expr → Expr
-treeSettled = settled node leaf
+abbrev pub tree_settled : ℕ → Waits → Expr → Expr
+tree_settled = settled node leaf

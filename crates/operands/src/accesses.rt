@@ -1,9 +1,9 @@
 // Where the bits of an access lie, by the cell of its name: the first word, the lowest bit, the number of bits, the names of the left and the right word.
 ghost use Rattle.std.specs.Prelude.{◌≡◌, ◌+◌, ◌*◌, ◌≤◌, ◌<◌, length};
-ghost use Rattle.rules.specs.Declarations.{names, fromLeft};
-ghost use Rattle.records.specs.Holds.{valueCell};
-ghost use Rattle.operands.specs.Cells.{cellFirst, cellLow, cellBits, cellLeft, cellRight, shownWord, locatedAt};
-ghost use Rattle.operands.specs.Answers.{Readable, readAt};
+ghost use Rattle.rules.specs.Declarations.{names, from_left};
+ghost use Rattle.records.specs.Holds.{value_cell_of};
+ghost use Rattle.operands.specs.Cells.{cell_first, cell_low, cell_bits, cell_left, cell_right, shown_word, located_at};
+ghost use Rattle.operands.specs.Answers.{Readable, read_at};
 ghost use Rattle.operands.specs.Subscripts.{SubscriptedAt, SubscriptedAnswer};
 
 use crate::expressions::Evaluated;
@@ -28,7 +28,7 @@ enum Word {
 
 // How far the name n stands from the left one of the words.
 fn from_left(left: u64, right: u64, n: u64) -> Word
-    ensures { result ≡ shownWord (fromLeft (names left right) n) }
+    ensures { result ≡ shown_word (from_left (names left right) n) }
 {
     if left <= right {
         if n < left {
@@ -51,7 +51,7 @@ fn from_left(left: u64, right: u64, n: u64) -> Word
 // The first word that the name i reaches.
 fn first_word(values: &[u8], i: usize) -> usize
     requires { 8 * i + 8 ≤ length values.now }
-    ensures { result ≡ cellFirst (valueCell values.now i) }
+    ensures { result ≡ cell_first (value_cell_of values.now i) }
 {
     get16(values, 4 * i) as usize
 }
@@ -59,7 +59,7 @@ fn first_word(values: &[u8], i: usize) -> usize
 // The lowest bit of the access with the name i.
 fn lowest_bit(values: &[u8], i: usize) -> u32
     requires { 8 * i + 8 ≤ length values.now }
-    ensures { result ≡ cellLow (valueCell values.now i) }
+    ensures { result ≡ cell_low (value_cell_of values.now i) }
 {
     values[8 * i + 2] as u32
 }
@@ -67,7 +67,7 @@ fn lowest_bit(values: &[u8], i: usize) -> u32
 // How many bits it has.
 fn bit_count(values: &[u8], i: usize) -> u32
     requires { 8 * i + 8 ≤ length values.now }
-    ensures { result ≡ cellBits (valueCell values.now i) }
+    ensures { result ≡ cell_bits (value_cell_of values.now i) }
 {
     values[8 * i + 3] as u32
 }
@@ -75,14 +75,14 @@ fn bit_count(values: &[u8], i: usize) -> u32
 // The names of the left and of the right word.
 fn left_word(values: &[u8], i: usize) -> u64
     requires { 8 * i + 8 ≤ length values.now }
-    ensures { result ≡ cellLeft (valueCell values.now i) }
+    ensures { result ≡ cell_left (value_cell_of values.now i) }
 {
     get16(values, 4 * i + 2) as u64
 }
 
 fn right_word(values: &[u8], i: usize) -> u64
     requires { 8 * i + 8 ≤ length values.now }
-    ensures { result ≡ cellRight (valueCell values.now i) }
+    ensures { result ≡ cell_right (value_cell_of values.now i) }
 {
     get16(values, 4 * i + 3) as u64
 }
@@ -90,7 +90,7 @@ fn right_word(values: &[u8], i: usize) -> u64
 // The bits of the access with the name i in the word that stands k words behind the first.
 pub fn in_word(values: &[u8], i: usize, k: u64, next: usize) -> Located
     requires { (8 * i + 8 ≤ length values.now) × (k < 65536) }
-    ensures { result ≡ locatedAt (valueCell values.now i) k next }
+    ensures { result ≡ located_at (value_cell_of values.now i) k next }
 {
     let word = first_word(values, i) + k as usize;
     Located::Field(word, lowest_bit(values, i), bit_count(values, i), next)
@@ -111,7 +111,7 @@ pub fn subscripted(records: &[u8], values: &[u8], i: usize, n: u64, p: usize) ->
 // What the carriers hold there.
 pub fn read(carriers: &[u8], at: Located) -> Evaluated
     requires { Readable carriers.now at }
-    ensures { result ≡ readAt carriers.now at }
+    ensures { result ≡ read_at carriers.now at }
 {
     match at {
         Located::Fault(p) => Evaluated::Fault(p),

@@ -1,8 +1,8 @@
 // Expressions, operands and accesses: an access with a subscript holds an expression, which holds accesses again. Only brackets nest, and `depth` falls
 // with each; NOTs and operators in a row are loops.
 ghost use Rattle.std.specs.Prelude.{◌≡◌, ◌+◌};
-ghost use Rattle.rules.specs.Text.Tokens.{LBra, kindNo};
-ghost use Rattle.records.specs.Holds.{kindByte};
+ghost use Rattle.rules.specs.Text.Tokens.{LBra, kind_no};
+ghost use Rattle.records.specs.Holds.{kind_byte};
 ghost use Rattle.operands.specs.Answers.{Closable, closed, Invertible, inverted};
 ghost use Rattle.operands.specs.Scene.{ExpressionAt, ExpressionAnswer, OperandAt, OperandAnswer, AccessAt, AccessAnswer};
 ghost use Rattle.operands.specs.Operands.{NestedAt};
@@ -67,7 +67,7 @@ pub fn access(records: &[u8], values: &[u8], carriers: &[u8], i: usize, depth: u
 // An access with a subscript, which is worked out first.
 #[cycle(access_chain_expression_indexed_nested_operand_pair)]
 fn indexed(records: &[u8], values: &[u8], carriers: &[u8], i: usize, depth: usize) -> Located
-    requires { AccessAt records.now values.now carriers.now i depth × (kindByte records.now (i + 1) ≡ kindNo LBra) }
+    requires { AccessAt records.now values.now carriers.now i depth × (kind_byte records.now (i + 1) ≡ kind_no LBra) }
     ensures { (v : AccessAt records.now values.now carriers.now i depth) → AccessAnswer v result }
 {
     let index = expression(records, values, carriers, i + 2, depth - 1);

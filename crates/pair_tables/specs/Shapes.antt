@@ -2,19 +2,19 @@
 use Rattle.std.specs.Prelude.{ℕ, Bool, true, false, ◌&&◌, eqb}
 use Rattle.table.specs.declared.views.Names.{Names}
 use Rattle.table.specs.declared.views.Names.TheVariants.{Missing, Unnamed, Span}
-use Rattle.spans.specs.Spans.{missingShown}
+use Rattle.spans.specs.Spans.{missing_shown}
 
-abbrev pub unnamedShown : Names → Bool
-unnamedShown Missing = false
-unnamedShown Unnamed = true
-unnamedShown (Span l r) = false
+abbrev pub unnamed_shown : Names → Bool
+unnamed_shown Missing = false
+unnamed_shown Unnamed = true
+unnamed_shown (Span l r) = false
 
-abbrev pub spanShown : Names → ℕ → ℕ → Bool
-spanShown Missing left right = false
-spanShown Unnamed left right = false
-spanShown (Span l r) left right = eqb l left && eqb r right
+abbrev pub span_shown : Names → ℕ → ℕ → Bool
+span_shown Missing left right = false
+span_shown Unnamed left right = false
+span_shown (Span l r) left right = eqb l left && eqb r right
 
-abbrev pub sameShown : Names → Names → Bool
-sameShown a Missing = missingShown a
-sameShown a Unnamed = unnamedShown a
-sameShown a (Span left right) = spanShown a left right
+abbrev pub same_shown : Names → Names → Bool
+same_shown a Missing = missing_shown a
+same_shown a Unnamed = unnamed_shown a
+same_shown a (Span left right) = span_shown a left right

@@ -7,4 +7,4 @@ use Rattle.rules.specs.Pair.{fault81}
 -- r is the offset of the first turn over 1, or the number of turns
 pub record FirstBad (turns : List ℕ) (r : ℕ) : Type 0 where
   pub bad : r < length turns → fault81 0 turns ≡ some (fault 81 r)
-  pub none-bad : length turns ≤ r → fault81 0 turns ≡ none
+  pub none_bad : length turns ≤ r → fault81 0 turns ≡ none

@@ -1,10 +1,10 @@
 // The joint table: the first text's words, then those of the second that it does not share. One pass over the second text's declarations.
 ghost use Rattle.std.specs.Prelude.{◌≡◌, ◌+◌, ◌*◌, ◌<◌, ◌≤◌, length};
-ghost use Rattle.rules.specs.Declarations.{totalWords};
-ghost use Rattle.rules.specs.Limits.{longestText, mostWords};
+ghost use Rattle.rules.specs.Declarations.{total_words};
+ghost use Rattle.rules.specs.Limits.{longest_text, most_words};
 ghost use Rattle.places.specs.Bases.{FirstsHold};
 ghost use Rattle.pair_tables.specs.Standing.{Stands, declared_by};
-ghost use Rattle.pair_tables.specs.Joining.{Reaches, firstBy, keyBy, freeBy, Joins};
+ghost use Rattle.pair_tables.specs.Joining.{Reaches, first_by, key_by, free_by, Joins};
 
 use crate::meeting::{Met, meet};
 use cells::{get16, put16};
@@ -24,7 +24,7 @@ pub struct Joined {
 // The first word of a declaration in the table, by what it meets, when `free` words are taken.
 fn first_of(starts: &[u8], met: Met, free: usize) -> u16
     requires { Reaches starts.now met × (free < 65536) }
-    ensures { result ≡ firstBy starts.now met free }
+    ensures { result ≡ first_by starts.now met free }
 {
     match met {
         Met::Shared(i) => get16(starts, i),
@@ -35,8 +35,8 @@ fn first_of(starts: &[u8], met: Met, free: usize) -> u16
 
 // The least key so far, with the clash of the declaration whose name stands at `place`.
 fn key_with(met: Met, key: u32, place: usize) -> u32
-    requires { place ≤ longestText }
-    ensures { result ≡ keyBy place met key }
+    requires { place ≤ longest_text }
+    ensures { result ≡ key_by place met key }
 {
     match met {
         Met::Clashing => earlier(key, fault_key(80, place)),
@@ -47,8 +47,8 @@ fn key_with(met: Met, key: u32, place: usize) -> u32
 
 // How many words of the table are taken behind a declaration that has so many.
 fn taken(met: Met, free: usize, words: usize) -> usize
-    requires { (free < 65536) × (words ≤ mostWords) }
-    ensures { result ≡ freeBy met free words }
+    requires { (free < 65536) × (words ≤ most_words) }
+    ensures { result ≡ free_by met free words }
 {
     match met {
         Met::Own => free + words,
@@ -75,7 +75,7 @@ fn join_behind(
 ) -> Joined
     requires stands { Stands text0.now records0.now values0.now decls0.now m0 × Stands text1.now records1.now values1.now decls1.now m1 }
     requires m1_in_bounds { ((v : Stands text0.now records0.now values0.now decls0.now m0)
-        → FirstsHold starts.now (declared_by v) m0 × (words0 ≡ totalWords (declared_by v))) × (2 * m1 ≤ length firsts.old) }
+        → FirstsHold starts.now (declared_by v) m0 × (words0 ≡ total_words (declared_by v))) × (2 * m1 ≤ length firsts.old) }
     ensures { ((v : Stands text0.now records0.now values0.now decls0.now m0)
         (w : Stands text1.now records1.now values1.now decls1.now m1)
         → Joins (declared_by v) (declared_by w) firsts.new result.key result.words) × (length firsts.new ≡ length firsts.old) }

@@ -1,12 +1,12 @@
 // 61 of the joint table: the first text's words over the front, then the second's that it does not share, behind them in their order.
 ghost use Rattle.std.specs.Prelude.{◌≡◌, ◌*◌, ◌≤◌, length};
-ghost use Rattle.rules.specs.Declarations.{Table, declaredOf, words_of};
-ghost use Rattle.rules.specs.Limits.{mostWords};
+ghost use Rattle.rules.specs.Declarations.{Table, declared_of, words_of};
+ghost use Rattle.rules.specs.Limits.{most_words};
 ghost use Rattle.rules.specs.Pair.{joint};
 ghost use Rattle.declare.specs.Listed.{SmallView};
 ghost use Rattle.table.specs.Views.{View};
 ghost use Rattle.table.specs.Ready.{Scene, table_of};
-ghost use Rattle.pair_tables.specs.Lengths.{own_words, Carried, Fits, longBehind, longJoint};
+ghost use Rattle.pair_tables.specs.Lengths.{own_words, Carried, Fits, long_behind, long_joint};
 
 use cells::get16;
 use declare::faults::words_in;
@@ -17,8 +17,8 @@ use table::views::bits_of;
 // The words that the declaration named p adds to the table, in which it begins at `first`: none where that is among the words of the first text.
 fn own_words(records: &[u8], values: &[u8], p: usize, words0: usize, first: usize) -> usize
     requires { SmallView records.now values.now p }
-    ensures { ((v : View records.now values.now p) → result ≡ own_words words0 first (words_of (declaredOf v.declaration)))
-        × (result ≤ mostWords) }
+    ensures { ((v : View records.now values.now p) → result ≡ own_words words0 first (words_of (declared_of v.declaration)))
+        × (result ≤ most_words) }
 {
     if first < words0 {
         return 0;
@@ -38,7 +38,7 @@ fn start_behind(
 ) -> Started
     requires { (first : Table) × (w : Scene records1.now values1.now decls1.now m1) × Carried first (table_of w) firsts.now words0 carriers.now }
     ensures { (first : Table) (w : Scene records1.now values1.now decls1.now m1)
-        → Carried first (table_of w) firsts.now words0 carriers.now → Fits (longBehind first (table_of w) carriers.now) result }
+        → Carried first (table_of w) firsts.now words0 carriers.now → Fits (long_behind first (table_of w) carriers.now) result }
 {
     let mut free = words0;
     let mut k: usize = 0;
@@ -76,7 +76,7 @@ pub fn start_joint(
     ensures { (v : Scene records0.now values0.now decls0.now m0)
         (w : Scene records1.now values1.now decls1.now m1)
         → Carried (table_of v) (table_of w) firsts.now words0 carriers.now
-        → Fits (longJoint (table_of v) (table_of w) carriers.now) result }
+        → Fits (long_joint (table_of v) (table_of w) carriers.now) result }
 {
     let size = 8 * words0;
     match start(records0, values0, decls0, m0, &carriers[..size]) {

@@ -1,7 +1,7 @@
 // What a declaration of the second text meets in the first.
 ghost use Rattle.std.specs.Prelude.{◌≡◌, true, List, ℕ};
-ghost use Rattle.rules.specs.Declarations.{declaredOf};
-ghost use Rattle.rules.specs.Pair.{isStorage, sameStorage};
+ghost use Rattle.rules.specs.Declarations.{declared_of};
+ghost use Rattle.rules.specs.Pair.{is_storage_of, same_storage};
 ghost use Rattle.pair_tables.specs.Standing.{Stands, declared_by, DeclaredIn};
 ghost use Rattle.pair_tables.specs.Meeting.{namesake, Meets};
 
@@ -30,8 +30,8 @@ fn is_namesake(
     requires declared_in { DeclaredIn text0.now records0.now values0.now p }
     requires by_index { (values : List ℕ) × DeclaredIn text1.now records1.now values q }
     ensures { (values : List ℕ) (v : DeclaredIn text0.now records0.now values0.now p)
-        (w : DeclaredIn text1.now records1.now values q) → isStorage (declaredOf w.declaration) ≡ true
-        → result ≡ sameStorage (declaredOf v.declaration) (declaredOf w.declaration) }
+        (w : DeclaredIn text1.now records1.now values q) → is_storage_of (declared_of w.declaration) ≡ true
+        → result ≡ same_storage (declared_of v.declaration) (declared_of w.declaration) }
 {
     if !same_words(text0, records0, p, text1, records1, q) {
         return false;
@@ -53,7 +53,7 @@ fn find_namesake(
 ) -> usize
     requires { Stands text0.now records0.now values0.now decls0.now m0 × DeclaredIn text1.now records1.now values1.now q }
     ensures { (v : Stands text0.now records0.now values0.now decls0.now m0)
-        (w : DeclaredIn text1.now records1.now values1.now q) → result ≡ namesake (declared_by v) (declaredOf w.declaration) }
+        (w : DeclaredIn text1.now records1.now values1.now q) → result ≡ namesake (declared_by v) (declared_of w.declaration) }
 {
     if !is_storage(records1, values1, q) {
         return m0;
@@ -83,7 +83,7 @@ pub fn meet(
 ) -> Met
     requires { Stands text0.now records0.now values0.now decls0.now m0 × DeclaredIn text1.now records1.now values1.now q }
     ensures { (v : Stands text0.now records0.now values0.now decls0.now m0)
-        (w : DeclaredIn text1.now records1.now values1.now q) → Meets (declared_by v) (declaredOf w.declaration) result }
+        (w : DeclaredIn text1.now records1.now values1.now q) → Meets (declared_by v) (declared_of w.declaration) result }
 {
     let i = find_namesake(
         text0, records0, values0, decls0, m0, text1, records1, values1, q,

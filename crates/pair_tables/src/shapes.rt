@@ -1,9 +1,9 @@
 // Whether declarations are storage, and whether two have the same names of words and bits in the same order.
 ghost use Rattle.std.specs.Prelude.{◌≡◌};
-ghost use Rattle.rules.specs.Declarations.{declaredOf};
-ghost use Rattle.rules.specs.Pair.{isStorage, same_shape};
+ghost use Rattle.rules.specs.Declarations.{declared_of};
+ghost use Rattle.rules.specs.Pair.{is_storage_of, same_shape};
 ghost use Rattle.table.specs.Views.{View};
-ghost use Rattle.pair_tables.specs.Shapes.{unnamedShown, spanShown, sameShown};
+ghost use Rattle.pair_tables.specs.Shapes.{unnamed_shown, span_shown, same_shown};
 
 use spans::is_missing;
 use table::views::{Names, bits_of, target_of, words_of};
@@ -11,7 +11,7 @@ use table::views::{Names, bits_of, target_of, words_of};
 // Whether the declaration named p is storage: it has bits and is no mapping.
 pub fn is_storage(records: &[u8], values: &[u8], p: usize) -> bool
     requires { View records.now values.now p }
-    ensures { (v : View records.now values.now p) → result ≡ isStorage (declaredOf v.declaration) }
+    ensures { (v : View records.now values.now p) → result ≡ is_storage_of (declared_of v.declaration) }
 {
     if target_of(records, p) != 0 {
         return false;
@@ -20,7 +20,7 @@ pub fn is_storage(records: &[u8], values: &[u8], p: usize) -> bool
 }
 
 fn is_unnamed(a: Names) -> bool
-    ensures { result ≡ unnamedShown a }
+    ensures { result ≡ unnamed_shown a }
 {
     match a {
         Names::Unnamed => true,
@@ -31,7 +31,7 @@ fn is_unnamed(a: Names) -> bool
 
 // Whether names run from `left` to `right`.
 fn is_span(a: Names, left: u64, right: u64) -> bool
-    ensures { result ≡ spanShown a left right }
+    ensures { result ≡ span_shown a left right }
 {
     match a {
         Names::Span(l, r) => {
@@ -46,7 +46,7 @@ fn is_span(a: Names, left: u64, right: u64) -> bool
 }
 
 fn same_names(a: Names, b: Names) -> bool
-    ensures { result ≡ sameShown a b }
+    ensures { result ≡ same_shown a b }
 {
     match b {
         Names::Missing => is_missing(a),
@@ -66,7 +66,7 @@ pub fn same_shape(
 ) -> bool
     requires { View records0.now values0.now p × View records1.now values1.now q }
     ensures { (v : View records0.now values0.now p) (w : View records1.now values1.now q)
-        → result ≡ same_shape (declaredOf v.declaration) (declaredOf w.declaration) }
+        → result ≡ same_shape (declared_of v.declaration) (declared_of w.declaration) }
 {
     if !same_names(
         words_of(records0, values0, p),

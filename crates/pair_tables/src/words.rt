@@ -1,7 +1,7 @@
 // Whether names of two texts have the same word. Words are compared where they stand, with letters folded.
 ghost use Rattle.std.specs.Prelude.{◌≡◌, ◌+◌, ◌≤◌, length};
-ghost use Rattle.rules.specs.Text.Scan.{sameBytes};
-ghost use Rattle.records.specs.Holds.{foldedAt};
+ghost use Rattle.rules.specs.Text.Scan.{same_bytes};
+ghost use Rattle.records.specs.Holds.{folded_at};
 ghost use Rattle.pair_tables.specs.Words.{NameIn, word_in};
 
 use classes::letters::upper;
@@ -10,7 +10,7 @@ use records::fields::{place_at, size_at};
 // Whether n bytes of one text at a and of another at b are the same but for the case of letters.
 fn same_runs(text0: &[u8], text1: &[u8], a: usize, b: usize, n: usize) -> bool
     requires { (a + n ≤ length text0.now) × (b + n ≤ length text1.now) }
-    ensures { result ≡ sameBytes (foldedAt text0.now a n) (foldedAt text1.now b n) }
+    ensures { result ≡ same_bytes (folded_at text0.now a n) (folded_at text1.now b n) }
 {
     let mut k: usize = 0;
     while k < n {
@@ -35,7 +35,7 @@ pub fn same_words(
 ) -> bool
     requires { NameIn text0.now records0.now i × NameIn text1.now records1.now j }
     ensures { (v : NameIn text0.now records0.now i) (w : NameIn text1.now records1.now j)
-        → result ≡ sameBytes (word_in v) (word_in w) }
+        → result ≡ same_bytes (word_in v) (word_in w) }
 {
     let n = size_at(records0, i);
     let m = size_at(records1, j);

@@ -3,15 +3,15 @@ use Rattle.std.specs.Prelude.{ℕ, ◌*◌, ◌≤◌, ◌≡◌, List, drop}
 use Rattle.std.proofs.Math.Option.{some}
 use Rattle.cells.specs.Cells.{cells}
 use Rattle.rules.specs.Grammar.Trees.{Tokens, Action}
-use Rattle.rules.specs.Declarations.{Word, Table, body_of, totalWords}
-use Rattle.rules.specs.Steps.Runs.{runWith, run}
-use Rattle.rules.specs.Faults.Whole.{mainName}
-use Rattle.rules.specs.Pair.{Side, secondSide, turnRun}
+use Rattle.rules.specs.Declarations.{Word, Table, body_of, total_words}
+use Rattle.rules.specs.Steps.Runs.{run_with, run}
+use Rattle.rules.specs.Faults.Whole.{main_name}
+use Rattle.rules.specs.Pair.{Side, second_side, turn_run}
 use Rattle.laws_orders.specs.Cited.Flat.{Code}
 use Rattle.promise.specs.Promise.{Promise}
-use Rattle.runner.specs.Runs.{endingOf, steps_of}
+use Rattle.runner.specs.Runs.{ending_of, steps_of}
 use Rattle.runner.specs.declared.runs.Ended.{Ended}
-use Rattle.pair_turns.specs.Words.{tableWords, Sees}
+use Rattle.pair_turns.specs.Words.{table_words, Sees}
 
 -- an accepted description whose MAIN begins at `begin`, whatever its carriers are
 pub record Runnable (records values decls : List ℕ) (begin : ℕ) (ds : Table) : Type 0 where
@@ -21,12 +21,12 @@ pub record Runnable (records values decls : List ℕ) (begin : ℕ) (ds : Table)
   pub code : Code
   pub promise : Promise text records values decls tokens outer ds code
   pub body : Action
-  pub declared : body_of ds (mainName ds) ≡ some body
-  pub begins : begin ≡ code.first (mainName ds)
+  pub declared : body_of ds (main_name ds) ≡ some body
+  pub begins : begin ≡ code.first (main_name ds)
 
 -- its run on the first w words of bytes; those behind are as they were
 pub record FrontRun (ds : Table) (w budget : ℕ) (before after : List ℕ) (r : Ended) : Type 0 where
-  pub same : run ds (mainName ds) budget (cells 8 w before) ≡ runWith (endingOf r) (steps_of r) (cells 8 w after)
+  pub same : run ds (main_name ds) budget (cells 8 w before) ≡ run_with (ending_of r) (steps_of r) (cells 8 w after)
   pub behind : drop (8 * w) after ≡ drop (8 * w) before
 
 -- a side that sees w words of the table, by their numbers in `view`
@@ -35,7 +35,7 @@ seeing ds w view = record { declared = ds; view = cells 2 w view }
 
 -- a turn of a side, from a table and to another
 pub record Turned (x : Side) (budget : ℕ) (before after : List ℕ) (r : Ended) : Type 0 where
-  pub same : turnRun x budget (tableWords before) ≡ runWith (endingOf r) (steps_of r) (tableWords after)
+  pub same : turn_run x budget (table_words before) ≡ run_with (ending_of r) (steps_of r) (table_words after)
 
 -- two descriptions over a table of that many bytes
 pub record Sides (records₀ values₀ decls₀ : List ℕ) (begin₀ w₀ : ℕ) (records₁ values₁ decls₁ : List ℕ) (begin₁ w₁ : ℕ) (view : List ℕ) (size : ℕ) : Type 0 where
@@ -43,8 +43,8 @@ pub record Sides (records₀ values₀ decls₀ : List ℕ) (begin₀ w₀ : ℕ
   pub second : Table
   pub runs₀ : Runnable records₀ values₀ decls₀ begin₀ first
   pub runs₁ : Runnable records₁ values₁ decls₁ begin₁ second
-  pub count₀ : w₀ ≡ totalWords first
-  pub count₁ : w₁ ≡ totalWords second
+  pub count₀ : w₀ ≡ total_words first
+  pub count₁ : w₁ ≡ total_words second
   pub front : 8 * w₀ ≤ size
   pub sees : Sees view w₁ size
-  pub views : cells 2 w₁ view ≡ (secondSide first second).view
+  pub views : cells 2 w₁ view ≡ (second_side first second).view

@@ -1,8 +1,8 @@
 -- The numbers of words as cells of two bytes.
 use Rattle.std.specs.Prelude.{ℕ, ◌+◌, ◌<◌, ◌≡◌, List}
 use Rattle.cells.specs.Cells.{cell, cells}
-use Rattle.rules.specs.Declarations.{Table, totalWords}
-use Rattle.rules.specs.Pair.{wordsAt}
+use Rattle.rules.specs.Declarations.{Table, total_words}
+use Rattle.rules.specs.Pair.{words_at}
 
 -- n cells from `at` on count up from `first`, and those before them are as they were
 pub record CountedUp (old new : List ℕ) (at n first : ℕ) : Type 0 where
@@ -11,5 +11,5 @@ pub record CountedUp (old new : List ℕ) (at n first : ℕ) : Type 0 where
 
 -- the view of m declarations whose first words stand in `firsts`
 pub record Filled (ds : Table) (firsts : List ℕ) (m : ℕ) (view : List ℕ) (n : ℕ) : Type 0 where
-  pub count : n ≡ totalWords ds
-  pub is : cells 2 n view ≡ wordsAt ds (cells 2 m firsts)
+  pub count : n ≡ total_words ds
+  pub is : cells 2 n view ≡ words_at ds (cells 2 m firsts)

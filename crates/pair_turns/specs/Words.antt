@@ -4,8 +4,8 @@ use Rattle.cells.specs.Cells.{cell, cells}
 use Rattle.rules.specs.Steps.Evaluation.{Carriers}
 
 -- all words of a table
-abbrev pub tableWords : List ℕ → Carriers
-tableWords bytes = cells 8 (length bytes / 8) bytes
+abbrev pub table_words : List ℕ → Carriers
+table_words bytes = cells 8 (length bytes / 8) bytes
 
 -- n numbers of words in a table of that many bytes
 pub record Sees (view : List ℕ) (n size : ℕ) : Type 0 where

@@ -1,7 +1,7 @@
 // The turns of a list, one after another, from one budget for all.
 ghost use Rattle.std.specs.Prelude.{◌≡◌, ◌*◌, ◌≤◌, length};
 ghost use Rattle.pair_turns.specs.Turns.{Sides};
-ghost use Rattle.pair_turns.specs.Taking.{wellEnded, Took};
+ghost use Rattle.pair_turns.specs.Taking.{well_ended, Took};
 
 use crate::turns::turn;
 use runner::runs::Ended;
@@ -15,7 +15,7 @@ pub struct Last {
 
 // Turns that ended well, the last of them by a STOP() or not.
 fn well(stopped: bool, steps: u32) -> Ended
-    ensures { result ≡ wellEnded stopped steps }
+    ensures { result ≡ well_ended stopped steps }
 {
     if stopped {
         return Ended::Stopped(steps);

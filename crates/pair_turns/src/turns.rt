@@ -1,6 +1,6 @@
 // One turn: a run of one of the two descriptions on the table.
 ghost use Rattle.std.specs.Prelude.{◌≡◌, ◌*◌, ◌≤◌, length};
-ghost use Rattle.rules.specs.Declarations.{Table, totalWords};
+ghost use Rattle.rules.specs.Declarations.{Table, total_words};
 ghost use Rattle.rules.specs.Pair.{side_of};
 ghost use Rattle.pair_turns.specs.Words.{Sees};
 ghost use Rattle.pair_turns.specs.Turns.{Runnable, FrontRun, seeing, Turned, Sides};
@@ -19,9 +19,9 @@ fn front_run(
     scratch: &mut [u8],
     budget: u32,
 ) -> Ended
-    requires runnable { (ds : Table) × Runnable records.now values.now decls.now begin ds × (w ≡ totalWords ds) }
+    requires runnable { (ds : Table) × Runnable records.now values.now decls.now begin ds × (w ≡ total_words ds) }
     requires w_in_bounds { (8 * w ≤ length words.old) × (512 ≤ length scratch.old) }
-    ensures { (ds : Table) → Runnable records.now values.now decls.now begin ds → w ≡ totalWords ds
+    ensures { (ds : Table) → Runnable records.now values.now decls.now begin ds → w ≡ total_words ds
         → FrontRun ds w budget words.old words.new result }
 {
     run(
@@ -48,9 +48,9 @@ fn second_turn(
     scratch: &mut [u8],
     budget: u32,
 ) -> Ended
-    requires runnable { (ds : Table) × Runnable records.now values.now decls.now begin ds × (w ≡ totalWords ds) }
+    requires runnable { (ds : Table) × Runnable records.now values.now decls.now begin ds × (w ≡ total_words ds) }
     requires sees { Sees view.now w (length carriers.old) × ((8 * w ≤ length own.old) × (512 ≤ length scratch.old)) }
-    ensures { (ds : Table) → Runnable records.now values.now decls.now begin ds → w ≡ totalWords ds
+    ensures { (ds : Table) → Runnable records.now values.now decls.now begin ds → w ≡ total_words ds
         → Turned (seeing ds w view.now) budget carriers.old carriers.new result }
 {
     take_out(view, w, carriers, own);

@@ -1,7 +1,7 @@
 // Where the second description's words lie in the table: the number of the table's word for each of them, two bytes each.
 ghost use Rattle.std.specs.Prelude.{List, ℕ, ◌+◌, ◌*◌, ◌<◌, ◌≤◌, length};
 ghost use Rattle.cells.specs.Cells.{cell};
-ghost use Rattle.rules.specs.Limits.{mostWords};
+ghost use Rattle.rules.specs.Limits.{most_words};
 ghost use Rattle.rules.specs.Grammar.Trees.{Tokens, Description};
 ghost use Rattle.rules.specs.Declarations.{declarations};
 ghost use Rattle.table.specs.Ready.{Ready};
@@ -32,7 +32,7 @@ pub fn fill_view(
     view: &mut [u8],
 ) -> usize
     requires by_index { (text : List ℕ) × (ts : Tokens) × (d : Description) × Ready text records.now values.now decls.now ts d m }
-    requires m_in_bounds { (2 * m ≤ length firsts.now) × (2 * mostWords ≤ length view.old) × ((k : ℕ) → k < m → cell 2 firsts.now k ≤ mostWords) }
+    requires m_in_bounds { (2 * m ≤ length firsts.now) × (2 * most_words ≤ length view.old) × ((k : ℕ) → k < m → cell 2 firsts.now k ≤ most_words) }
     ensures { (text : List ℕ) (ts : Tokens) (d : Description) → Ready text records.now values.now decls.now ts d m
         → Filled (declarations d) firsts.now m view.new result }
 {

@@ -1,11 +1,11 @@
 -- Whether memory is enough and both texts are short enough, as the code finds it.
 use Rattle.std.specs.Prelude.{ℕ, ◌<◌, ◌≤◌, List, ◌⊎◌, length}
-use Rattle.rules.specs.Limits.{longestText}
+use Rattle.rules.specs.Limits.{longest_text}
 use Rattle.rules.specs.Calls.Memory.{Memory}
 use Rattle.rules.specs.Calls.Pair.{MoreMemory, PairMemory}
 
 -- the number of the refusal for which no text is read, or 0
 pub data Unread (first second : List ℕ) (m : Memory) (r : MoreMemory) : ℕ → Type 0 where
-  short-memory : (PairMemory m r → ⊥) → Unread first second m r 1
-  long-text : PairMemory m r → (longestText < length first) ⊎ (longestText < length second) → Unread first second m r 2
-  none : PairMemory m r → length first ≤ longestText → length second ≤ longestText → Unread first second m r 0
+  short_memory : (PairMemory m r → ⊥) → Unread first second m r 1
+  long_text : PairMemory m r → (longest_text < length first) ⊎ (longest_text < length second) → Unread first second m r 2
+  none : PairMemory m r → length first ≤ longest_text → length second ≤ longest_text → Unread first second m r 0

@@ -1,9 +1,9 @@
 // The answer to two texts: the numbers of a refusal or of a run, with the side as number 4.
 ghost use Rattle.std.specs.Prelude.{◌≡◌, [], ◌<◌, set};
 ghost use Rattle.rules.specs.Pair.{turned_down, together};
-ghost use Rattle.rules.specs.Calls.Pair.{pairNumbers};
-ghost use Rattle.lent.specs.Numbers.{numbersOf};
-ghost use Rattle.runner.specs.Runs.{endingOf, steps_of};
+ghost use Rattle.rules.specs.Calls.Pair.{pair_numbers};
+ghost use Rattle.lent.specs.Numbers.{numbers_of};
+ghost use Rattle.runner.specs.Runs.{ending_of, steps_of};
 ghost use Rattle.pairing.specs.Outcome.{BadTurn, Tells};
 
 use lent::answers::{Answer, refusal};
@@ -12,7 +12,7 @@ use preparing::endings::ended_answer;
 
 // An answer with a side.
 fn with_side(a: Answer, side: u32) -> Answer
-    ensures { numbersOf result ≡ set (numbersOf a) 4 side }
+    ensures { numbers_of result ≡ set (numbers_of a) 4 side }
 {
     Answer {
         ending: a.ending,
@@ -28,8 +28,8 @@ fn with_side(a: Answer, side: u32) -> Answer
 
 // How the last turn ended, with its side.
 pub fn last_answer(first: &[u8], second: &[u8], last: Last) -> Answer
-    ensures { numbersOf result ≡ pairNumbers first.now second.now
-        (together (endingOf last.ended) last.side (steps_of last.ended) []) }
+    ensures { numbers_of result ≡ pair_numbers first.now second.now
+        (together (ending_of last.ended) last.side (steps_of last.ended) []) }
 {
     let ended = last.ended;
     let side = last.side as u32;

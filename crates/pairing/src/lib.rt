@@ -5,7 +5,7 @@ mod texts;
 mod turned;
 
 ghost use Rattle.rules.specs.Calls.Memory.{memory};
-ghost use Rattle.rules.specs.Calls.Pair.{more-memory, PairCall};
+ghost use Rattle.rules.specs.Calls.Pair.{more_memory, PairCall};
 
 use crate::memory::unread_pair;
 use crate::texts::pair_texts;
@@ -31,7 +31,7 @@ pub fn pair(
     ensures { PairCall first.now second.now carriers.old turns.now budget
         (memory a.old b.old c.old answer.old)
         (memory a.new b.new c.new answer.new)
-        (more-memory d.old e.old f.old) (more-memory d.new e.new f.new)
+        (more_memory d.old e.old f.old) (more_memory d.new e.new f.new)
         carriers.new result }
 {
     let refused = unread_pair(first, second, a, b, c, d, e, f, answer);

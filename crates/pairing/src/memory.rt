@@ -1,6 +1,6 @@
 // What is lent to two texts: whether it is enough.
 ghost use Rattle.rules.specs.Calls.Memory.{memory};
-ghost use Rattle.rules.specs.Calls.Pair.{more-memory};
+ghost use Rattle.rules.specs.Calls.Pair.{more_memory};
 ghost use Rattle.pairing.specs.Unread.{Unread};
 
 use lent::memory::{WORK_SIZE, unread};
@@ -19,7 +19,7 @@ pub fn unread_pair(
     answer: &[u8],
 ) -> u32
     ensures { Unread first.now second.now (memory a.now b.now c.now answer.now)
-        (more-memory d.now e.now f.now) result }
+        (more_memory d.now e.now f.now) result }
 {
     if d.len() < WORK_SIZE {
         return 1;

@@ -1,6 +1,6 @@
 // Two texts with their working memory: each one's own refusal, then what is refused of both, then their turns.
 ghost use Rattle.std.specs.Prelude.{ℕ, ◌≤◌, length};
-ghost use Rattle.rules.specs.Limits.{longestText};
+ghost use Rattle.rules.specs.Limits.{longest_text};
 ghost use Rattle.accepted.specs.Accepted.{Accepts};
 ghost use Rattle.pairing.specs.Outcome.{Outcome};
 
@@ -95,7 +95,7 @@ fn pair_second(
     turns: &[u8],
     budget: u32,
 ) -> Answer
-    requires accepts { Accepts text0.now records0.old values0.old decls0.now m0 words0 n0 × (length text1.now ≤ longestText) }
+    requires accepts { Accepts text0.now records0.old values0.old decls0.now m0 words0 n0 × (length text1.now ≤ longest_text) }
     requires in_bounds { (65536 ≤ length room0.old) × ((512 ≤ length decls0.now) × ((65536 ≤ length records1.old)
         × ((65536 ≤ length values1.old) × (65536 ≤ length room1.old)))) }
     ensures { Outcome text0.now text1.now carriers.old turns.now budget carriers.new result }
@@ -124,7 +124,7 @@ pub fn pair_texts(
     e: &mut [u8],
     f: &mut [u8],
 ) -> Answer
-    requires text0_len_bound { (length text0.now ≤ longestText) × (length text1.now ≤ longestText) }
+    requires text0_len_bound { (length text0.now ≤ longest_text) × (length text1.now ≤ longest_text) }
     requires in_bounds { (65536 ≤ length a.old) × ((65536 ≤ length b.old) × ((65536 ≤ length c.old)
         × ((65536 ≤ length d.old) × ((65536 ≤ length e.old) × (65536 ≤ length f.old))))) }
     ensures { Outcome text0.now text1.now carriers.old turns.now budget carriers.new result }

@@ -1,6 +1,6 @@
 // The turns of two accepted texts whose carriers and turns are not refused.
 ghost use Rattle.std.specs.Prelude.{ℕ, ◌≤◌, length};
-ghost use Rattle.accepted.specs.Accepted.{Accepts, table-by};
+ghost use Rattle.accepted.specs.Accepted.{Accepts, table_by};
 ghost use Rattle.pair_tables.specs.Judging.{Begins};
 ghost use Rattle.pairing.specs.Outcome.{Outcome};
 ghost use Rattle.pairing.specs.Begun.{Numbered, BothBegun};
@@ -81,7 +81,7 @@ pub fn turned(
 ) -> Answer
     requires by_index { (words1 : ℕ) × (v : Accepts text0.now records0.old values0.old decls0.now m0 words0 n0)
         × (u : Accepts text1.now records1.old values1.old decls1.now m1 words1 n1)
-        × Begins (table-by v) (table-by u) firsts.old carriers.old turns.now }
+        × Begins (table_by v) (table_by u) firsts.old carriers.old turns.now }
     requires in_bounds { (65536 ≤ length room0.old) × ((65536 ≤ length room1.old) × ((512 ≤ length decls0.now)
         × ((512 ≤ length decls1.now) × (512 ≤ length firsts.old)))) }
     ensures { Outcome text0.now text1.now carriers.old turns.now budget carriers.new result }

@@ -2,43 +2,43 @@
 use Rattle.std.specs.Prelude.{ℕ, Bool, true, ◌&&◌, List, [], ◌∷◌, ◌++◌, T, get_or, replicate}
 use Prim.Native.String.{String}
 use Rattle.rules.specs.Text.Bytes.{bytes}
-use Rattle.rules.specs.Answers.{judgement, place_of, littleEndian, wordsFrom, bytes_of, bufferOf, wordLengths, longWord}
-use Rattle.rules.specs.Declarations.{howMany, fromLeft, fromRight, bitCount, rest_of, declarations, numberFrom, number_of, storageWords, totalWords}
-use Rattle.rules.specs.Declarations.{first_word, reachStorage, lowBit, reachOn, reachUnder, reachOf, reachNumber, reach, bodyNumber, body_of}
-use Rattle.rules.specs.Declarations.{accessLow, accessBits}
-use Rattle.rules.specs.Faults.Bodies.{judgeName, judgeAccess, judge, judgeFactor, judgeIndex, faultsIn, judgeJoined, storedTwice}
-use Rattle.rules.specs.Faults.Bodies.{patternsMeet, reaches, itemsMeet, meetsAny, someMeet, past, countedFaults, selectedFaults, moreFaults}
-use Rattle.rules.specs.Faults.Bodies.{alternativesFaults, labels, memberLabels, alternativeLabels, countedLabels, selectedLabels, moreLabels}
-use Rattle.rules.specs.Faults.Bodies.{labelFaults, actionFaults, membersFaults, insideFaults, insideCounted, insideSelected, insideMore}
-use Rattle.rules.specs.Faults.Bodies.{declaredNames, faults40}
-use Rattle.rules.specs.Faults.Declared.{isKnown, twice, large, tooMany, among, inside, badMapping, mappings, faults30}
-use Rattle.rules.specs.Faults.Fault.{leastFrom, least}
-use Rattle.rules.specs.Faults.Whole.{mains, mainName, chains, racesAny, groupFaults, members_of, alternativesGroups, countedGroups, selectedGroups}
-use Rattle.rules.specs.Faults.Whole.{moreGroups, groupsFaults, faults50}
-use Rattle.rules.specs.Grammar.Precedence.{insert-by, insert, inserts, arrange, factorOf, linksOf, index_of, amountOf, exprOf}
-use Rattle.rules.specs.Grammar.Verdict.{opens, closes, counted-by, count, opened}
-use Rattle.rules.specs.Selectors.{item_of, agree, matches, highest, items_of, selectorItems, anyMatches, takes}
-use Rattle.rules.specs.Steps.Actions.{access, joinedAccesses, actOf, groups, altsOf, countedAlts, selectedAlts, moreAlts}
-use Rattle.rules.specs.Steps.Control.{start, leftmost, workI, choose, nextI}
-use Rattle.rules.specs.Steps.Evaluation.{then, wordOr70, word_of, fieldIn, field_of, evaluate, evaluateFactor, evaluateIndex, evaluateAccess}
-use Rattle.rules.specs.Steps.Evaluation.{evaluateAccesses, storeAll, transferred}
-use Rattle.rules.specs.Steps.Runs.{bodyAct, begin, run_from, run}
-use Rattle.rules.specs.Text.Bytes.{classIn, classOf, inName, inConstant, inComment, fold, leading as run-Bytes}
-use Rattle.rules.specs.Text.Constants.{digitBits, digitValue, isDigitOf, isBasedDigit, all, any, valueFrom, freeDigit, freeFrom, bitsFrom}
-use Rattle.rules.specs.Text.Constants.{decimalBits, decimal, based}
-use Rattle.rules.specs.Text.Scan.{sameBytes, wordKind, markAt, wordLexeme, constantLexeme, markLexeme, lexemeBy, lexeme, scanFrom, scan}
-use Rattle.rules.specs.Values.{opBits, bitwise, opNumber, operate, notNumber, fnBits, ones, count_leading_zeros, count_trailing_zeros, fnNumber, apply, field, withField, total, cut}
-use Rattle.rules.specs.Whole.Sets.{owner, reads_of, factorReads, indexReads, subscriptReads, stores, setsOf, setsI, setsAlts, bodySets, touched, member}
-use Rattle.rules.specs.Whole.Sets.{member, meet, race, stopsIn, stopsI, stopsAlts, bodyStops, mayStop, callsIn, callsI, callsAlts, anyName}
-use Rattle.rules.specs.Whole.Sets.{chainOver}
-use Rattle.laws_grammar.specs.Answers.{descriptionOf, check}
-use Rattle.laws_grammar.specs.Cited.Rows.{lookup, too-deep, judge as judge-Rows, run as run-Rows, recognise}
+use Rattle.rules.specs.Answers.{judgement, place_of, little_endian, words_from, bytes_of, buffer_of, word_lengths, long_word}
+use Rattle.rules.specs.Declarations.{how_many, from_left, from_right, bit_count, rest_of, declarations, number_from, number_of, storage_words, total_words}
+use Rattle.rules.specs.Declarations.{first_word, reach_storage, low_bit, reach_on, reach_under, reach_of, reach_number, reach, body_number, body_of}
+use Rattle.rules.specs.Declarations.{access_low, access_bits}
+use Rattle.rules.specs.Faults.Bodies.{judge_name, judge_access, judge, judge_factor, judge_index, faults_in, judge_joined, stored_twice}
+use Rattle.rules.specs.Faults.Bodies.{patterns_meet, reaches, items_meet, meets_any, some_meet_of, past, counted_faults, selected_faults, more_faults}
+use Rattle.rules.specs.Faults.Bodies.{alternatives_faults, labels, member_labels, alternative_labels, counted_labels, selected_labels, more_labels}
+use Rattle.rules.specs.Faults.Bodies.{label_faults, action_faults, members_faults, inside_faults, inside_counted, inside_selected, inside_more}
+use Rattle.rules.specs.Faults.Bodies.{declared_names, faults40}
+use Rattle.rules.specs.Faults.Declared.{is_known, twice, large, too_many, among, inside, bad_mapping, mappings, faults30}
+use Rattle.rules.specs.Faults.Fault.{least_from, least}
+use Rattle.rules.specs.Faults.Whole.{mains, main_name, chains, races_any, group_faults, members_of, alternatives_groups, counted_groups, selected_groups}
+use Rattle.rules.specs.Faults.Whole.{more_groups, groups_faults, faults50}
+use Rattle.rules.specs.Grammar.Precedence.{insert_by, insert, inserts, arrange, factor_of, links_of, index_of, amount_of, expr_of}
+use Rattle.rules.specs.Grammar.Verdict.{opens, closes, counted_by, count, opened}
+use Rattle.rules.specs.Selectors.{item_of, agree, matches, highest, items_of, selector_items, any_matches, takes}
+use Rattle.rules.specs.Steps.Actions.{access, joined_accesses, act_of, groups, alts_of, counted_alts, selected_alts, more_alts}
+use Rattle.rules.specs.Steps.Control.{start, leftmost, work_i, choose, next_i}
+use Rattle.rules.specs.Steps.Evaluation.{then, word_or70, word_of, field_in, field_of, evaluate, evaluate_factor, evaluate_index, evaluate_access}
+use Rattle.rules.specs.Steps.Evaluation.{evaluate_accesses, store_all, transferred}
+use Rattle.rules.specs.Steps.Runs.{body_act, begin, run_from, run}
+use Rattle.rules.specs.Text.Bytes.{class_in, class_of, in_name, in_constant, in_comment, fold, leading as run_Bytes}
+use Rattle.rules.specs.Text.Constants.{digit_bits, digit_value, is_digit_of, is_based_digit, all, any, value_from, free_digit, free_from, bits_from}
+use Rattle.rules.specs.Text.Constants.{decimal_bits, decimal, based}
+use Rattle.rules.specs.Text.Scan.{same_bytes, word_kind, mark_at, word_lexeme, constant_lexeme, mark_lexeme, lexeme_by, lexeme, scan_from, scan}
+use Rattle.rules.specs.Values.{op_bits, bitwise, op_number, operate, not_number, fn_bits, ones, count_leading_zeros, count_trailing_zeros, fn_number, apply, field, with_field, total, cut}
+use Rattle.rules.specs.Whole.Sets.{owner, reads_of, factor_reads, index_reads_of, subscript_reads, stores, sets_of, sets_i, sets_alts, body_sets, touched, member}
+use Rattle.rules.specs.Whole.Sets.{member, meet, race, stops_in, stops_i, stops_alts, body_stops, may_stop, calls_in, calls_i, calls_alts, any_name}
+use Rattle.rules.specs.Whole.Sets.{chain_over}
+use Rattle.laws_grammar.specs.Answers.{description_of, check}
+use Rattle.laws_grammar.specs.Cited.Rows.{lookup, too_deep, judge as judge_Rows, run as run_Rows, recognise}
 use Rattle.laws_grammar.specs.Grammar.Reading.{find, split, put, act, read}
 use Rattle.std.proofs.Math.Decide.{dec_lt}
 use Rattle.rules.specs.Keeping.{fault60, fault61}
 use Rattle.rules.specs.Positions.{position_of, further, behind}
-use Rattle.rules.specs.Pair.{sharedFrom, clashes, faults80, fault81, unshared, fault32, up_from, firstWords, wordsAt, seen, put_back, ownRun, turnRun, turnsTaken, total_of, pairOn}
-use Rattle.rules.specs.Calls.Pair.{pairNumbers, tableLeft}
+use Rattle.rules.specs.Pair.{shared_from, clashes, faults80, fault81, unshared, fault32, up_from, first_words, words_at, seen, put_back, own_run, turn_run, turns_taken, total_of, pair_on}
+use Rattle.rules.specs.Calls.Pair.{pair_numbers, table_left}
 use Rattle.pairs.specs.Laws.Answers.{pairing}
 
 -- a carrier word below 256, as its eight bytes
@@ -109,28 +109,28 @@ text i c = get_or c.texts i []
 unfoldable pub so : Case → Bool
 so c =
     let x = pairing (text 0 c) (text 1 c) c.carriers c.turns c.budget in
-    sameBytes (pairNumbers (text 0 c) (text 1 c) x) c.numbers && sameBytes (tableLeft c.carriers x) c.left
+    same_bytes (pair_numbers (text 0 c) (text 1 c) x) c.numbers && same_bytes (table_left c.carriers x) c.left
 
-unfoldable pub allSo : List Case → Bool
-allSo [] = true
-allSo (c ∷ cs) = so c && allSo cs
+unfoldable pub all_so : List Case → Bool
+all_so [] = true
+all_so (c ∷ cs) = so c && all_so cs
 
-pub worked-out : T (allSo cases)
-unfolding judgement place_of littleEndian wordsFrom bytes_of bufferOf wordLengths longWord howMany fromLeft fromRight bitCount rest_of
-    declarations numberFrom number_of storageWords totalWords first_word reachStorage lowBit reachOn reachUnder reachOf reachNumber reach bodyNumber
-    body_of accessLow accessBits judgeName judgeAccess judge judgeFactor judgeIndex faultsIn judgeJoined storedTwice patternsMeet reaches
-    itemsMeet meetsAny someMeet past countedFaults selectedFaults moreFaults alternativesFaults labels memberLabels alternativeLabels countedLabels
-    selectedLabels moreLabels labelFaults actionFaults membersFaults insideFaults insideCounted insideSelected insideMore declaredNames faults40
-    isKnown twice large tooMany among inside badMapping mappings faults30 leastFrom least mains mainName chains racesAny groupFaults members_of
-    alternativesGroups countedGroups selectedGroups moreGroups groupsFaults faults50 insert-by insert inserts arrange factorOf
-    linksOf index_of amountOf exprOf opens closes counted-by count opened item_of agree matches highest items_of selectorItems anyMatches takes access
-    joinedAccesses actOf groups altsOf countedAlts selectedAlts moreAlts start leftmost workI choose nextI then wordOr70 word_of fieldIn field_of
-    evaluate evaluateFactor evaluateIndex evaluateAccess evaluateAccesses storeAll transferred bodyAct begin run_from run classIn classOf inName
-    inConstant inComment fold run-Bytes digitBits digitValue isDigitOf isBasedDigit all any valueFrom freeDigit freeFrom bitsFrom decimalBits decimal
-    based sameBytes wordKind markAt wordLexeme constantLexeme markLexeme lexemeBy lexeme scanFrom scan opBits bitwise opNumber operate notNumber
-    fnBits ones count_leading_zeros count_trailing_zeros fnNumber apply field withField total cut owner reads_of factorReads indexReads subscriptReads stores setsOf setsI setsAlts bodySets touched member meet
-    race stopsIn stopsI stopsAlts bodyStops mayStop callsIn callsI callsAlts anyName chainOver descriptionOf check
-    lookup too-deep judge-Rows run-Rows recognise find split put act read dec_lt
-    pairing pairOn sharedFrom clashes faults80 fault81 unshared fault32 up_from firstWords wordsAt seen put_back ownRun turnRun turnsTaken total_of fault60 fault61
-    position_of further behind so allSo
-worked-out = tt
+pub worked_out : T (all_so cases)
+unfolding judgement place_of little_endian words_from bytes_of buffer_of word_lengths long_word how_many from_left from_right bit_count rest_of
+    declarations number_from number_of storage_words total_words first_word reach_storage low_bit reach_on reach_under reach_of reach_number reach body_number
+    body_of access_low access_bits judge_name judge_access judge judge_factor judge_index faults_in judge_joined stored_twice patterns_meet reaches
+    items_meet meets_any some_meet_of past counted_faults selected_faults more_faults alternatives_faults labels member_labels alternative_labels counted_labels
+    selected_labels more_labels label_faults action_faults members_faults inside_faults inside_counted inside_selected inside_more declared_names faults40
+    is_known twice large too_many among inside bad_mapping mappings faults30 least_from least mains main_name chains races_any group_faults members_of
+    alternatives_groups counted_groups selected_groups more_groups groups_faults faults50 insert_by insert inserts arrange factor_of
+    links_of index_of amount_of expr_of opens closes counted_by count opened item_of agree matches highest items_of selector_items any_matches takes access
+    joined_accesses act_of groups alts_of counted_alts selected_alts more_alts start leftmost work_i choose next_i then word_or70 word_of field_in field_of
+    evaluate evaluate_factor evaluate_index evaluate_access evaluate_accesses store_all transferred body_act begin run_from run class_in class_of in_name
+    in_constant in_comment fold run_Bytes digit_bits digit_value is_digit_of is_based_digit all any value_from free_digit free_from bits_from decimal_bits decimal
+    based same_bytes word_kind mark_at word_lexeme constant_lexeme mark_lexeme lexeme_by lexeme scan_from scan op_bits bitwise op_number operate not_number
+    fn_bits ones count_leading_zeros count_trailing_zeros fn_number apply field with_field total cut owner reads_of factor_reads index_reads_of subscript_reads stores sets_of sets_i sets_alts body_sets touched member meet
+    race stops_in stops_i stops_alts body_stops may_stop calls_in calls_i calls_alts any_name chain_over description_of check
+    lookup too_deep judge_Rows run_Rows recognise find split put act read dec_lt
+    pairing pair_on shared_from clashes faults80 fault81 unshared fault32 up_from first_words words_at seen put_back own_run turn_run turns_taken total_of fault60 fault61
+    position_of further behind so all_so
+worked_out = tt

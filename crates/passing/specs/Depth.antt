@@ -3,21 +3,21 @@ use Rattle.std.specs.Prelude.{ℕ, suc, ◌-◌, ◌≤◌, List, [], ◌∷◌,
 use Rattle.rules.specs.Stores.{Entry}
 use Rattle.traces.specs.Cited.Events.{Event}
 use Rattle.telling.specs.Cited.Passing.{Passing, opened, turned, closed}
-use Rattle.matching.specs.Matching.{toldAll}
-use Rattle.matching.specs.Room.{matchingIn, Sound}
-use Rattle.room.specs.Trace.{mostGroups}
+use Rattle.matching.specs.Matching.{told_all}
+use Rattle.matching.specs.Room.{matching_in, Sound}
+use Rattle.room.specs.Trace.{most_groups}
 
-abbrev pub depthBehind : Passing → ℕ → ℕ
-depthBehind (opened y) d = suc d
-depthBehind (turned y) d = d
-depthBehind (closed z) d = d - 1
+abbrev pub depth_behind : Passing → ℕ → ℕ
+depth_behind (opened y) d = suc d
+depth_behind (turned y) d = d
+depth_behind (closed z) d = d - 1
 
 -- where d are open before
-unfoldable pub depthAfter : List Passing → ℕ → ℕ
-depthAfter [] d = d
-depthAfter (p ∷ ps) d = depthAfter ps (depthBehind p d)
+unfoldable pub depth_after : List Passing → ℕ → ℕ
+depth_after [] d = d
+depth_after (p ∷ ps) d = depth_after ps (depth_behind p d)
 
 -- events after which no more groups are open than there is room for
 pub record Fits (es : List Event) (l : List Entry) (room : List ℕ) : Type 0 where
   pub sound : Sound l room
-  pub few : length (toldAll es (matchingIn l room)).groups ≤ mostGroups
+  pub few : length (told_all es (matching_in l room)).groups ≤ most_groups

@@ -2,18 +2,18 @@
 -- instruction.
 use Rattle.std.specs.Prelude.{ℕ, List, [], map}
 use Rattle.telling.specs.Cited.Passing.{Grouping, Passing, closed, passage}
-use Rattle.telling.specs.Cited.Cells.{cellGrouping}
+use Rattle.telling.specs.Cited.Cells.{cell_grouping}
 use Rattle.members.specs.Cells.{cells_in}
 
 module _ (bytes : List ℕ) (n : ℕ) where
-  abbrev pub groupingIn : Grouping
-  groupingIn = cellGrouping (cells_in bytes n)
+  abbrev pub grouping_in : Grouping
+  grouping_in = cell_grouping (cells_in bytes n)
 
   abbrev pub between : ℕ → ℕ → List Passing
-  between from to = passage groupingIn (groupingIn.around from) (groupingIn.around to)
+  between from to = passage grouping_in (grouping_in.around from) (grouping_in.around to)
 
   abbrev pub into : ℕ → List Passing
-  into to = passage groupingIn [] (groupingIn.around to)
+  into to = passage grouping_in [] (grouping_in.around to)
 
   abbrev pub out_of : ℕ → List Passing
-  out_of from = map closed (groupingIn.around from)
+  out_of from = map closed (grouping_in.around from)

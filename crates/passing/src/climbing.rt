@@ -3,7 +3,7 @@ ghost use Rattle.std.specs.Prelude.{◌≡◌, ◌*◌, ◌≤◌, length};
 ghost use Rattle.rules.specs.Limits.{deepest};
 ghost use Rattle.telling.specs.Cited.Cells.{up_from};
 ghost use Rattle.members.specs.Cells.{cells_in};
-ghost use Rattle.passing.specs.Climbing.{upBy};
+ghost use Rattle.passing.specs.Climbing.{up_by};
 
 use members::up_at;
 use rules::limits::DEEPEST;
@@ -28,7 +28,7 @@ pub fn depth_of(cells: &[u8], n: usize, x: usize) -> usize
 // The member that is so many above x.
 pub fn up_by(cells: &[u8], n: usize, x: usize, count: usize) -> usize
     requires { 4 * n ≤ length cells.now }
-    ensures { result ≡ upBy (cells_in cells.now n) count x }
+    ensures { result ≡ up_by (cells_in cells.now n) count x }
 {
     let mut at = x;
     let mut left = count;

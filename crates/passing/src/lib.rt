@@ -5,12 +5,12 @@ mod meeting;
 
 ghost use Rattle.std.specs.Prelude.{◌*◌, ◌≤◌, List, map, length};
 ghost use Rattle.rules.specs.Stores.{Entry};
-ghost use Rattle.telling.specs.Cited.Passing.{groupEvent};
-ghost use Rattle.matching.specs.Matching.{toldAll};
-ghost use Rattle.matching.specs.Room.{matchingIn, Sound, Stands};
-ghost use Rattle.room.specs.Trace.{mostGroups};
+ghost use Rattle.telling.specs.Cited.Passing.{group_event};
+ghost use Rattle.matching.specs.Matching.{told_all};
+ghost use Rattle.matching.specs.Room.{matching_in, Sound, Stands};
+ghost use Rattle.room.specs.Trace.{most_groups};
 ghost use Rattle.passing.specs.Ways.{between, into, out_of};
-ghost use Rattle.passing.specs.Depth.{depthAfter};
+ghost use Rattle.passing.specs.Depth.{depth_after};
 
 use crate::climbing::{depth_of, up_by};
 use crate::meeting::{close_all, meet, open_all};
@@ -18,8 +18,8 @@ use members::member_of;
 
 // Control goes from one instruction to another.
 pub fn pass(room: &mut [u8], cells: &[u8], n: usize, from: usize, to: usize)
-    requires { (4 * n ≤ length cells.now) × ((l : List Entry) × (Sound l room.old × (depthAfter (between cells.now n from to) (length (matchingIn l room.old).groups) ≤ mostGroups))) }
-    ensures { (l : List Entry) → Sound l room.old → Stands l room.new (toldAll (map groupEvent (between cells.now n from to)) (matchingIn l room.old)) }
+    requires { (4 * n ≤ length cells.now) × ((l : List Entry) × (Sound l room.old × (depth_after (between cells.now n from to) (length (matching_in l room.old).groups) ≤ most_groups))) }
+    ensures { (l : List Entry) → Sound l room.old → Stands l room.new (told_all (map group_event (between cells.now n from to)) (matching_in l room.old)) }
 {
     let x = member_of(cells, n, from);
     let y = member_of(cells, n, to);
@@ -39,8 +39,8 @@ pub fn pass(room: &mut [u8], cells: &[u8], n: usize, from: usize, to: usize)
 
 // Control comes to the first instruction of a body.
 pub fn enter(room: &mut [u8], cells: &[u8], n: usize, to: usize)
-    requires { (4 * n ≤ length cells.now) × ((l : List Entry) × (Sound l room.old × (depthAfter (into cells.now n to) (length (matchingIn l room.old).groups) ≤ mostGroups))) }
-    ensures { (l : List Entry) → Sound l room.old → Stands l room.new (toldAll (map groupEvent (into cells.now n to)) (matchingIn l room.old)) }
+    requires { (4 * n ≤ length cells.now) × ((l : List Entry) × (Sound l room.old × (depth_after (into cells.now n to) (length (matching_in l room.old).groups) ≤ most_groups))) }
+    ensures { (l : List Entry) → Sound l room.old → Stands l room.new (told_all (map group_event (into cells.now n to)) (matching_in l room.old)) }
 {
     let y = member_of(cells, n, to);
     let depth = depth_of(cells, n, y);
@@ -50,7 +50,7 @@ pub fn enter(room: &mut [u8], cells: &[u8], n: usize, to: usize)
 // The body ends behind an instruction.
 pub fn leave(room: &mut [u8], cells: &[u8], n: usize, from: usize)
     requires { (4 * n ≤ length cells.now) × ((l : List Entry) × Sound l room.old) }
-    ensures { (l : List Entry) → Sound l room.old → Stands l room.new (toldAll (map groupEvent (out_of cells.now n from)) (matchingIn l room.old)) }
+    ensures { (l : List Entry) → Sound l room.old → Stands l room.new (told_all (map group_event (out_of cells.now n from)) (matching_in l room.old)) }
 {
     let x = member_of(cells, n, from);
     let depth = depth_of(cells, n, x);

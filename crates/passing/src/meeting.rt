@@ -5,9 +5,9 @@ ghost use Rattle.rules.specs.Stores.{Entry};
 ghost use Rattle.traces.specs.Cited.Events.{opens, closes};
 ghost use Rattle.telling.specs.Cited.Passing.{times};
 ghost use Rattle.members.specs.Cells.{cells_in};
-ghost use Rattle.matching.specs.Matching.{toldAll};
-ghost use Rattle.matching.specs.Room.{matchingIn, Sound, Stands};
-ghost use Rattle.passing.specs.Climbing.{meetTold};
+ghost use Rattle.matching.specs.Matching.{told_all};
+ghost use Rattle.matching.specs.Room.{matching_in, Sound, Stands};
+ghost use Rattle.passing.specs.Climbing.{meet_told};
 ghost use Rattle.passing.specs.Depth.{Fits};
 
 use members::{rank_at, up_at};
@@ -19,7 +19,7 @@ const SECOND: usize = 3;
 // So many groups begin.
 pub fn open_all(room: &mut [u8], count: usize)
     requires { (l : List Entry) × Fits (times count opens) l room.old }
-    ensures { (l : List Entry) → Sound l room.old → Stands l room.new (toldAll (times count opens) (matchingIn l room.old)) }
+    ensures { (l : List Entry) → Sound l room.old → Stands l room.new (told_all (times count opens) (matching_in l room.old)) }
 {
     let mut left = count;
     while 0 < left {
@@ -31,7 +31,7 @@ pub fn open_all(room: &mut [u8], count: usize)
 // So many groups end.
 pub fn close_all(room: &mut [u8], count: usize)
     requires { (l : List Entry) × Sound l room.old }
-    ensures { (l : List Entry) → Sound l room.old → Stands l room.new (toldAll (times count closes) (matchingIn l room.old)) }
+    ensures { (l : List Entry) → Sound l room.old → Stands l room.new (told_all (times count closes) (matching_in l room.old)) }
 {
     let mut left = count;
     while 0 < left {
@@ -50,8 +50,8 @@ pub fn meet(
     to: usize,
     entered: usize,
 )
-    requires { (4 * n ≤ length cells.now) × (depth + entered ≤ deepest) × ((l : List Entry) × Fits (meetTold (cells_in cells.now n) depth from to entered) l room.old) }
-    ensures { (l : List Entry) → Sound l room.old → Stands l room.new (toldAll (meetTold (cells_in cells.now n) depth from to entered) (matchingIn l room.old)) }
+    requires { (4 * n ≤ length cells.now) × (depth + entered ≤ deepest) × ((l : List Entry) × Fits (meet_told (cells_in cells.now n) depth from to entered) l room.old) }
+    ensures { (l : List Entry) → Sound l room.old → Stands l room.new (told_all (meet_told (cells_in cells.now n) depth from to entered) (matching_in l room.old)) }
 {
     let mut left = depth;
     let mut x = from;

@@ -5,51 +5,51 @@ use Rattle.std.proofs.Common.{sym, ap₂, subst}
 use Rattle.std.proofs.Math.Path.{ap}
 use Rattle.std.proofs.lemmas.Bool.{false≢true}
 use Rattle.rules.specs.Declarations.{Word, Table}
-use Rattle.rules.specs.Steps.Actions.{Act, seq, par, label, ins, Ins, iff, decode, repeat, leave, restart, call, stop, noop, transfer, Alts, no-alts, alt}
-use Rattle.rules.specs.Steps.Runs.{bodyAct}
-use Rattle.rules.specs.Whole.Sets.{callsIn, callsI, callsAlts, anyName, chainOver}
-use Rattle.rules.specs.Limits.{longestChain}
+use Rattle.rules.specs.Steps.Actions.{Act, seq, par, label, ins, Ins, iff, decode, repeat, leave, restart, call, stop, noop, transfer, Alts, no_alts, alt}
+use Rattle.rules.specs.Steps.Runs.{body_act}
+use Rattle.rules.specs.Whole.Sets.{calls_in, calls_i, calls_alts, any_name, chain_over}
+use Rattle.rules.specs.Limits.{longest_chain}
 use Rattle.laws_orders.specs.Orders.Orderly.{Orderly}
-use Rattle.laws_orders.specs.Orders.Chains.{none_of, not-this}
-use Rattle.paths.specs.Cited.Early.{Report, passed, in_turn, beside, either, inside, turning, activation, early, earlyI, earlyAlts, bodyEarly}
+use Rattle.laws_orders.specs.Orders.Chains.{none_of, not_this}
+use Rattle.paths.specs.Cited.Early.{Report, passed, in_turn, beside, either, inside, turning, activation, early, early_i, early_alts, body_early}
 use Rattle.paths.specs.Reports.{Sub, sub_refl}
 use Rattle.paths.specs.Covered.{Closed}
 
 module _ (ds : Table) (test : Word) (output : ℕ) where
   module _ (p : Word → Bool) (f g : Word → Report) (same : (n : Word) → p n ≡ false → f n ≡ g n) where
     mutual
-      unfolding early earlyI earlyAlts callsIn callsI callsAlts
+      unfolding early early_i early_alts calls_in calls_i calls_alts
 
-      early-same : (a : Act) → anyName p (callsIn a) ≡ false → early ds test output f a ≡ early ds test output g a
-      early-same (seq a b) h = let n = none_of p (callsIn a) (callsIn b) h in ap₂ in_turn (early-same a n.0) (early-same b n.1)
-      early-same (par a b) h = let n = none_of p (callsIn a) (callsIn b) h in ap₂ beside (early-same a n.0) (early-same b n.1)
-      early-same (label l a) h = ap (inside l) (early-same a h)
-      early-same (ins i) h = earlyI-same i h
+      early_same : (a : Act) → any_name p (calls_in a) ≡ false → early ds test output f a ≡ early ds test output g a
+      early_same (seq a b) h = let n = none_of p (calls_in a) (calls_in b) h in ap₂ in_turn (early_same a n.0) (early_same b n.1)
+      early_same (par a b) h = let n = none_of p (calls_in a) (calls_in b) h in ap₂ beside (early_same a n.0) (early_same b n.1)
+      early_same (label l a) h = ap (inside l) (early_same a h)
+      early_same (ins i) h = early_i_same i h
 
-      earlyI-same : (i : Ins) → anyName p (callsI i) ≡ false → earlyI ds test output f i ≡ earlyI ds test output g i
-      earlyI-same (iff e a) h = ap (either passed) (early-same a h)
-      earlyI-same (decode q e bs) h = earlyAlts-same bs h
-      earlyI-same (repeat a) h = ap turning (early-same a h)
-      earlyI-same (leave l) h = refl
-      earlyI-same (restart l) h = refl
-      earlyI-same (call n) h = ap (activation test n) (same n (not-this p n h))
-      earlyI-same stop h = refl
-      earlyI-same noop h = refl
-      earlyI-same (transfer d e) h = refl
+      early_i_same : (i : Ins) → any_name p (calls_i i) ≡ false → early_i ds test output f i ≡ early_i ds test output g i
+      early_i_same (iff e a) h = ap (either passed) (early_same a h)
+      early_i_same (decode q e bs) h = early_alts_same bs h
+      early_i_same (repeat a) h = ap turning (early_same a h)
+      early_i_same (leave l) h = refl
+      early_i_same (restart l) h = refl
+      early_i_same (call n) h = ap (activation test n) (same n (not_this p n h))
+      early_i_same stop h = refl
+      early_i_same noop h = refl
+      early_i_same (transfer d e) h = refl
 
-      earlyAlts-same : (bs : Alts) → anyName p (callsAlts bs) ≡ false → earlyAlts ds test output f bs ≡ earlyAlts ds test output g bs
-      earlyAlts-same no-alts h = refl
-      earlyAlts-same (alt c a bs) h = let n = none_of p (callsIn a) (callsAlts bs) h in ap₂ either (early-same a n.0) (earlyAlts-same bs n.1)
+      early_alts_same : (bs : Alts) → any_name p (calls_alts bs) ≡ false → early_alts ds test output f bs ≡ early_alts ds test output g bs
+      early_alts_same no_alts h = refl
+      early_alts_same (alt c a bs) h = let n = none_of p (calls_in a) (calls_alts bs) h in ap₂ either (early_same a n.0) (early_alts_same bs n.1)
 
-  pub early-closed :
-      (k : ℕ) (n : Word) → chainOver ds k n ≡ false
-      → inside n (early ds test output (bodyEarly ds test output k) (bodyAct ds n)) ≡ bodyEarly ds test output k n
-  unfolding chainOver bodyEarly
-  early-closed zero n h = absurd (false≢true (sym h))
-  early-closed (suc k) n h =
-      ap (inside n) (early-same (chainOver ds k) (bodyEarly ds test output (suc k)) (bodyEarly ds test output k) (early-closed k) (bodyAct ds n) h)
+  pub early_closed :
+      (k : ℕ) (n : Word) → chain_over ds k n ≡ false
+      → inside n (early ds test output (body_early ds test output k) (body_act ds n)) ≡ body_early ds test output k n
+  unfolding chain_over body_early
+  early_closed zero n h = absurd (false≢true (sym h))
+  early_closed (suc k) n h =
+      ap (inside n) (early_same (chain_over ds k) (body_early ds test output (suc k)) (body_early ds test output k) (early_closed k) (body_act ds n) h)
 
-  pub all_closed : Orderly ds → Closed ds test output (bodyEarly ds test output longestChain)
+  pub all_closed : Orderly ds → Closed ds test output (body_early ds test output longest_chain)
   all_closed o p =
-      let B = bodyEarly ds test output in
-      subst (λ z. Sub (inside p (early ds test output (B longestChain) (bodyAct ds p))) z) (early-closed longestChain p (o.chains p)) (sub_refl _)
+      let B = body_early ds test output in
+      subst (λ z. Sub (inside p (early ds test output (B longest_chain) (body_act ds p))) z) (early_closed longest_chain p (o.chains p)) (sub_refl _)

@@ -8,48 +8,48 @@ use Rattle.rules.specs.Declarations.{Word, declarations}
 use Rattle.laws_orders.specs.Orders.Orderly.{Orderly}
 use Rattle.rules.specs.Answers.{Verdict, Checks, accepted, refused}
 use Rattle.laws_grammar.specs.Grammar.Exact.{unique}
-use Rattle.laws_grammar.specs.Answers.{descriptionOf, description-of, check, checked, one-verdict, accepted-iff-lawful}
-use Rattle.laws_accepted.specs.Accepted.Orderly.{accepted-orderly}
-use Rattle.rules.specs.Paths.{Profile, fails, Profiles, folded, ProfileAnswers, not-accepted, profiled}
+use Rattle.laws_grammar.specs.Answers.{description_of, description_of_lem, check, checked, one_verdict, accepted_iff_lawful}
+use Rattle.laws_accepted.specs.Accepted.Orderly.{accepted_orderly}
+use Rattle.rules.specs.Paths.{Profile, fails, Profiles, folded, ProfileAnswers, not_accepted, profiled}
 use Rattle.paths.specs.Cited.Early.{profile}
 use Rattle.paths.specs.Verdict.{right, one_answer}
 
 -- the answer of a text
-abbrev pub byDescription : Option Description → Word → Word → Profile
-byDescription none test output = fails 0 0
-byDescription (some d) test output = profile (declarations d) test output
+abbrev pub by_description : Option Description → Word → Word → Profile
+by_description none test output = fails 0 0
+by_description (some d) test output = profile (declarations d) test output
 
-abbrev pub byVerdict : Verdict → Option Description → Word → Word → Profile
-byVerdict (refused m p) d test output = fails m p
-byVerdict (accepted n w) d test output = byDescription d test output
+abbrev pub by_verdict : Verdict → Option Description → Word → Word → Profile
+by_verdict (refused m p) d test output = fails m p
+by_verdict (accepted n w) d test output = by_description d test output
 
 unfoldable pub answer : List ℕ → List ℕ → List ℕ → Profile
-answer text test output = byVerdict (check text) (descriptionOf (scan text).tokens) (folded test) (folded output)
+answer text test output = by_verdict (check text) (description_of (scan text).tokens) (folded test) (folded output)
 
 -- a description that is accepted is orderly
-pub accepted-is-orderly : (text : List ℕ) (n w : ℕ) → Checks text (accepted n w) → (d : Description) → flatten d ≡ (scan text).tokens → Orderly (declarations d)
-accepted-is-orderly text n w c d stands =
-    let l = (accepted-iff-lawful text n w).0 c in
-    subst (λ x. Orderly (declarations x)) (unique l.description d (l.stands ∙ sym stands)) (accepted-orderly l.description n w l.faultless)
+pub accepted_is_orderly : (text : List ℕ) (n w : ℕ) → Checks text (accepted n w) → (d : Description) → flatten d ≡ (scan text).tokens → Orderly (declarations d)
+accepted_is_orderly text n w c d stands =
+    let l = (accepted_iff_lawful text n w).0 c in
+    subst (λ x. Orderly (declarations x)) (unique l.description d (l.stands ∙ sym stands)) (accepted_orderly l.description n w l.faultless)
 
-answered-by : (text test output : List ℕ) (v : Verdict) → Checks text v → ProfileAnswers text test output (byVerdict v (descriptionOf (scan text).tokens) (folded test) (folded output))
-answered-by text test output (refused m p) c = not-accepted c
-answered-by text test output (accepted n w) c =
-    let l = (accepted-iff-lawful text n w).0 c in
+answered_by : (text test output : List ℕ) (v : Verdict) → Checks text v → ProfileAnswers text test output (by_verdict v (description_of (scan text).tokens) (folded test) (folded output))
+answered_by text test output (refused m p) c = not_accepted c
+answered_by text test output (accepted n w) c =
+    let l = (accepted_iff_lawful text n w).0 c in
     let d = l.description in
-    let found : descriptionOf (scan text).tokens ≡ some d = ap descriptionOf (sym l.stands) ∙ description-of d in
+    let found : description_of (scan text).tokens ≡ some d = ap description_of (sym l.stands) ∙ description_of_lem d in
     let fits : Profiles (declarations d) (folded test) (folded output) (profile (declarations d) (folded test) (folded output)) =
-    right (declarations d) (folded test) (folded output) (accepted-is-orderly text n w c d l.stands) in
-    subst (λ x. ProfileAnswers text test output (byDescription x (folded test) (folded output))) (sym found) (profiled d l.stands c fits)
+    right (declarations d) (folded test) (folded output) (accepted_is_orderly text n w c d l.stands) in
+    subst (λ x. ProfileAnswers text test output (by_description x (folded test) (folded output))) (sym found) (profiled d l.stands c fits)
 
 pub answered : (text test output : List ℕ) → ProfileAnswers text test output (answer text test output)
 unfolding answer
-answered text test output = answered-by text test output (check text) (checked text)
+answered text test output = answered_by text test output (check text) (checked text)
 
-pub only-answer : (text test output : List ℕ) {x y : Profile} → ProfileAnswers text test output x → ProfileAnswers text test output y → x ≡ y
-only-answer text test output (not-accepted {m} {p} a) (not-accepted {m = k} {p = q} b) = let e = one-verdict text a b in cc
-only-answer text test output (not-accepted a) (profiled d s b z) = let e = one-verdict text a b in let z : ◌≡◌ {A = ℕ} 0 1 = cc in absurd (omega arith)
-only-answer text test output (profiled d s a z) (not-accepted b) = let e = one-verdict text a b in let z : ◌≡◌ {A = ℕ} 0 1 = cc in absurd (omega arith)
-only-answer text test output (profiled {a = x} d s a z) (profiled f t b y) =
+pub only_answer : (text test output : List ℕ) {x y : Profile} → ProfileAnswers text test output x → ProfileAnswers text test output y → x ≡ y
+only_answer text test output (not_accepted {m} {p} a) (not_accepted {m = k} {p = q} b) = let e = one_verdict text a b in cc
+only_answer text test output (not_accepted a) (profiled d s b z) = let e = one_verdict text a b in let z : ◌≡◌ {A = ℕ} 0 1 = cc in absurd (omega arith)
+only_answer text test output (profiled d s a z) (not_accepted b) = let e = one_verdict text a b in let z : ◌≡◌ {A = ℕ} 0 1 = cc in absurd (omega arith)
+only_answer text test output (profiled {a = x} d s a z) (profiled f t b y) =
     let same : d ≡ f = unique d f (s ∙ sym t) in
     one_answer (declarations f) (folded test) (folded output) (subst (λ k. Profiles (declarations k) (folded test) (folded output) x) same z) y

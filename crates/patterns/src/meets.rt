@@ -8,7 +8,7 @@ use crate::items::Item;
 
 // Two patterns: no bit that both fix differs.
 pub fn patterns_meet(v: u64, f: u64, w: u64, g: u64) -> bool
-    ensures { result ≡ rules.patternsMeet 64 v f w g }
+    ensures { result ≡ rules.patterns_meet 64 v f w g }
 {
     (v ^ w) & !f & !g == 0
 }
@@ -92,7 +92,7 @@ pub fn reaches(v: u64, f: u64, l: u64, h: u64) -> bool
 
 // Two items.
 pub fn items_meet(a: Item, b: Item) -> bool
-    ensures { result ≡ rules.itemsMeet (meant a) (meant b) }
+    ensures { result ≡ rules.items_meet (meant a) (meant b) }
 {
     match a {
         Item::Pattern(v, f) => match b {

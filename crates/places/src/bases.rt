@@ -2,10 +2,10 @@
 ghost use Rattle.std.specs.Prelude.{◌≡◌, ◌+◌, ◌*◌, ◌<◌};
 ghost use Rattle.std.proofs.Math.Option.{Option, some};
 ghost use Rattle.rules.specs.Declarations as rules;
-ghost use Rattle.rules.specs.Declarations.{Reach, reachNumber};
+ghost use Rattle.rules.specs.Declarations.{Reach, reach_number};
 ghost use Rattle.table.specs.Ready.{table_of};
-ghost use Rattle.table.specs.Shown.{shownWords};
-ghost use Rattle.promise.specs.Accesses.{leftName, rightName};
+ghost use Rattle.table.specs.Shown.{shown_words};
+ghost use Rattle.promise.specs.Accesses.{left_name, right_name};
 ghost use Rattle.places.specs.Packed.{packed, Fits};
 ghost use Rattle.places.specs.Bases.{LowUnder, BaseShows, CellShows, BaseAt, MappingAt, LiesShown};
 
@@ -95,8 +95,8 @@ fn lies_on(
 
 // A carrier with these words and bits.
 fn storage(first: u64, words: Names, own: Names) -> Base
-    ensures { (w : Option rules.Names) → words ≡ shownWords w
-        → (result.first ≡ first) × (result.left ≡ leftName w) × (result.right ≡ rightName w) × (result.low ≡ 0) × (result.own ≡ own) }
+    ensures { (w : Option rules.Names) → words ≡ shown_words w
+        → (result.first ≡ first) × (result.left ≡ left_name w) × (result.right ≡ right_name w) × (result.low ≡ 0) × (result.own ≡ own) }
 {
     match words {
         Names::Missing => Base {
@@ -134,7 +134,7 @@ pub fn base_of(
 ) -> Base
     requires { BaseAt records.now values.now decls.now firsts.now m k }
     ensures { (v : BaseAt records.now values.now decls.now firsts.now m k) (r : Reach)
-        → reachNumber (table_of v.scene) (some k) ≡ some r → BaseShows result r }
+        → reach_number (table_of v.scene) (some k) ≡ some r → BaseShows result r }
 {
     let p = get16(decls, k) as usize;
     let own = bits_of(records, values, p);

@@ -1,7 +1,7 @@
 // The first word of each declaration: words lie in the order of the declarations.
 ghost use Rattle.std.specs.Prelude.{◌≡◌, ◌*◌, ◌≤◌, length};
-ghost use Rattle.rules.specs.Declarations.{declaredOf, words_of};
-ghost use Rattle.rules.specs.Limits.{mostWords};
+ghost use Rattle.rules.specs.Declarations.{declared_of, words_of};
+ghost use Rattle.rules.specs.Limits.{most_words};
 ghost use Rattle.table.specs.Ready.{Scene, table_of};
 ghost use Rattle.table.specs.Views.{View};
 ghost use Rattle.places.specs.Bases.{FirstsHold};
@@ -13,7 +13,7 @@ use table::views::{Names, bits_of, target_of, words_of};
 
 // How many words there are with these names.
 fn words_named(words: Names) -> u64
-    ensures { (result ≤ mostWords) × WordsIn words result }
+    ensures { (result ≤ most_words) × WordsIn words result }
 {
     match words {
         Names::Missing => 1,
@@ -24,7 +24,7 @@ fn words_named(words: Names) -> u64
 
 // The words of a declaration that is no mapping, by its bits and words.
 fn storage_words(own: Names, words: Names) -> u64
-    ensures { (result ≤ mostWords) × StorageIn own words result }
+    ensures { (result ≤ most_words) × StorageIn own words result }
 {
     match own {
         Names::Missing => 0,
@@ -36,8 +36,8 @@ fn storage_words(own: Names, words: Names) -> u64
 // The words of the declaration whose name is the token p.
 fn words_in(records: &[u8], values: &[u8], p: usize) -> u64
     requires { View records.now values.now p }
-    ensures { (result ≤ mostWords) × ((v : View records.now values.now p)
-        → words_of (declaredOf v.declaration) ≤ mostWords → result ≡ words_of (declaredOf v.declaration)) }
+    ensures { (result ≤ most_words) × ((v : View records.now values.now p)
+        → words_of (declared_of v.declaration) ≤ most_words → result ≡ words_of (declared_of v.declaration)) }
 {
     if target_of(records, p) != 0 {
         return 0;

@@ -1,8 +1,8 @@
 // Names of bits and words: how many there are, and how far one stands from the right. A name may be any u64.
 ghost use Rattle.std.specs.Prelude.{◌≡◌, ◌+◌, ◌<◌, ◌≤◌};
 ghost use Rattle.rules.specs.Declarations as rules;
-ghost use Rattle.rules.specs.Declarations.{names, howMany, fromRight};
-ghost use Rattle.rules.specs.Limits.{mostWords};
+ghost use Rattle.rules.specs.Declarations.{names, how_many, from_right};
+ghost use Rattle.rules.specs.Limits.{most_words};
 ghost use Rattle.places.specs.Spans.{ManyIn, LowIn};
 
 use rules::limits::MOST_WORDS;
@@ -10,7 +10,7 @@ use table::views::Names;
 
 // One more than the distance of two names; 0 where that is more than there can be words.
 fn counted(distance: u64) -> u64
-    ensures { (result ≤ mostWords) × (distance < mostWords → result ≡ distance + 1) }
+    ensures { (result ≤ most_words) × (distance < most_words → result ≡ distance + 1) }
 {
     if distance < MOST_WORDS as u64 {
         return distance + 1;
@@ -20,7 +20,7 @@ fn counted(distance: u64) -> u64
 
 // How many names there are from l to r, where that is no more than there can be words.
 pub fn how_many(l: u64, r: u64) -> u64
-    ensures { (result ≤ mostWords) × (howMany (names l r) ≤ mostWords → result ≡ howMany (names l r)) }
+    ensures { (result ≤ most_words) × (how_many (names l r) ≤ most_words → result ≡ how_many (names l r)) }
 {
     if l <= r {
         return counted(r - l);
@@ -30,7 +30,7 @@ pub fn how_many(l: u64, r: u64) -> u64
 
 // How far n stands from the right one.
 fn from_right(l: u64, r: u64, n: u64) -> u64
-    ensures { result ≡ fromRight (names l r) n }
+    ensures { result ≡ from_right (names l r) n }
 {
     if l <= r {
         if r < n {

@@ -1,8 +1,8 @@
 // The labels of a body, against each other and against what is declared.
 ghost use Rattle.std.specs.Prelude.{◌≡◌, List, ℕ, ◌+◌, ◌*◌, ◌≤◌, length};
-ghost use Rattle.keys.specs.Keys.{leastKey};
-ghost use Rattle.room.specs.Bodies.{indexEnd};
-ghost use Rattle.plain.specs.Labels.{label_at, LabelView, labelFault, LabelsView, allLabelFaults};
+ghost use Rattle.keys.specs.Keys.{least_key};
+ghost use Rattle.room.specs.Bodies.{index_end};
+ghost use Rattle.plain.specs.Labels.{label_at, LabelView, label_fault, LabelsView, all_label_faults};
 
 use keys::{NO_KEY, earlier, fault_key};
 use records::fields::{inside16_at, kind_at, place_at};
@@ -22,7 +22,7 @@ pub fn is_label(records: &[u8], i: usize) -> bool
 fn label_fault(records: &[u8], room: &[u8], count: usize, i: usize) -> u32
     requires { (text : List ℕ) × (values : List ℕ) × (decls : List ℕ) × LabelView text records.now values decls room.now count i }
     ensures { (text values decls : List ℕ) (v : LabelView text records.now values decls room.now count i)
-        → result ≡ leastKey (labelFault v) }
+        → result ≡ least_key (label_fault v) }
 {
     let key = fault_key(44, place_at(records, i));
     if inside16_at(records, i) != UNKNOWN {
@@ -36,8 +36,8 @@ fn label_fault(records: &[u8], room: &[u8], count: usize, i: usize) -> u32
 
 // The labels from the token i up to j, one after the other.
 pub fn labels_fault(records: &[u8], room: &mut [u8], i: usize, j: usize) -> u32
-    requires { (2 * indexEnd ≤ length room.old) × ((text : List ℕ) × (values : List ℕ) × (decls : List ℕ) × LabelsView text records.now values decls i j) }
-    ensures { (text values decls : List ℕ) (v : LabelsView text records.now values decls i j) → result ≡ leastKey (allLabelFaults v) }
+    requires { (2 * index_end ≤ length room.old) × ((text : List ℕ) × (values : List ℕ) × (decls : List ℕ) × LabelsView text records.now values decls i j) }
+    ensures { (text values decls : List ℕ) (v : LabelsView text records.now values decls i j) → result ≡ least_key (all_label_faults v) }
 {
     let mut at = i;
     let mut count: usize = 0;

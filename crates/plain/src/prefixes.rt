@@ -2,7 +2,7 @@
 ghost use Rattle.std.specs.Prelude.{List, ℕ};
 ghost use Rattle.stacks.specs.Stacks.{Kept};
 ghost use Rattle.plain.specs.Actions.{ActionView};
-ghost use Rattle.room.specs.Bodies.{labelCells};
+ghost use Rattle.room.specs.Bodies.{label_cells};
 ghost use Rattle.plain.specs.Prefixes.{PrefixAnswer};
 
 use crate::labels::is_label;
@@ -31,7 +31,7 @@ pub fn prefixes(
     depth: usize,
 ) -> Prefixed
     requires { (text : List ℕ) × ActionView text records.now values.now decls.now room.old i count depth }
-    ensures kept { Kept records.now count labelCells room.old room.new }
+    ensures kept { Kept records.now count label_cells room.old room.new }
     ensures answer { (text : List ℕ) (v : ActionView text records.now values.now decls.now room.old i count depth)
         → PrefixAnswer v room.new result }
 {

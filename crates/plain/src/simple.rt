@@ -1,8 +1,8 @@
 // Actions with nothing inside: LEAVE, RESTART, activations, STOP(), NO.OP() and transfers.
 ghost use Rattle.std.specs.Prelude.{◌≡◌, List, ℕ};
-ghost use Rattle.keys.specs.Keys.{leastKey};
+ghost use Rattle.keys.specs.Keys.{least_key};
 ghost use Rattle.plain.specs.Actions.{ActionView, ActionAnswer, Simple};
-ghost use Rattle.plain.specs.Jumps.{isJump, JumpView, jumpFaults, CallView, callFaults, TransferView, TransferAnswer};
+ghost use Rattle.plain.specs.Jumps.{is_jump, JumpView, jump_faults, CallView, call_faults, TransferView, TransferAnswer};
 
 use crate::Walked;
 use cells::get16;
@@ -16,7 +16,7 @@ use table::meanings::{OUTER_ONLY, UNKNOWN};
 use table::views::body_of;
 
 fn is_jump(kind: u8) -> bool
-    ensures { result ≡ isJump kind }
+    ensures { result ≡ is_jump kind }
 {
     (kind == LEAVE) | (kind == RESTART)
 }
@@ -24,7 +24,7 @@ fn is_jump(kind: u8) -> bool
 // 44 at the keyword i, where its target is no name around it.
 fn jump_fault(records: &[u8], room: &[u8], i: usize, count: usize) -> u32
     requires { JumpView records.now room.now i count }
-    ensures { (v : JumpView records.now room.now i count) → result ≡ leastKey (jumpFaults v) }
+    ensures { (v : JumpView records.now room.now i count) → result ≡ least_key (jump_faults v) }
 {
     if is_stacked(records, room, count, i + 1) {
         return NO_KEY;
@@ -35,7 +35,7 @@ fn jump_fault(records: &[u8], room: &[u8], i: usize, count: usize) -> u32
 // 40 and 41 for the activation of the name i, which must have a body.
 fn call_fault(records: &[u8], decls: &[u8], i: usize) -> u32
     requires { CallView records.now decls.now i }
-    ensures { (v : CallView records.now decls.now i) → result ≡ leastKey (callFaults v) }
+    ensures { (v : CallView records.now decls.now i) → result ≡ least_key (call_faults v) }
 {
     let place = place_at(records, i);
     let number = inside16_at(records, i);

@@ -7,12 +7,12 @@ use Rattle.positions.specs.declared.cursors.Cursor.{Cursor}
 abbrev pub cursor : ℕ → Position → Cursor
 cursor n p = record { offset = n; line = p.line; column = p.column }
 
-abbrev pub positionHere : Cursor → Position
-positionHere c = position c.line c.column
+abbrev pub position_here : Cursor → Position
+position_here c = position c.line c.column
 
 -- one byte on: offset, line and column move together
 abbrev pub onward : ℕ → Cursor → Cursor
-onward b c = cursor (c.offset + 1) (behind b (positionHere c))
+onward b c = cursor (c.offset + 1) (behind b (position_here c))
 
 -- no number passes its 32 bits, as places are of 16
 pub record Near (c : Cursor) : Type 0 where

@@ -2,9 +2,9 @@
 mod cursors;
 
 ghost use Rattle.std.specs.Prelude.{◌≡◌, ◌<◌, ◌≤◌, length};
-ghost use Rattle.rules.specs.Positions.{elsewhere, positionAt, position_of};
+ghost use Rattle.rules.specs.Positions.{elsewhere, position_at, position_of};
 ghost use Rattle.rules.specs.Whole.Sets.{member};
-ghost use Rattle.positions.specs.Cursors.{positionHere};
+ghost use Rattle.positions.specs.Cursors.{position_here};
 
 pub use crate::cursors::Cursor;
 use crate::cursors::{advanced, start};
@@ -52,7 +52,7 @@ fn is_elsewhere(number: u32) -> bool
 // Walks a text up to an offset.
 fn walked(text: &[u8], offset: usize) -> Cursor
     requires { (offset ≤ length text.now) × (offset < 65536) }
-    ensures { positionHere result ≡ positionAt text.now offset }
+    ensures { position_here result ≡ position_at text.now offset }
 {
     let mut c = start();
     while c.offset < offset {
@@ -65,7 +65,7 @@ fn walked(text: &[u8], offset: usize) -> Cursor
 // Line and column of a refusal or a fault, by its number and its place: one walk up to the place.
 pub fn position_of(text: &[u8], number: u32, place: usize) -> Cursor
     requires { place < 65536 }
-    ensures { positionHere result ≡ position_of text.now number place }
+    ensures { position_here result ≡ position_of text.now number place }
 {
     if is_elsewhere(number) {
         return start();

@@ -1,9 +1,9 @@
 // How a run ended, as an answer.
 ghost use Rattle.std.specs.Prelude.{◌≡◌};
 ghost use Rattle.rules.specs.Steps.Runs.{faulted};
-ghost use Rattle.rules.specs.Answers.{ranNumbers};
-ghost use Rattle.runner.specs.Runs.{endingOf, steps_of};
-ghost use Rattle.lent.specs.Numbers.{numbersOf};
+ghost use Rattle.rules.specs.Answers.{ran_numbers};
+ghost use Rattle.runner.specs.Runs.{ending_of, steps_of};
+ghost use Rattle.lent.specs.Numbers.{numbers_of};
 
 use lent::answers::{Answer, unrefused};
 use positions::position_of;
@@ -11,7 +11,7 @@ use runner::runs::Ended;
 
 // Ended with a fault, at a place in the text.
 pub fn fault(text: &[u8], number: u32, place: u16, steps: u32) -> Answer
-    ensures { numbersOf result ≡ ranNumbers text.now (faulted number place) steps }
+    ensures { numbers_of result ≡ ran_numbers text.now (faulted number place) steps }
 {
     let here = position_of(text, number, place as usize);
     Answer {
@@ -28,7 +28,7 @@ pub fn fault(text: &[u8], number: u32, place: u16, steps: u32) -> Answer
 
 // The numbers of how a run ended.
 pub fn ended_answer(text: &[u8], e: Ended) -> Answer
-    ensures { numbersOf result ≡ ranNumbers text.now (endingOf e) (steps_of e) }
+    ensures { numbers_of result ≡ ran_numbers text.now (ending_of e) (steps_of e) }
 {
     match e {
         Ended::Done(steps) => unrefused(0, steps, 0, 0),

@@ -1,7 +1,7 @@
 // Runs a description that is accepted: its table is completed, its carriers are judged.
 ghost use Rattle.std.specs.Prelude.{ℕ, ◌≤◌, length};
 ghost use Rattle.starts.specs.Starts.{Begins};
-ghost use Rattle.accepted.specs.Accepted.{Accepts, table-by};
+ghost use Rattle.accepted.specs.Accepted.{Accepts, table_by};
 ghost use Rattle.preparing.specs.Prepared.{Prepared};
 ghost use Rattle.preparing.specs.Outcome.{Outcome};
 
@@ -45,7 +45,7 @@ fn run_started(
     m: usize,
     n: usize,
 ) -> Answer
-    requires by_index { (words : ℕ) × (v : Accepts text.now records.old values.old decls.now m words n) × Begins (table-by v) carriers.old }
+    requires by_index { (words : ℕ) × (v : Accepts text.now records.old values.old decls.now m words n) × Begins (table_by v) carriers.old }
     requires in_bounds { (65536 ≤ length room.old) × (512 ≤ length decls.now) }
     ensures { Outcome text.now carriers.old budget carriers.new result }
 {

@@ -1,32 +1,32 @@
 -- The line that is written for an answer: `passes`, or `LINE:COLUMN: refused NUMBER` and why.
 use Rattle.std.specs.Prelude.{ℕ, zero, suc, true, false, List, ◌++◌, eqb}
 use Rattle.rules.specs.Text.Bytes.{bytes}
-use Rattle.lines.specs.Endings.{refusedBytes}
+use Rattle.lines.specs.Endings.{refused_bytes}
 
-abbrev pub noTest : List ℕ
-noTest = bytes ": the test is not the name of a body\n"
+abbrev pub no_test : List ℕ
+no_test = bytes ": the test is not the name of a body\n"
 
-abbrev pub noOutput : List ℕ
-noOutput = bytes ": the output is not the name of a storage carrier\n"
+abbrev pub no_output : List ℕ
+no_output = bytes ": the output is not the name of a storage carrier\n"
 
-abbrev pub tooEarly : List ℕ
-tooEarly = bytes ": a path writes the output here before one activation of the test has ended\n"
+abbrev pub too_early : List ℕ
+too_early = bytes ": a path writes the output here before one activation of the test has ended\n"
 
-abbrev pub notAccepted : List ℕ
-notAccepted = bytes ": the text is not accepted\n"
+abbrev pub not_accepted : List ℕ
+not_accepted = bytes ": the text is not accepted\n"
 
 -- why, by the number
-unfoldable pub reasonBytes : ℕ → List ℕ
-reasonBytes number =
+unfoldable pub reason_bytes : ℕ → List ℕ
+reason_bytes number =
     elim (eqb number 90) [
-      | true ↦ noTest
-      | false ↦ elim (eqb number 91) [ true ↦ noOutput | false ↦ elim (eqb number 92) [ true ↦ tooEarly | false ↦ notAccepted ] ]
+      | true ↦ no_test
+      | false ↦ elim (eqb number 91) [ true ↦ no_output | false ↦ elim (eqb number 92) [ true ↦ too_early | false ↦ not_accepted ] ]
     ]
 
 abbrev pub passed : List ℕ
 passed = bytes "passes\n"
 
 -- by the ending, the number, the line and the column
-unfoldable pub reportBytes : ℕ → ℕ → ℕ → ℕ → List ℕ
-reportBytes zero number line column = passed
-reportBytes (suc e) number line column = refusedBytes line column number ++ reasonBytes number
+unfoldable pub report_bytes : ℕ → ℕ → ℕ → ℕ → List ℕ
+report_bytes zero number line column = passed
+report_bytes (suc e) number line column = refused_bytes line column number ++ reason_bytes number

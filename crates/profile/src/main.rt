@@ -2,7 +2,7 @@
 
 ghost use Rattle.std.specs.Prelude.{◌+◌, ◌≤◌, length};
 ghost use Rattle.lines.specs.Appended.{Appended};
-ghost use Rattle.profile.specs.Report.{reasonBytes, reportBytes};
+ghost use Rattle.profile.specs.Report.{reason_bytes, report_bytes};
 
 use lines::answers::{Answer, answer_of};
 use lines::bytes::put_bytes;
@@ -25,7 +25,7 @@ fn profile(
 // Why the profile is refused, behind the refusal.
 fn put_reason(out: &mut [u8], at: usize, number: u64) -> usize
     requires { at + 128 ≤ length out.old }
-    ensures { Appended out.old out.new at result (reasonBytes number) × (result ≤ at + 128) }
+    ensures { Appended out.old out.new at result (reason_bytes number) × (result ≤ at + 128) }
 {
     if number == 90 {
         return put_bytes(out, at, b": the test is not the name of a body\n");
@@ -50,7 +50,7 @@ fn put_reason(out: &mut [u8], at: usize, number: u64) -> usize
 // One line for an answer.
 fn put_report(out: &mut [u8], a: Answer) -> usize
     requires { 256 ≤ length out.old }
-    ensures { Appended out.old out.new 0 result (reportBytes a.ending a.number a.line a.column) × (result ≤ 256) }
+    ensures { Appended out.old out.new 0 result (report_bytes a.ending a.number a.line a.column) × (result ≤ 256) }
 {
     let ending = a.ending;
     if ending == 0 {

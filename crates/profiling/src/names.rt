@@ -1,8 +1,8 @@
 // What a name does at the start of an action or in a destination.
 ghost use Rattle.std.specs.Prelude.{◌≡◌, ◌+◌, ◌*◌, ◌<◌};
-ghost use Rattle.rules.specs.Text.Tokens.{Name, kindNo};
+ghost use Rattle.rules.specs.Text.Tokens.{Name, kind_no};
 ghost use Rattle.rules.specs.Whole.Sets.{member, owner};
-ghost use Rattle.records.specs.Holds.{kindByte};
+ghost use Rattle.records.specs.Holds.{kind_byte};
 ghost use Rattle.records.specs.Words.{word_at};
 ghost use Rattle.reading.specs.Reading.{Reading, table_of};
 ghost use Rattle.profiling.specs.Walking.{Acting, Named, Activates};
@@ -26,7 +26,7 @@ fn activate(
     i: usize,
     s: Nest,
 ) -> Nest
-    requires { Acting records.now decls.now table.now room.old t i s × (kindByte records.now i ≡ kindNo Name) }
+    requires { Acting records.now decls.now table.now room.old t i s × (kind_byte records.now i ≡ kind_no Name) }
     ensures { Activates records.now decls.now table.now room.old room.new t i s result }
 {
     let aim = t.aim;
@@ -52,7 +52,7 @@ fn activate(
 
 // Whether the name i is the output, or a mapping on it.
 fn hits(records: &[u8], decls: &[u8], t: Task, i: usize) -> bool
-    requires { Reading records.now decls.now t.m t.n × ((i < t.n) × (kindByte records.now i ≡ kindNo Name)) × (t.out < 256) }
+    requires { Reading records.now decls.now t.m t.n × ((i < t.n) × (kind_byte records.now i ≡ kind_no Name)) × (t.out < 256) }
     ensures { (v : Reading records.now decls.now t.m t.n) → result ≡ member t.out (owner (table_of v) (word_at v.tokens i)) }
 {
     let out = t.out;
@@ -71,7 +71,7 @@ pub fn name(
     mode: usize,
     s: Nest,
 ) -> Nest
-    requires { Acting records.now decls.now table.now room.old t i s × (kindByte records.now i ≡ kindNo Name) }
+    requires { Acting records.now decls.now table.now room.old t i s × (kind_byte records.now i ≡ kind_no Name) }
     ensures { Named records.now decls.now table.now room.old room.new t i mode s result }
 {
     if mode != 0 {

@@ -1,6 +1,6 @@
 // What a token does to a walk.
 ghost use Rattle.std.specs.Prelude.{◌≡◌, false};
-ghost use Rattle.records.specs.Holds.{kindByte};
+ghost use Rattle.records.specs.Holds.{kind_byte};
 ghost use Rattle.profiling.specs.Walking.{Acting, Acted, Aims};
 ghost use Rattle.nesting.specs.Holding.{Standing, Does};
 ghost use Rattle.nesting.specs.Machine.{reached, chosen};
@@ -54,7 +54,7 @@ pub fn step(
     mode: usize,
     s: Nest,
 ) -> Nest
-    requires { Acting records.now decls.now table.now room.old t i s × (kind ≡ kindByte records.now i) }
+    requires { Acting records.now decls.now table.now room.old t i s × (kind ≡ kind_byte records.now i) }
     ensures { Acted records.now decls.now table.now room.old room.new t i mode s result }
 {
     if kind == NAME {

@@ -1,7 +1,7 @@
 // The walk along the tokens of a body.
 ghost use Rattle.std.specs.Prelude.{◌+◌, ◌*◌, ◌<◌, ◌≤◌, length};
-ghost use Rattle.rules.specs.Limits.{mostTokens};
-ghost use Rattle.room.specs.Profile.{mostFlags, roomSize};
+ghost use Rattle.rules.specs.Limits.{most_tokens};
+ghost use Rattle.room.specs.Profile.{most_flags, room_size};
 ghost use Rattle.profiling.specs.Going.{Cleared, Beginning, Begins, Tells, Walked};
 ghost use Rattle.nesting.specs.Holding.{Standing};
 
@@ -22,8 +22,8 @@ pub struct Found {
 }
 
 fn clear_flags(room: &mut [u8])
-    requires { roomSize ≤ length room.old }
-    ensures { Cleared room.old room.new mostFlags }
+    requires { room_size ≤ length room.old }
+    ensures { Cleared room.old room.new most_flags }
 {
     let mut k: usize = 0;
     while k < FRAMES {
@@ -35,7 +35,7 @@ fn clear_flags(room: &mut [u8])
 
 // At the start of a body, whose own name is the outermost label.
 fn begin(records: &[u8], room: &mut [u8], name: usize) -> Nest
-    requires { (roomSize ≤ length room.old) × (name < mostTokens) × (8 * name + 8 ≤ length records.now) }
+    requires { (room_size ≤ length room.old) × (name < most_tokens) × (8 * name + 8 ≤ length records.now) }
     ensures { Begins records.now room.new name result }
 {
     clear_flags(room);

@@ -3,30 +3,30 @@
 use Rattle.std.specs.Prelude.{ℕ, suc, ◌+◌, ◌<◌, ◌≤◌, ◌≡◌, List, [], ◌∷◌, length, drop}
 use Rattle.cells.specs.Cells.{cell}
 use Rattle.rules.specs.Text.Tokens.{Name, Const, Masked, LPar, LBra, Less, Becomes, Equals, BEGIN, END, IF, DECODE, OTHERWISE, REPEAT, LEAVE, RESTART, STOP, NO-OP}
-use Rattle.rules.specs.Text.Tokens.{Kind, Info, Token, tk, Op, opKind}
-use Rattle.rules.specs.Grammar.Trees.{Tokens, Bits, bitsTokens, Subscript, subscriptTokens, Joined, joinedTokens, Operand, operandTokens, Tail, tailTokens, Selector, selectorTokens}
-use Rattle.rules.specs.Grammar.Precedence.{Expr, exprOf}
-use Rattle.rules.specs.Selectors.{Case, numbered, listed, otherwise, selectorItems}
+use Rattle.rules.specs.Text.Tokens.{Kind, Info, Token, tk, Op, op_kind}
+use Rattle.rules.specs.Grammar.Trees.{Tokens, Bits, bits_tokens, Subscript, subscript_tokens, Joined, joined_tokens, Operand, operand_tokens, Tail, tail_tokens, Selector, selector_tokens}
+use Rattle.rules.specs.Grammar.Precedence.{Expr, expr_of}
+use Rattle.rules.specs.Selectors.{Case, numbered, listed, otherwise, selector_items}
 use Rattle.rules.specs.Declarations.{Word, Table}
-use Rattle.rules.specs.Limits.{mostDeclarations, deepest}
-use Rattle.rules.specs.Steps.Actions.{Access, access, joinedAccesses}
-use Rattle.rules.specs.Faults.Bodies.{judge, judgeDestination, judgeJoined}
-use Rattle.laws_grammar.specs.Cited.Nesting.{operandNest, tailNest, subscriptNest, joinedNest}
-use Rattle.laws_orders.specs.Cited.Flat.{Link, at, exit, Entries, no-entry, entry, Instr, ifI, decodeI, goI, callI, stopI, moveI, Code}
-use Rattle.records.specs.Holds.{placeCell, insideCell, linkCell, tokenAt}
+use Rattle.rules.specs.Limits.{most_declarations, deepest}
+use Rattle.rules.specs.Steps.Actions.{Access, access, joined_accesses}
+use Rattle.rules.specs.Faults.Bodies.{judge, judge_destination, judge_joined}
+use Rattle.laws_grammar.specs.Cited.Nesting.{operand_nest, tail_nest, subscript_nest, joined_nest}
+use Rattle.laws_orders.specs.Cited.Flat.{Link, at, exit, Entries, no_entry, entry, Instr, if_i, decode_i, go_i, call_i, stop_i, move_i, Code}
+use Rattle.records.specs.Holds.{place_cell, inside_cell, link_cell, token_at}
 
 -- an instruction never stands at token 0, which is the outer name
-abbrev pub linkNo : Link → ℕ
-linkNo (at n) = n
-linkNo exit = 0
+abbrev pub link_no : Link → ℕ
+link_no (at n) = n
+link_no exit = 0
 
 -- an expression ends before a token that is no operator, `[` or `<`
 pub record EndsExpression (rest : Tokens) : Type 0 where
   pub next : Token
   pub more : Tokens
   pub is : rest ≡ next ∷ more
-  pub no-operator : (o : Op) → next.kind ≡ opKind o → ⊥
-  pub no-subscript : next.kind ≡ LBra → ⊥
+  pub no_operator : (o : Op) → next.kind ≡ op_kind o → ⊥
+  pub no_subscript : next.kind ≡ LBra → ⊥
   pub no_bits : next.kind ≡ Less → ⊥
 
 -- a sound expression stands from the token i up to j
@@ -34,13 +34,13 @@ pub record ExpressionStands (ts : Tokens) (outer : Word) (ds : Table) (i j : ℕ
   pub operand : Operand
   pub tail : Tail
   pub rest : Tokens
-  pub is : e ≡ exprOf operand tail
-  pub reads : drop i ts ≡ operandTokens operand (tailTokens tail rest)
+  pub is : e ≡ expr_of operand tail
+  pub reads : drop i ts ≡ operand_tokens operand (tail_tokens tail rest)
   pub behind : drop j ts ≡ rest
   pub ends : EndsExpression rest
   pub sound : (judge outer ds e).faults ≡ []
-  pub operand-shallow : operandNest operand ≤ deepest
-  pub tail-shallow : tailNest tail ≤ deepest
+  pub operand_shallow : operand_nest operand ≤ deepest
+  pub tail_shallow : tail_nest tail ≤ deepest
 
 -- a sound destination stands from the token i up to the `=` at j
 pub record DestinationStands (ts : Tokens) (outer : Word) (ds : Table) (i j : ℕ) (to : List Access) : Type 0 where
@@ -50,19 +50,19 @@ pub record DestinationStands (ts : Tokens) (outer : Word) (ds : Table) (i j : �
   pub joined : Joined
   pub equals : Info
   pub rest : Tokens
-  pub is : to ≡ access name subscript bits ∷ joinedAccesses joined
-  pub reads : drop i ts ≡ tk Name name ∷ subscriptTokens subscript (bitsTokens bits (joinedTokens joined (tk Equals equals ∷ rest)))
+  pub is : to ≡ access name subscript bits ∷ joined_accesses joined
+  pub reads : drop i ts ≡ tk Name name ∷ subscript_tokens subscript (bits_tokens bits (joined_tokens joined (tk Equals equals ∷ rest)))
   pub behind : drop j ts ≡ tk Equals equals ∷ rest
-  pub sound : judgeJoined outer ds (judgeDestination outer ds name subscript bits) joined ≡ []
-  pub subscript-shallow : subscriptNest subscript ≤ deepest
-  pub joined-shallow : joinedNest joined ≤ deepest
+  pub sound : judge_joined outer ds (judge_destination outer ds name subscript bits) joined ≡ []
+  pub subscript_shallow : subscript_nest subscript ≤ deepest
+  pub joined_shallow : joined_nest joined ≤ deepest
 
 -- what stands behind the separator of an alternative: nothing of its own, a selector, or OTHERWISE
 abbrev pub CaseStands : Tokens → ℕ → Case → Type 0
 CaseStands ts i (numbered n) =
-    ((tokenAt ts i).kind ≡ Const → ⊥) × ((tokenAt ts i).kind ≡ Masked → ⊥) × ((tokenAt ts i).kind ≡ LBra → ⊥) × ((tokenAt ts i).kind ≡ OTHERWISE → ⊥)
-CaseStands ts i (listed is) = (s : Selector) × (b : Info) × (rest : Tokens) × (is ≡ selectorItems s) × (drop i ts ≡ selectorTokens s (tk Becomes b ∷ rest))
-CaseStands ts i otherwise = (tokenAt ts i).kind ≡ OTHERWISE
+    ((token_at ts i).kind ≡ Const → ⊥) × ((token_at ts i).kind ≡ Masked → ⊥) × ((token_at ts i).kind ≡ LBra → ⊥) × ((token_at ts i).kind ≡ OTHERWISE → ⊥)
+CaseStands ts i (listed is) = (s : Selector) × (b : Info) × (rest : Tokens) × (is ≡ selector_items s) × (drop i ts ≡ selector_tokens s (tk Becomes b ∷ rest))
+CaseStands ts i otherwise = (token_at ts i).kind ≡ OTHERWISE
 
 -- alternatives without selectors have their numbers by counting, from k on
 abbrev pub Numbered : ℕ → Case → Type 0
@@ -71,37 +71,37 @@ Numbered k (listed is) = Unit {0}
 Numbered k otherwise = Unit {0}
 
 abbrev pub Counted : ℕ → Entries → Type 0
-Counted k no-entry = Unit {0}
+Counted k no_entry = Unit {0}
 Counted k (entry c g t) = Numbered k c × Counted (suc k) t
 
 module _ (records : List ℕ) (ts : Tokens) where
   -- the alternatives from the separator p on (BEGIN or `,`), whose cell inside leads to the action and whose link to the next separator, `,` or END
   abbrev pub EntriesStand : ℕ → Entries → Type 0
-  EntriesStand p no-entry = (tokenAt ts p).kind ≡ END
+  EntriesStand p no_entry = (token_at ts p).kind ≡ END
   EntriesStand p (entry c g t) =
-      (p < length ts) × (((tokenAt ts p).kind ≡ END → ⊥) × (CaseStands ts (p + 1) c × ((insideCell records p ≡ g) × ((p < linkCell records p) × EntriesStand (linkCell records p) t))))
+      (p < length ts) × (((token_at ts p).kind ≡ END → ⊥) × (CaseStands ts (p + 1) c × ((inside_cell records p ≡ g) × ((p < link_cell records p) × EntriesStand (link_cell records p) t))))
 
 module _ (records decls : List ℕ) (ts : Tokens) (outer : Word) (ds : Table) (C : Code) where
   pub data Jump : Kind → Type 0 where
-    a-repeat : Jump REPEAT
+    a_repeat : Jump REPEAT
     a_leave : Jump LEAVE
-    a-restart : Jump RESTART
-    a-no-op : Jump NO-OP
+    a_restart : Jump RESTART
+    a_no_op : Jump NO-OP
 
   abbrev pub InstructionHolds : ℕ → Instr → Type 0
-  InstructionHolds n (ifI e g k) =
-      ((tokenAt ts n).kind ≡ IF) × ((j : ℕ) × (ExpressionStands ts outer ds (n + 1) j e × ((insideCell records n ≡ g) × (linkCell records n ≡ linkNo k))))
-  InstructionHolds n (decodeI p e t) =
-      ((tokenAt ts n).kind ≡ DECODE)
-      × ((placeCell records n ≡ p) × ((j : ℕ) × (ExpressionStands ts outer ds (n + 1) j e × (((tokenAt ts (j + 1)).kind ≡ BEGIN) × (EntriesStand records ts (j + 1) t × Counted 0 t)))))
-  InstructionHolds n (goI k) = Jump (tokenAt ts n).kind × (linkCell records n ≡ linkNo k)
-  InstructionHolds n (callI p k) =
-      ((tokenAt ts n).kind ≡ Name)
-      × (((tokenAt ts (n + 1)).kind ≡ LPar) × ((linkCell records n ≡ linkNo k)
-      × ((insideCell records n < mostDeclarations)
-      × ((cell 2 decls (insideCell records n) < length ts) × (linkCell records (cell 2 decls (insideCell records n)) ≡ C.first p)))))
-  InstructionHolds n stopI = (tokenAt ts n).kind ≡ STOP
-  InstructionHolds n (moveI to e k) =
-      ((tokenAt ts n).kind ≡ Name)
-      × (((tokenAt ts (n + 1)).kind ≡ LPar → ⊥)
-      × ((linkCell records n ≡ linkNo k) × (DestinationStands ts outer ds n (insideCell records n) to × ((j : ℕ) × ExpressionStands ts outer ds (insideCell records n + 1) j e))))
+  InstructionHolds n (if_i e g k) =
+      ((token_at ts n).kind ≡ IF) × ((j : ℕ) × (ExpressionStands ts outer ds (n + 1) j e × ((inside_cell records n ≡ g) × (link_cell records n ≡ link_no k))))
+  InstructionHolds n (decode_i p e t) =
+      ((token_at ts n).kind ≡ DECODE)
+      × ((place_cell records n ≡ p) × ((j : ℕ) × (ExpressionStands ts outer ds (n + 1) j e × (((token_at ts (j + 1)).kind ≡ BEGIN) × (EntriesStand records ts (j + 1) t × Counted 0 t)))))
+  InstructionHolds n (go_i k) = Jump (token_at ts n).kind × (link_cell records n ≡ link_no k)
+  InstructionHolds n (call_i p k) =
+      ((token_at ts n).kind ≡ Name)
+      × (((token_at ts (n + 1)).kind ≡ LPar) × ((link_cell records n ≡ link_no k)
+      × ((inside_cell records n < most_declarations)
+      × ((cell 2 decls (inside_cell records n) < length ts) × (link_cell records (cell 2 decls (inside_cell records n)) ≡ C.first p)))))
+  InstructionHolds n stop_i = (token_at ts n).kind ≡ STOP
+  InstructionHolds n (move_i to e k) =
+      ((token_at ts n).kind ≡ Name)
+      × (((token_at ts (n + 1)).kind ≡ LPar → ⊥)
+      × ((link_cell records n ≡ link_no k) × (DestinationStands ts outer ds n (inside_cell records n) to × ((j : ℕ) × ExpressionStands ts outer ds (inside_cell records n + 1) j e))))

@@ -3,9 +3,9 @@ ghost use Rattle.std.specs.Prelude.{◌≡◌, ◌*◌, ◌≤◌, length};
 ghost use Rattle.std.proofs.Math.Option.{some};
 ghost use Rattle.reading.specs.Reading.{Reading, table_of};
 ghost use Rattle.gathering.specs.Filling.{Complete};
-ghost use Rattle.rules.specs.Reasons.{raceReason, reason53};
-ghost use Rattle.racing.specs.Found.{raceOf};
-ghost use Rattle.racing.specs.Told.{reasonIn};
+ghost use Rattle.rules.specs.Reasons.{race_reason, reason53};
+ghost use Rattle.racing.specs.Found.{race_of};
+ghost use Rattle.racing.specs.Told.{reason_in};
 
 use crate::groups::race;
 use gathering::touches::touched;
@@ -30,7 +30,7 @@ fn shared(
     later: usize,
 ) -> Reason
     requires { Reading records.now decls.now m n × ((72 * m ≤ length memo.now) × Complete records.now decls.now memo.now m n) }
-    ensures { (v : Reading records.now decls.now m n) → reasonIn result ≡ raceReason (table_of v) (some (raceOf v earlier later)) }
+    ensures { (v : Reading records.now decls.now m n) → reason_in result ≡ race_reason (table_of v) (some (race_of v earlier later)) }
 {
     let u = touched(records, decls, memo, m, n, earlier);
     let t = touched(records, decls, memo, m, n, later);
@@ -55,7 +55,7 @@ pub fn race_reason(
     place: usize,
 ) -> Reason
     requires { Reading records.now decls.now m n × ((72 * m ≤ length memo.now) × Complete records.now decls.now memo.now m n) }
-    ensures { (v : Reading records.now decls.now m n) → reasonIn result ≡ reason53 (table_of v) place }
+    ensures { (v : Reading records.now decls.now m n) → reason_in result ≡ reason53 (table_of v) place }
 {
     let found = race(records, decls, memo, m, n, place);
     let earlier = found.earlier;

@@ -1,7 +1,7 @@
 // Declarations: refusals 10 to 33.
 ghost use Rattle.std.specs.Prelude.{◌≤◌, length};
-ghost use Rattle.rules.specs.Limits.{longestText};
-ghost use Rattle.room.specs.Spelling.{roomSize};
+ghost use Rattle.rules.specs.Limits.{longest_text};
+ghost use Rattle.room.specs.Spelling.{room_size};
 ghost use Rattle.reader.specs.Parsed.{Stands};
 ghost use Rattle.reader.specs.Read.{Reads};
 
@@ -18,7 +18,7 @@ pub enum Standing {
 // Judges the declarations of a description of n tokens that stands in the table.
 fn declared(text: &[u8], records: &mut [u8], values: &[u8], decls: &mut [u8], n: usize) -> Standing
     requires stands { Stands text.now records.old values.now n }
-    requires room_size_in_bounds { roomSize ≤ length decls.old }
+    requires room_size_in_bounds { room_size ≤ length decls.old }
     ensures { Reads text.now records.new values.now decls.new result }
 {
     match declare(text, records, values, decls, n) {
@@ -29,8 +29,8 @@ fn declared(text: &[u8], records: &mut [u8], values: &[u8], decls: &mut [u8], n:
 
 // Reads a text up to its declarations.
 pub fn read(text: &[u8], records: &mut [u8], values: &mut [u8], decls: &mut [u8]) -> Standing
-    requires text_len_bound { (length text.now ≤ longestText) × ((65536 ≤ length records.old) × (65536 ≤ length values.old)) }
-    requires room_size_in_bounds { roomSize ≤ length decls.old }
+    requires text_len_bound { (length text.now ≤ longest_text) × ((65536 ≤ length records.old) × (65536 ≤ length values.old)) }
+    requires room_size_in_bounds { room_size ≤ length decls.old }
     ensures { Reads text.now records.new values.new decls.new result }
 {
     match parse(text, records, values) {

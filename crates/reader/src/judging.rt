@@ -1,6 +1,6 @@
 // The bodies and the whole: refusals 40 to 53.
 ghost use Rattle.std.specs.Prelude.{◌≤◌, length};
-ghost use Rattle.rules.specs.Limits.{mostDeclarations};
+ghost use Rattle.rules.specs.Limits.{most_declarations};
 ghost use Rattle.reader.specs.Copied.{Copied};
 ghost use Rattle.accepted.specs.Accepted.{Declares, Lawful};
 ghost use Rattle.reader.specs.Judged.{Judges};
@@ -22,7 +22,7 @@ pub enum Verdict {
 // Keeps the declarations, of which there are few, so that the room can be used for something else.
 fn keep(room: &[u8], decls: &mut [u8])
     requires { (512 ≤ length room.now) × (512 ≤ length decls.old) }
-    ensures { Copied decls.new room.now mostDeclarations }
+    ensures { Copied decls.new room.now most_declarations }
 {
     let mut k: usize = 0;
     while k < MOST_DECLARATIONS {

@@ -4,7 +4,7 @@ pub mod judging;
 pub mod parsing;
 
 ghost use Rattle.std.specs.Prelude.{◌≤◌, length};
-ghost use Rattle.rules.specs.Limits.{longestText};
+ghost use Rattle.rules.specs.Limits.{longest_text};
 ghost use Rattle.reader.specs.Judged.{Judges};
 
 use crate::declaring::{Standing, read};
@@ -18,7 +18,7 @@ pub fn check(
     room: &mut [u8],
     decls: &mut [u8],
 ) -> Verdict
-    requires text_len_bound { (length text.now ≤ longestText) × ((65536 ≤ length records.old) × (65536 ≤ length values.old)) }
+    requires text_len_bound { (length text.now ≤ longest_text) × ((65536 ≤ length records.old) × (65536 ≤ length values.old)) }
     requires in_bounds { (65536 ≤ length room.old) × (512 ≤ length decls.old) }
     ensures { Judges text.now records.new values.new decls.new result }
 {

@@ -1,7 +1,7 @@
 // Tokens and grammar: refusals 10 to 21.
 ghost use Rattle.std.specs.Prelude.{◌≡◌, ◌*◌, ◌<◌, ◌≤◌, length};
-ghost use Rattle.rules.specs.Limits.{longestText};
-ghost use Rattle.reader.specs.Parsed.{placeBy, Scans, Parses};
+ghost use Rattle.rules.specs.Limits.{longest_text};
+ghost use Rattle.reader.specs.Parsed.{place_by, Scans, Parses};
 
 use grammar::Recognised;
 use records::fields::place_at;
@@ -17,7 +17,7 @@ pub enum Parsed {
 // The place of token k of n, or of the end of the text.
 fn place_of(records: &[u8], n: usize, k: usize, end: usize) -> usize
     requires { 8 * n ≤ length records.now }
-    ensures { result ≡ placeBy records.now n k end }
+    ensures { result ≡ place_by records.now n k end }
 {
     if k < n {
         return place_at(records, k);
@@ -39,7 +39,7 @@ fn recognised(text: &[u8], records: &[u8], n: usize) -> Parsed
 
 // Reads a text into the table and judges its tokens.
 pub fn parse(text: &[u8], records: &mut [u8], values: &mut [u8]) -> Parsed
-    requires { (length text.now ≤ longestText) × ((65536 ≤ length records.old) × (65536 ≤ length values.old)) }
+    requires { (length text.now ≤ longest_text) × ((65536 ≤ length records.old) × (65536 ≤ length values.old)) }
     ensures { Parses text.now records.new values.new result }
 {
     match text::scan(text, records, values) {

@@ -2,15 +2,15 @@
 use Rattle.std.specs.Prelude.{ℕ, ◌≡◌, List, drop}
 use Rattle.std.proofs.Math.Option.{none, some}
 use Rattle.rules.specs.Text.Tokens.{Info}
-use Rattle.rules.specs.Grammar.Trees.{Tokens, Action, block, actionTokens, Members}
-use Rattle.rules.specs.Declarations.{Table, bodyNumber}
+use Rattle.rules.specs.Grammar.Trees.{Tokens, Action, block, action_tokens, Members}
+use Rattle.rules.specs.Declarations.{Table, body_number}
 use Rattle.rules.specs.Steps.Actions.{Act}
-use Rattle.rules.specs.Steps.Runs.{actOr}
+use Rattle.rules.specs.Steps.Runs.{act_or}
 use Rattle.reading.specs.Reading.{Reading, table_of}
 
 -- what the declaration of the number k does when it is activated
-abbrev pub actAt : Table → ℕ → Act
-actAt ds k = actOr (bodyNumber ds (some k))
+abbrev pub act_at : Table → ℕ → Act
+act_at ds k = act_or (body_number ds (some k))
 
 -- a body is a block
 pub record Block (a : Action) : Type 0 where
@@ -21,5 +21,5 @@ pub record Block (a : Action) : Type 0 where
 
 -- the body of the declaration k stands from b on; at 0 there is none
 pub record Body {records decls : List ℕ} {m n : ℕ} (v : Reading records decls m n) (k b : ℕ) : Type 0 where
-  pub missing : b ≡ 0 → bodyNumber (table_of v) (some k) ≡ none
-  pub there : (b ≡ 0 → ⊥) → (a : Action) × (bodyNumber (table_of v) (some k) ≡ some a) × Block a × ((rest : Tokens) × (drop b v.tokens ≡ actionTokens a rest))
+  pub missing : b ≡ 0 → body_number (table_of v) (some k) ≡ none
+  pub there : (b ≡ 0 → ⊥) → (a : Action) × (body_number (table_of v) (some k) ≡ some a) × Block a × ((rest : Tokens) × (drop b v.tokens ≡ action_tokens a rest))

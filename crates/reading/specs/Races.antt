@@ -6,12 +6,12 @@ use Rattle.reading.specs.Events.{Event, reads, writes, activates, halts}
 
 -- what events read and write
 module _ (ds : Table) (f : Word → Sets) where
-  abbrev pub eventSets : Event → Sets
-  eventSets (reads w) = sets (owner ds w) []
-  eventSets (writes w) = sets [] (owner ds w)
-  eventSets (activates w) = f w
-  eventSets halts = sets [] []
+  abbrev pub event_sets : Event → Sets
+  event_sets (reads w) = sets (owner ds w) []
+  event_sets (writes w) = sets [] (owner ds w)
+  event_sets (activates w) = f w
+  event_sets halts = sets [] []
 
   unfoldable pub touch : List Event → Sets
   touch [] = sets [] []
-  touch (e ∷ es) = union (eventSets e) (touch es)
+  touch (e ∷ es) = union (event_sets e) (touch es)

@@ -2,8 +2,8 @@
 use Rattle.std.specs.Prelude.{ℕ, ◌*◌, ◌<◌, ◌≤◌, ◌≡◌, List, length}
 use Rattle.rules.specs.Grammar.Trees.{Tokens, Description}
 use Rattle.rules.specs.Declarations.{Table, declarations}
-use Rattle.rules.specs.Limits.{mostTokens}
-use Rattle.records.specs.Holds.{kindByte, tokenAt}
+use Rattle.rules.specs.Limits.{most_tokens}
+use Rattle.records.specs.Holds.{kind_byte, token_at}
 use Rattle.table.specs.Ready.{Ready}
 use Rattle.table.specs.Scans.{no}
 
@@ -11,9 +11,9 @@ use Rattle.table.specs.Scans.{no}
 pub record Kinded (records : List ℕ) (n : ℕ) : Type 0 where
   pub tokens : Tokens
   pub count : n ≡ length tokens
-  pub few : n ≤ mostTokens
+  pub few : n ≤ most_tokens
   pub room : 8 * n ≤ length records
-  pub kind : (i : ℕ) → i < n → kindByte records i ≡ no (tokenAt tokens i)
+  pub kind : (i : ℕ) → i < n → kind_byte records i ≡ no (token_at tokens i)
 
 -- n tokens and m declarations, which are passed
 pub record Reading (records decls : List ℕ) (m n : ℕ) : Type 0 where

@@ -5,26 +5,26 @@ use Rattle.rules.specs.Whole.Sets.{Sets, owner, member}
 use Rattle.reading.specs.Events.{Event, reads, writes, activates, halts}
 
 module _ (p : Event → Bool) where
-  unfoldable pub anyEvent : List Event → Bool
-  anyEvent [] = false
-  anyEvent (e ∷ es) = p e || anyEvent es
+  unfoldable pub any_event : List Event → Bool
+  any_event [] = false
+  any_event (e ∷ es) = p e || any_event es
 
 -- The rules, for a carrier c: whether it is read, whether it is written.
 module _ (ds : Table) (f : Word → Sets) (c : ℕ) where
-  abbrev pub readHit : Event → Bool
-  readHit (reads w) = member c (owner ds w)
-  readHit (writes w) = false
-  readHit (activates w) = member c (f w).reads
-  readHit halts = false
+  abbrev pub read_hit : Event → Bool
+  read_hit (reads w) = member c (owner ds w)
+  read_hit (writes w) = false
+  read_hit (activates w) = member c (f w).reads
+  read_hit halts = false
 
-  abbrev pub writeHit : Event → Bool
-  writeHit (reads w) = false
-  writeHit (writes w) = member c (owner ds w)
-  writeHit (activates w) = member c (f w).writes
-  writeHit halts = false
+  abbrev pub write_hit : Event → Bool
+  write_hit (reads w) = false
+  write_hit (writes w) = member c (owner ds w)
+  write_hit (activates w) = member c (f w).writes
+  write_hit halts = false
 
-abbrev pub stopHit : (Word → Bool) → Event → Bool
-stopHit g (reads w) = false
-stopHit g (writes w) = false
-stopHit g (activates w) = g w
-stopHit g halts = true
+abbrev pub stop_hit : (Word → Bool) → Event → Bool
+stop_hit g (reads w) = false
+stop_hit g (writes w) = false
+stop_hit g (activates w) = g w
+stop_hit g halts = true

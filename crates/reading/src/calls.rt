@@ -1,6 +1,6 @@
 // The activations of an action, one after the other.
 ghost use Rattle.std.specs.Prelude.{◌+◌, ◌≤◌, ◌<◌, drop};
-ghost use Rattle.reading.specs.Kinds.{nextNo};
+ghost use Rattle.reading.specs.Kinds.{next_no};
 ghost use Rattle.reading.specs.Reading.{Kinded};
 ghost use Rattle.reading.specs.Calls.{Activates, NextCall};
 
@@ -21,7 +21,7 @@ pub struct Call {
 // Whether the token activates: a name in front of `(` where an action begins.
 fn activates(records: &[u8], n: usize, at: usize, kind: u8, m: usize) -> bool
     requires { Kinded records.now n × (at < n) }
-    ensures { (v : Kinded records.now n) → Activates result kind m (nextNo (drop (at + 1) v.tokens)) }
+    ensures { (v : Kinded records.now n) → Activates result kind m (next_no (drop (at + 1) v.tokens)) }
 {
     if kind != NAME {
         return false;

@@ -1,6 +1,6 @@
 // The tokens of a body by their kinds: what separates actions, how deep they stand, where an action ends.
 ghost use Rattle.std.specs.Prelude.{◌≡◌, ◌+◌, ◌<◌, ◌≤◌, drop};
-ghost use Rattle.reading.specs.Kinds.{nextNo, tests, begins, stores, closes, mode};
+ghost use Rattle.reading.specs.Kinds.{next_no, tests, begins, stores, closes, mode};
 ghost use Rattle.reading.specs.Reading.{Kinded};
 ghost use Rattle.reading.specs.Behind.{behind};
 ghost use Rattle.reading.specs.Groups.{more};
@@ -93,7 +93,7 @@ pub fn mode(m: usize, kind: u8) -> usize
 // The kind of the token i, of n.
 pub fn kind_of(records: &[u8], n: usize, i: usize) -> u8
     requires { Kinded records.now n }
-    ensures { (v : Kinded records.now n) → result ≡ nextNo (drop i v.tokens) }
+    ensures { (v : Kinded records.now n) → result ≡ next_no (drop i v.tokens) }
 {
     if i < n {
         return kind_at(records, i);

@@ -1,9 +1,9 @@
 // What the names of a body mean.
 ghost use Rattle.std.specs.Prelude.{◌≡◌, List, ℕ, ◌+◌, ◌*◌, ◌<◌, ◌≤◌, length};
-ghost use Rattle.rules.specs.Text.Tokens.{Name, kindNo};
-ghost use Rattle.rules.specs.Limits.{mostDeclarations};
+ghost use Rattle.rules.specs.Text.Tokens.{Name, kind_no};
+ghost use Rattle.rules.specs.Limits.{most_declarations};
 ghost use Rattle.rules.specs.Whole.Sets.{owner};
-ghost use Rattle.records.specs.Holds.{kindByte};
+ghost use Rattle.records.specs.Holds.{kind_byte};
 ghost use Rattle.records.specs.Words.{word_at};
 ghost use Rattle.reading.specs.Reading.{Reading, table_of};
 ghost use Rattle.reading.specs.Names.{Owned};
@@ -20,7 +20,7 @@ const NONE: usize = 65535;
 
 // The storage carrier under the name i, of which a mapping has its target's; from 256 on there is none.
 pub fn carrier(records: &[u8], decls: &[u8], m: usize, n: usize, i: usize) -> usize
-    requires { Reading records.now decls.now m n × ((i < n) × (kindByte records.now i ≡ kindNo Name)) }
+    requires { Reading records.now decls.now m n × ((i < n) × (kind_byte records.now i ≡ kind_no Name)) }
     ensures { (v : Reading records.now decls.now m n) → Owned (owner (table_of v) (word_at v.tokens i)) result }
 {
     let k = inside_at(records, i);
@@ -43,8 +43,8 @@ pub const UNDECLARED: usize = MOST_DECLARATIONS;
 
 // Where a table has what is known of the name i.
 pub fn index_of(records: &[u8], m: usize, i: usize) -> usize
-    requires { (8 * i + 8 ≤ length records.now) × (m ≤ mostDeclarations) }
-    ensures { (result ≤ undeclared) × ((decls : List ℕ) (n : ℕ) (v : Reading records.now decls m n) → i < n → kindByte records.now i ≡ kindNo Name
+    requires { (8 * i + 8 ≤ length records.now) × (m ≤ most_declarations) }
+    ensures { (result ≤ undeclared) × ((decls : List ℕ) (n : ℕ) (v : Reading records.now decls m n) → i < n → kind_byte records.now i ≡ kind_no Name
         → result ≡ index_of (table_of v) (word_at v.tokens i)) }
 {
     let k = inside_at(records, i);

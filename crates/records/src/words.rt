@@ -1,7 +1,7 @@
 // Whether two names have the same word. Words are compared in the text itself, with letters folded.
 ghost use Rattle.std.specs.Prelude.{◌≡◌, ◌+◌, ◌≤◌, length};
-ghost use Rattle.rules.specs.Text.Scan.{sameBytes};
-ghost use Rattle.records.specs.Holds.{foldedAt};
+ghost use Rattle.rules.specs.Text.Scan.{same_bytes};
+ghost use Rattle.records.specs.Holds.{folded_at};
 ghost use Rattle.records.specs.Words.{TwoNames, same_words};
 
 use crate::fields::{place_at, size_at};
@@ -10,7 +10,7 @@ use classes::letters::upper;
 // Whether n bytes at a and at b are the same but for the case of letters.
 fn same_run(text: &[u8], a: usize, b: usize, n: usize) -> bool
     requires { (a + n ≤ length text.now) × (b + n ≤ length text.now) }
-    ensures { result ≡ sameBytes (foldedAt text.now a n) (foldedAt text.now b n) }
+    ensures { result ≡ same_bytes (folded_at text.now a n) (folded_at text.now b n) }
 {
     let mut k: usize = 0;
     while k < n {

@@ -1,7 +1,7 @@
 // The numbers of a reason in lent bytes.
 ghost use Rattle.std.specs.Prelude.{◌≡◌, ◌++◌, ◌<◌, ◌≤◌, length, get_or, drop};
-ghost use Rattle.rules.specs.Calls.Memory.{numberBytes};
-ghost use Rattle.rules.specs.Calls.Why.{reasonSize};
+ghost use Rattle.rules.specs.Calls.Memory.{number_bytes};
+ghost use Rattle.rules.specs.Calls.Why.{reason_size};
 
 use cells::put64;
 use chaining::walks::Numbers;
@@ -20,8 +20,8 @@ fn number_at(numbers: Numbers, i: usize) -> u32
 
 // Writes the numbers in front of what stands in the bytes.
 pub fn put_numbers(reason: &mut [u8], numbers: Numbers)
-    requires { reasonSize ≤ length reason.old }
-    ensures { reason.new ≡ numberBytes numbers.n ++ drop reasonSize reason.old }
+    requires { reason_size ≤ length reason.old }
+    ensures { reason.new ≡ number_bytes numbers.n ++ drop reason_size reason.old }
 {
     let mut i: usize = 0;
     while i < PAIRS {

@@ -1,6 +1,6 @@
 // What the names mean: each name's record takes the number of its first declaration.
 ghost use Rattle.std.specs.Prelude.{◌≡◌, List, ◌+◌, ◌*◌, ◌<◌, ◌≤◌, length};
-ghost use Rattle.rules.specs.Limits.{mostTokens};
+ghost use Rattle.rules.specs.Limits.{most_tokens};
 ghost use Rattle.rules.specs.Grammar.Trees.{Tokens, Declaration};
 ghost use Rattle.rules.specs.Declarations.{Word};
 ghost use Rattle.records.specs.Words.{word_at};
@@ -13,7 +13,7 @@ use table::meanings::{OUTER_ONLY, UNKNOWN};
 
 // Leaves no meaning at the n tokens.
 fn forget(records: &mut [u8], n: usize)
-    requires { (8 * n ≤ length records.old) × (n ≤ mostTokens) }
+    requires { (8 * n ≤ length records.old) × (n ≤ most_tokens) }
     ensures { InsideOnly records.old records.new × Forgotten records.new n }
 {
     let mut i: usize = 0;

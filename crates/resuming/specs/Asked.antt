@@ -3,7 +3,7 @@ use Rattle.std.specs.Prelude.{ℕ, ◌<◌, ◌≡◌, List, []}
 use Rattle.std.proofs.Math.Option.{some}
 use Rattle.rules.specs.Declarations.{Word, number_of}
 use Rattle.rules.specs.Faults.Whole.{faults50}
-use Rattle.paths.specs.Cited.Early.{earlyPlaces}
+use Rattle.paths.specs.Cited.Early.{early_places}
 use Rattle.paths.specs.Cited.Least.{least}
 use Rattle.profiling.specs.Spelt.{SpeltDescription, whole}
 use Rattle.nesting.specs.Holding.{unseen}
@@ -17,4 +17,4 @@ pub record Asked (records decls : List ℕ) (t : Task) : Type 0 where
   pub output : t.out < 256
 
 abbrev pub Lowest : {records decls : List ℕ} {t : Task} → Asked records decls t → ℕ → Type 0
-Lowest {t = t} g r = r ≡ least unseen (earlyPlaces (whole g.written) g.test t.out)
+Lowest {t = t} g r = r ≡ least unseen (early_places (whole g.written) g.test t.out)

@@ -2,7 +2,7 @@
 ghost use Rattle.std.specs.Prelude.{◌≡◌, []};
 ghost use Rattle.std.proofs.Math.Option.{some};
 ghost use Rattle.rules.specs.Declarations.{number_of};
-ghost use Rattle.rules.specs.Faults.Whole.{mainName, faults50};
+ghost use Rattle.rules.specs.Faults.Whole.{main_name, faults50};
 ghost use Rattle.reading.specs.Reading.{Reading, table_of};
 
 use cells::get16;
@@ -12,7 +12,7 @@ use table::views::main_of;
 // The number that the name behind MAIN means.
 pub fn main_number(records: &[u8], decls: &[u8], m: usize, n: usize) -> usize
     requires { Reading records.now decls.now m n }
-    ensures { (v : Reading records.now decls.now m n) → faults50 (table_of v) ≡ [] → number_of (table_of v) (mainName (table_of v)) ≡ some result }
+    ensures { (v : Reading records.now decls.now m n) → faults50 (table_of v) ≡ [] → number_of (table_of v) (main_name (table_of v)) ≡ some result }
 {
     let mut k: usize = 0;
     while k < m {

@@ -2,7 +2,7 @@
 ghost use Rattle.std.specs.Prelude.{ℕ};
 ghost use Rattle.rules.specs.Paths.{folded};
 ghost use Rattle.naming.specs.Names.{Output};
-ghost use Rattle.accepted.specs.Accepted.{Accepts, table-by};
+ghost use Rattle.accepted.specs.Accepted.{Accepts, table_by};
 
 use cells::get16;
 use naming::names::{is_storage, number_of};
@@ -19,7 +19,7 @@ pub fn output_number(
 ) -> usize
     requires { (words : ℕ) × Accepts text.now records.now values.now decls.now m words n }
     ensures { (words : ℕ) (v : Accepts text.now records.now values.now decls.now m words n)
-        → Output (table-by v) (folded output.now) m result }
+        → Output (table_by v) (folded output.now) m result }
 {
     let k = number_of(text, records, decls, m, n, output);
     if k == m {

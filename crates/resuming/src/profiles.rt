@@ -1,11 +1,11 @@
 // The profile of a text, with its working memory.
 ghost use Rattle.std.specs.Prelude.{◌≡◌, ℕ, ◌≤◌, length};
-ghost use Rattle.rules.specs.Limits.{longestText};
+ghost use Rattle.rules.specs.Limits.{longest_text};
 ghost use Rattle.rules.specs.Paths.{folded};
-ghost use Rattle.rules.specs.Calls.Profile.{profileNumbers};
+ghost use Rattle.rules.specs.Calls.Profile.{profile_numbers};
 ghost use Rattle.paths.specs.Cited.Early.{profile};
-ghost use Rattle.lent.specs.Numbers.{numbersOf};
-ghost use Rattle.accepted.specs.Accepted.{Accepts, table-by};
+ghost use Rattle.lent.specs.Numbers.{numbers_of};
+ghost use Rattle.accepted.specs.Accepted.{Accepts, table_by};
 ghost use Rattle.resuming.specs.Asked.{Asked, Lowest};
 ghost use Rattle.resuming.specs.Told.{Told};
 
@@ -44,7 +44,7 @@ fn profile_accepted(
     requires by_index { (words : ℕ) × Accepts text.now records.now values.old decls.now m words n }
     requires in_bounds { (65536 ≤ length values.old) × (65536 ≤ length room.old) }
     ensures { (words : ℕ) (v : Accepts text.now records.now values.old decls.now m words n)
-        → numbersOf result ≡ profileNumbers text.now (profile (table-by v) (folded test.now) (folded output.now)) }
+        → numbers_of result ≡ profile_numbers text.now (profile (table_by v) (folded test.now) (folded output.now)) }
 {
     let aim = test_number(text, records, decls, m, n, test);
     if aim == m {
@@ -70,7 +70,7 @@ pub fn profiled(
     values: &mut [u8],
     room: &mut [u8],
 ) -> Answer
-    requires { (length text.now ≤ longestText) × ((65536 ≤ length records.old) × ((65536 ≤ length values.old) × (65536 ≤ length room.old))) }
+    requires { (length text.now ≤ longest_text) × ((65536 ≤ length records.old) × ((65536 ≤ length values.old) × (65536 ≤ length room.old))) }
     ensures { Told text.now test.now output.now result }
 {
     let mut decls: [u8; 512] = [0; 512];

@@ -1,31 +1,31 @@
 -- The third buffer while a list of stores is matched, in cells of two bytes: one for each entry, whether it is taken; one for each entry, the next one of its word;
 -- two for each open group; three numbers; one for each word, the first of its entries that may not be taken.
 use Rattle.std.specs.Prelude.{ℕ, ◌+◌, ◌*◌}
-use Rattle.rules.specs.Limits.{mostWords}
-use Rattle.rules.specs.Entries.{mostEntries}
+use Rattle.rules.specs.Limits.{most_words}
+use Rattle.rules.specs.Entries.{most_entries}
 
 -- the groups that can be open: those of 16 bodies with 32 brackets each
-abbrev pub mostGroups : ℕ
-mostGroups = 512
+abbrev pub most_groups : ℕ
+most_groups = 512
 
-abbrev pub nextCell : ℕ
-nextCell = mostEntries
+abbrev pub next_cell : ℕ
+next_cell = most_entries
 
-abbrev pub groupsCell : ℕ
-groupsCell = nextCell + mostEntries
+abbrev pub groups_cell : ℕ
+groups_cell = next_cell + most_entries
 
-abbrev pub floorCell : ℕ
-floorCell = groupsCell + 2 * mostGroups
+abbrev pub floor_cell : ℕ
+floor_cell = groups_cell + 2 * most_groups
 
-abbrev pub badCell : ℕ
-badCell = floorCell + 1
+abbrev pub bad_cell : ℕ
+bad_cell = floor_cell + 1
 
-abbrev pub depthCell : ℕ
-depthCell = floorCell + 2
+abbrev pub depth_cell : ℕ
+depth_cell = floor_cell + 2
 
-abbrev pub firstCell : ℕ
-firstCell = 10240
+abbrev pub first_cell : ℕ
+first_cell = 10240
 
 -- the bytes that are needed
-abbrev pub roomSize : ℕ
-roomSize = 2 * (firstCell + mostWords)
+abbrev pub room_size : ℕ
+room_size = 2 * (first_cell + most_words)

@@ -3,18 +3,18 @@
 use Rattle.std.specs.Prelude.{ℕ, zero, suc, ◌≡◌, Bool, true, false, ◌&&◌, ◌||◌, List, [], ◌∷◌, ◌++◌, eqb}
 use Rattle.std.proofs.Math.Option.{Option, none, some}
 use Rattle.std.proofs.Math.ListN.{get_elem?}
-use Rattle.rules.specs.Limits.{longestChain}
+use Rattle.rules.specs.Limits.{longest_chain}
 use Rattle.rules.specs.Text.Scan.{scan}
-use Rattle.rules.specs.Grammar.Trees.{Description, flatten, Action, block, labelled, if-then, decode, repeat, leave, restart, activate, stop, no-op, transfer, Members, end, also, next}
-use Rattle.rules.specs.Grammar.Trees.{Alternatives, counted, selected, Counted, counted-end, counted-more, Selected, select, otherwise, SelectedMore, selected-end, selected-more}
-use Rattle.rules.specs.Declarations.{Word, Table, declarations, number_of, bodyNumber}
-use Rattle.rules.specs.Steps.Actions.{Act, actOf}
-use Rattle.rules.specs.Steps.Runs.{actOr}
-use Rattle.rules.specs.Whole.Sets.{Sets, touched, race, member, callsIn, chainOver}
-use Rattle.rules.specs.Faults.Bodies.{firstPlace}
-use Rattle.rules.specs.Faults.Whole.{beginsChain}
+use Rattle.rules.specs.Grammar.Trees.{Description, flatten, Action, block, labelled, if_then, decode, repeat, leave, restart, activate, stop, no_op, transfer, Members, end, also, next}
+use Rattle.rules.specs.Grammar.Trees.{Alternatives, counted, selected, Counted, counted_end, counted_more, Selected, select, otherwise, SelectedMore, selected_end, selected_more}
+use Rattle.rules.specs.Declarations.{Word, Table, declarations, number_of, body_number}
+use Rattle.rules.specs.Steps.Actions.{Act, act_of}
+use Rattle.rules.specs.Steps.Runs.{act_or}
+use Rattle.rules.specs.Whole.Sets.{Sets, touched, race, member, calls_in, chain_over}
+use Rattle.rules.specs.Faults.Bodies.{first_place}
+use Rattle.rules.specs.Faults.Whole.{begins_chain}
 use Rattle.rules.specs.Answers.{Verdict, refused}
-use Rattle.rules.specs.Calls.Check.{verdictNumber}
+use Rattle.rules.specs.Calls.Check.{verdict_number}
 
 -- a member of a group: where it stands, and what it reads and writes
 pub record Member : Type 0 where
@@ -22,63 +22,63 @@ pub record Member : Type 0 where
   pub touches : Sets
 
 module _ (ds : Table) where
-  unfoldable pub memberOf : Action → Member
-  memberOf a = record { place = firstPlace a; touches = touched ds (actOf a) }
+  unfoldable pub member_of : Action → Member
+  member_of a = record { place = first_place a; touches = touched ds (act_of a) }
 
   -- a group by its first member and what follows it, in text order: it goes on behind `;`
   unfoldable pub others : Members → List Member
   others (end e) = []
-  others (also i a m) = memberOf a ∷ others m
+  others (also i a m) = member_of a ∷ others m
   others (next i a m) = []
 
   abbrev pub group_of : Action → Members → List Member
-  group_of a m = memberOf a ∷ others m
+  group_of a m = member_of a ∷ others m
 
   -- the groups of an action, each as its members
   unfoldable mutual
-    pub groupsIn : Action → List (List Member)
-    groupsIn (block b a m) = group_of a m ∷ (groupsIn a ++ groupsBehind m)
-    groupsIn (labelled n b a) = groupsIn a
-    groupsIn (if-then i o t w a) = groupsIn a
-    groupsIn (decode i o t w b v) = groupsAlternatives v
-    groupsIn (repeat i a) = groupsIn a
-    groupsIn (leave i n) = []
-    groupsIn (restart i n) = []
-    groupsIn (activate n l r) = []
-    groupsIn (stop i l r) = []
-    groupsIn (no-op i l r) = []
-    groupsIn (transfer n b c j e o t) = []
+    pub groups_in : Action → List (List Member)
+    groups_in (block b a m) = group_of a m ∷ (groups_in a ++ groups_behind m)
+    groups_in (labelled n b a) = groups_in a
+    groups_in (if_then i o t w a) = groups_in a
+    groups_in (decode i o t w b v) = groups_alternatives v
+    groups_in (repeat i a) = groups_in a
+    groups_in (leave i n) = []
+    groups_in (restart i n) = []
+    groups_in (activate n l r) = []
+    groups_in (stop i l r) = []
+    groups_in (no_op i l r) = []
+    groups_in (transfer n b c j e o t) = []
 
     -- behind the first member of a block; behind NEXT a group begins
-    pub groupsBehind : Members → List (List Member)
-    groupsBehind (end e) = []
-    groupsBehind (also i a m) = groupsIn a ++ groupsBehind m
-    groupsBehind (next i a m) = group_of a m ∷ (groupsIn a ++ groupsBehind m)
+    pub groups_behind : Members → List (List Member)
+    groups_behind (end e) = []
+    groups_behind (also i a m) = groups_in a ++ groups_behind m
+    groups_behind (next i a m) = group_of a m ∷ (groups_in a ++ groups_behind m)
 
-    pub groupsAlternatives : Alternatives → List (List Member)
-    groupsAlternatives (counted a c) = groupsIn a ++ groupsCounted c
-    groupsAlternatives (selected x) = groupsSelected x
+    pub groups_alternatives : Alternatives → List (List Member)
+    groups_alternatives (counted a c) = groups_in a ++ groups_counted c
+    groups_alternatives (selected x) = groups_selected x
 
-    pub groupsCounted : Counted → List (List Member)
-    groupsCounted (counted-end e) = []
-    groupsCounted (counted-more c a more) = groupsIn a ++ groupsCounted more
+    pub groups_counted : Counted → List (List Member)
+    groups_counted (counted_end e) = []
+    groups_counted (counted_more c a more) = groups_in a ++ groups_counted more
 
-    pub groupsSelected : Selected → List (List Member)
-    groupsSelected (select x b a m) = groupsIn a ++ groupsMore m
-    groupsSelected (otherwise i b a e) = groupsIn a
+    pub groups_selected : Selected → List (List Member)
+    groups_selected (select x b a m) = groups_in a ++ groups_more m
+    groups_selected (otherwise i b a e) = groups_in a
 
-    pub groupsMore : SelectedMore → List (List Member)
-    groupsMore (selected-end e) = []
-    groupsMore (selected-more c x) = groupsSelected x
+    pub groups_more : SelectedMore → List (List Member)
+    groups_more (selected_end e) = []
+    groups_more (selected_more c x) = groups_selected x
 
-  abbrev pub groupsOfBody : Option Action → List (List Member)
-  groupsOfBody none = []
-  groupsOfBody (some a) = groupsIn a
+  abbrev pub groups_of_body : Option Action → List (List Member)
+  groups_of_body none = []
+  groups_of_body (some a) = groups_in a
 
   -- of all bodies, in text order
   unfoldable pub groups_of : Table → List (List Member)
   groups_of [] = []
-  groups_of (d ∷ more) = groupsOfBody d.body ++ groups_of more
+  groups_of (d ∷ more) = groups_of_body d.body ++ groups_of more
 
 -- "Choose the earliest member that races with the member at the refusal's place": of those before it in its group
 unfoldable pub earliest : Member → List Member → Option Member
@@ -89,26 +89,26 @@ pub record Race : Type 0 where
   pub earlier : Member
   pub later : Member
 
-abbrev pub raceWith : Member → Option Member → Option Race
-raceWith l none = none
-raceWith l (some e) = some (record { earlier = e; later = l })
+abbrev pub race_with : Member → Option Member → Option Race
+race_with l none = none
+race_with l (some e) = some (record { earlier = e; later = l })
 
 -- the race of a member at this place with one of those before it
-unfoldable pub raceAt : ℕ → List Member → Member → Option Race
-raceAt p before l = elim (eqb l.place p) [ true ↦ raceWith l (earliest l before) | false ↦ none ]
+unfoldable pub race_at : ℕ → List Member → Member → Option Race
+race_at p before l = elim (eqb l.place p) [ true ↦ race_with l (earliest l before) | false ↦ none ]
 
-abbrev pub firstRace : Option Race → Option Race → Option Race
-firstRace (some r) other = some r
-firstRace none other = other
+abbrev pub first_race : Option Race → Option Race → Option Race
+first_race (some r) other = some r
+first_race none other = other
 
 -- in a group, whose first members are given; among groups
-unfoldable pub raceFrom : ℕ → List Member → List Member → Option Race
-raceFrom p before [] = none
-raceFrom p before (l ∷ ls) = firstRace (raceAt p before l) (raceFrom p (before ++ (l ∷ [])) ls)
+unfoldable pub race_from : ℕ → List Member → List Member → Option Race
+race_from p before [] = none
+race_from p before (l ∷ ls) = first_race (race_at p before l) (race_from p (before ++ (l ∷ [])) ls)
 
-unfoldable pub raceAmong : ℕ → List (List Member) → Option Race
-raceAmong p [] = none
-raceAmong p (g ∷ gs) = firstRace (raceFrom p [] g) (raceAmong p gs)
+unfoldable pub race_among : ℕ → List (List Member) → Option Race
+race_among p [] = none
+race_among p (g ∷ gs) = first_race (race_from p [] g) (race_among p gs)
 
 -- a carrier that two members share in conflict: one writes what the other reads or writes
 unfoldable pub conflict : Sets → Sets → ℕ → Bool
@@ -120,85 +120,85 @@ pub record Carrier : Type 0 where
   pub place : ℕ
 
 -- the first such carrier in declaration order, from the number c on
-unfoldable pub firstConflict : Sets → Sets → ℕ → Table → Option Carrier
-firstConflict s t c [] = none
-firstConflict s t c (d ∷ ds) = elim (conflict s t c) [ true ↦ some (record { number = c; place = d.name.place }) | false ↦ firstConflict s t (suc c) ds ]
+unfoldable pub first_conflict : Sets → Sets → ℕ → Table → Option Carrier
+first_conflict s t c [] = none
+first_conflict s t c (d ∷ ds) = elim (conflict s t c) [ true ↦ some (record { number = c; place = d.name.place }) | false ↦ first_conflict s t (suc c) ds ]
 
 -- who writes a carrier: 1 the earlier, 2 the later, 3 both
-abbrev pub writersBy : Bool → Bool → ℕ
-writersBy true true = 3
-writersBy true false = 1
-writersBy false true = 2
-writersBy false false = 0
+abbrev pub writers_by : Bool → Bool → ℕ
+writers_by true true = 3
+writers_by true false = 1
+writers_by false true = 2
+writers_by false false = 0
 
 unfoldable pub writers : Sets → Sets → ℕ → ℕ
-writers s t c = writersBy (member c s.writes) (member c t.writes)
+writers s t c = writers_by (member c s.writes) (member c t.writes)
 
 -- What there is to say: nothing more; a race, by the places of both members, the carrier's number, the place of its name and who writes it; a chain, by the
 -- places of the names of its bodies.
 pub data Reason : Type 0 where
-  no-reason : Reason
+  no_reason : Reason
   racing : (earlier later carrier name who : ℕ) → Reason
   chained : List ℕ → Reason
 
-abbrev pub raceOn : Race → Option Carrier → Reason
-raceOn r none = no-reason
-raceOn r (some c) = racing r.earlier.place r.later.place c.number c.place (writers r.earlier.touches r.later.touches c.number)
+abbrev pub race_on : Race → Option Carrier → Reason
+race_on r none = no_reason
+race_on r (some c) = racing r.earlier.place r.later.place c.number c.place (writers r.earlier.touches r.later.touches c.number)
 
-abbrev pub raceReason : Table → Option Race → Reason
-raceReason ds none = no-reason
-raceReason ds (some r) = raceOn r (firstConflict r.earlier.touches r.later.touches 0 ds)
+abbrev pub race_reason : Table → Option Race → Reason
+race_reason ds none = no_reason
+race_reason ds (some r) = race_on r (first_conflict r.earlier.touches r.later.touches 0 ds)
 
 -- 53 at a place
 unfoldable pub reason53 : Table → ℕ → Reason
-reason53 ds p = raceReason ds (raceAmong p (groups_of ds ds))
+reason53 ds p = race_reason ds (race_among p (groups_of ds ds))
 
 -- 51: the first activation among these that begins a chain over k bodies long, by the number of the declaration that it names
-unfoldable pub firstOver : Table → ℕ → List Word → Option ℕ
-firstOver ds k [] = none
-firstOver ds k (n ∷ ns) = elim (chainOver ds k n) [ true ↦ number_of ds n | false ↦ firstOver ds k ns ]
+unfoldable pub first_over : Table → ℕ → List Word → Option ℕ
+first_over ds k [] = none
+first_over ds k (n ∷ ns) = elim (chain_over ds k n) [ true ↦ number_of ds n | false ↦ first_over ds k ns ]
 
 -- what the declaration of a number does when it is activated
-abbrev pub bodyOfNumber : Table → ℕ → Act
-bodyOfNumber ds b = actOr (bodyNumber ds (some b))
+abbrev pub body_of_number : Table → ℕ → Act
+body_of_number ds b = act_or (body_number ds (some b))
 
 -- The chain from the body b on, behind those that are listed: it ends with a body that is listed a second time, and where k more bodies are listed.
-unfoldable pub chainBehind : Table → ℕ → List ℕ → ℕ → List ℕ
-chainBehind ds zero listed b = b ∷ []
-chainBehind ds (suc k) listed b =
+unfoldable pub chain_behind : Table → ℕ → List ℕ → ℕ → List ℕ
+chain_behind ds zero listed b = b ∷ []
+chain_behind ds (suc k) listed b =
     elim (member b listed) [
       | true ↦ b ∷ []
-      | false ↦ b ∷ elim (firstOver ds k (callsIn (bodyOfNumber ds b))) [ none ↦ [] | some c ↦ chainBehind ds k (b ∷ listed) c ]
+      | false ↦ b ∷ elim (first_over ds k (calls_in (body_of_number ds b))) [ none ↦ [] | some c ↦ chain_behind ds k (b ∷ listed) c ]
     ]
 
 -- the body at a place that begins a chain over 16 bodies long
-unfoldable pub refusedBody : Table → ℕ → Table → Option Word
-refusedBody all p [] = none
-refusedBody all p (d ∷ ds) =
-    elim (eqb d.name.place p && beginsChain all d.name.word d.body) [ true ↦ some d.name.word | false ↦ refusedBody all p ds ]
+unfoldable pub refused_body : Table → ℕ → Table → Option Word
+refused_body all p [] = none
+refused_body all p (d ∷ ds) =
+    elim (eqb d.name.place p && begins_chain all d.name.word d.body) [ true ↦ some d.name.word | false ↦ refused_body all p ds ]
 
 -- the places of the names of declarations
 abbrev pub place_in : Table → ℕ → ℕ
 place_in ds b = elim (get_elem? ds b) [ none ↦ 0 | some d ↦ d.name.place ]
 
-unfoldable pub placesIn : Table → List ℕ → List ℕ
-placesIn ds [] = []
-placesIn ds (b ∷ bs) = place_in ds b ∷ placesIn ds bs
+unfoldable pub places_in : Table → List ℕ → List ℕ
+places_in ds [] = []
+places_in ds (b ∷ bs) = place_in ds b ∷ places_in ds bs
 
-abbrev pub chainOf : Table → Option ℕ → Reason
-chainOf ds none = no-reason
-chainOf ds (some b) = chained (placesIn ds (chainBehind ds longestChain [] b))
+abbrev pub chain_of : Table → Option ℕ → Reason
+chain_of ds none = no_reason
+chain_of ds (some b) = chained (places_in ds (chain_behind ds longest_chain [] b))
 
-abbrev pub chainFrom : Table → Option Word → Reason
-chainFrom ds none = no-reason
-chainFrom ds (some n) = chainOf ds (number_of ds n)
+abbrev pub chain_from : Table → Option Word → Reason
+chain_from ds none = no_reason
+chain_from ds (some n) = chain_of ds (number_of ds n)
 
 -- 51 at a place
 unfoldable pub reason51 : Table → ℕ → Reason
-reason51 ds p = chainFrom ds (refusedBody ds p ds)
+reason51 ds p = chain_from ds (refused_body ds p ds)
 
 -- the reasons that may be given for a verdict on a text
 pub data Explains (text : List ℕ) : Verdict → Reason → Type 0 where
-  unexplained : {v : Verdict} → (verdictNumber v ≡ 53 → ⊥) → (verdictNumber v ≡ 51 → ⊥) → Explains text v no-reason
-  by-race : {p : ℕ} (d : Description) → flatten d ≡ (scan text).tokens → Explains text (refused 53 p) (reason53 (declarations d) p)
+  unexplained : {v : Verdict} → (verdict_number v ≡ 53 → ⊥) → (verdict_number v ≡ 51 → ⊥) → Explains text v no_reason
+  by_race : {p : ℕ} (d : Description) → flatten d ≡ (scan text).tokens → Explains text (refused 53 p) (reason53 (declarations d) p)
   by_chain : {p : ℕ} (d : Description) → flatten d ≡ (scan text).tokens → Explains text (refused 51 p) (reason51 (declarations d) p)

@@ -4,12 +4,12 @@ use Rattle.std.specs.Prelude.{ℕ, suc, ◌<◌, ◌≡◌, true, false, List, [
 use Rattle.std.proofs.Math.Option.{some}
 use Rattle.std.proofs.Math.ListN.{get_elem?}
 use Rattle.rules.specs.Text.Scan.{scan}
-use Rattle.rules.specs.Limits.{longestChain}
+use Rattle.rules.specs.Limits.{longest_chain}
 use Rattle.rules.specs.Grammar.Trees.{Description, flatten}
 use Rattle.rules.specs.Declarations.{Word, Declared, Table, number_of, declarations}
-use Rattle.rules.specs.Whole.Sets.{Sets, race, member, callsIn, chainOver}
+use Rattle.rules.specs.Whole.Sets.{Sets, race, member, calls_in, chain_over}
 use Rattle.rules.specs.Answers.{refused, Checks}
-use Rattle.rules.specs.Reasons.{Member, Race, conflict, Carrier, writers, groups_of, bodyOfNumber, placesIn, racing, chained}
+use Rattle.rules.specs.Reasons.{Member, Race, conflict, Carrier, writers, groups_of, body_of_number, places_in, racing, chained}
 use Rattle.rules.specs.Calls.Why.{reasoned}
 
 -- two members of a group that race, the later one at the place; none before the earlier one races with the later one
@@ -17,8 +17,8 @@ pub record RaceStands (p : ℕ) (g : List Member) (r : Race) : Type 0 where
   pub first : ℕ
   pub second : ℕ
   pub in_order : first < second
-  pub earlier-there : get_elem? g first ≡ some r.earlier
-  pub later-there : get_elem? g second ≡ some r.later
+  pub earlier_there : get_elem? g first ≡ some r.earlier
+  pub later_there : get_elem? g second ≡ some r.later
   pub placed : r.later.place ≡ p
   pub races : race r.earlier.touches r.later.touches ≡ true
   pub earliest : (i : ℕ) (x : Member) → i < first → get_elem? g i ≡ some x → race x.touches r.later.touches ≡ false
@@ -42,16 +42,16 @@ pub record FirstConflict (s t : Sets) (ds : Table) (c : Carrier) : Type 0 where
 pub record RaceTrue (ds : Table) (p earlier later carrier name who : ℕ) : Type 0 where
   pub race : Race
   pub among : RaceAmong p (groups_of ds ds) race
-  pub earlier-is : race.earlier.place ≡ earlier
-  pub later-is : race.later.place ≡ later
+  pub earlier_is : race.earlier.place ≡ earlier
+  pub later_is : race.later.place ≡ later
   pub conflicting : FirstConflict race.earlier.touches race.later.touches ds (record { number = carrier; place = name })
-  pub who-is : who ≡ writers race.earlier.touches race.later.touches carrier
+  pub who_is : who ≡ writers race.earlier.touches race.later.touches carrier
 
 -- a body activates another: a name that stands in its text is declared under that number
 pub record Activates (ds : Table) (b c : ℕ) : Type 0 where
   pub number : ℕ
   pub name : Word
-  pub called : get_elem? (callsIn (bodyOfNumber ds b)) number ≡ some name
+  pub called : get_elem? (calls_in (body_of_number ds b)) number ≡ some name
   pub is : number_of ds name ≡ some c
 
 -- each body activates the next one
@@ -73,18 +73,18 @@ pub record RefusedBody (ds : Table) (p : ℕ) (n : Word) : Type 0 where
   pub there : get_elem? ds number ≡ some declared
   pub placed : declared.name.place ≡ p
   pub named : declared.name.word ≡ n
-  pub over : chainOver ds longestChain n ≡ true
+  pub over : chain_over ds longest_chain n ≡ true
 
 -- the numbers of a chain
 pub record ChainTrue (ds : Table) (p : ℕ) (places : List ℕ) : Type 0 where
   pub name : Word
   pub refused : RefusedBody ds p name
   pub first : ℕ
-  pub its-number : number_of ds name ≡ some first
+  pub its_number : number_of ds name ≡ some first
   pub others : List ℕ
-  pub are : places ≡ placesIn ds (first ∷ others)
+  pub are : places ≡ places_in ds (first ∷ others)
   pub linked : Activating ds (first ∷ others)
-  pub closes-or-passes : (length (first ∷ others) ≡ suc longestChain) ⊎ Closing [] (first ∷ others)
+  pub closes_or_passes : (length (first ∷ others) ≡ suc longest_chain) ⊎ Closing [] (first ∷ others)
 
 -- the reason that stands in the numbers names a race of the description in the text
 pub record RaceTold (text reason left : List ℕ) : Type 0 where

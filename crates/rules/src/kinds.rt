@@ -1,4 +1,4 @@
-// The kinds of tokens by their numbers, as `kindNo` of the rules has them.
+// The kinds of tokens by their numbers, as `kind_no` of the rules has them.
 
 pub const NAME: u8 = 0;
 

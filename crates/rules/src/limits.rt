@@ -25,19 +25,19 @@ pub const LONGEST_CHAIN: usize = 16;
 pub const MOST_STEPS: u64 = 4294967295;
 
 pub fn longest_text() -> usize
-    ensures { result ≡ limits.longestText }
+    ensures { result ≡ limits.longest_text }
 {
     LONGEST_TEXT
 }
 
 pub fn longest_name() -> usize
-    ensures { result ≡ limits.longestName }
+    ensures { result ≡ limits.longest_name }
 {
     LONGEST_NAME
 }
 
 pub fn most_tokens() -> usize
-    ensures { result ≡ limits.mostTokens }
+    ensures { result ≡ limits.most_tokens }
 {
     MOST_TOKENS
 }
@@ -49,43 +49,43 @@ pub fn deepest() -> usize
 }
 
 pub fn largest_name() -> u64
-    ensures { result ≡ limits.largestName }
+    ensures { result ≡ limits.largest_name }
 {
     LARGEST_NAME
 }
 
 pub fn most_bits() -> u64
-    ensures { result ≡ limits.mostBits }
+    ensures { result ≡ limits.most_bits }
 {
     MOST_BITS
 }
 
 pub fn most_declarations() -> usize
-    ensures { result ≡ limits.mostDeclarations }
+    ensures { result ≡ limits.most_declarations }
 {
     MOST_DECLARATIONS
 }
 
 pub fn most_words() -> usize
-    ensures { result ≡ limits.mostWords }
+    ensures { result ≡ limits.most_words }
 {
     MOST_WORDS
 }
 
 pub fn most_alternatives() -> usize
-    ensures { result ≡ limits.mostAlternatives }
+    ensures { result ≡ limits.most_alternatives }
 {
     MOST_ALTERNATIVES
 }
 
 pub fn longest_chain() -> usize
-    ensures { result ≡ limits.longestChain }
+    ensures { result ≡ limits.longest_chain }
 {
     LONGEST_CHAIN
 }
 
 pub fn most_steps() -> u64
-    ensures { result ≡ limits.mostSteps }
+    ensures { result ≡ limits.most_steps }
 {
     MOST_STEPS
 }

@@ -2,11 +2,11 @@
 use Rattle.std.specs.Prelude.{ℕ, zero, suc, ◌*◌, ◌≡◌, List, [], ◌∷◌, length, get_or}
 use Rattle.std.proofs.Math.Option.{some}
 use Rattle.rules.specs.Grammar.Trees.{Tokens, Action}
-use Rattle.rules.specs.Declarations.{Word, Table, body_of, totalWords}
-use Rattle.rules.specs.Steps.Runs.{Ending, runWith, done, halted, paused, faulted, run}
+use Rattle.rules.specs.Declarations.{Word, Table, body_of, total_words}
+use Rattle.rules.specs.Steps.Runs.{Ending, run_with, done, halted, paused, faulted, run}
 use Rattle.laws_orders.specs.Cited.Flat.{Code}
 use Rattle.promise.specs.Promise.{Promise}
-use Rattle.operands.specs.Scene.{carrierWords}
+use Rattle.operands.specs.Scene.{carrier_words}
 use Rattle.runner.specs.declared.runs.Ended.{Ended}
 use Rattle.runner.specs.declared.runs.Ended.TheVariants.{Done, Stopped, Paused, Fault as Broken}
 
@@ -27,13 +27,13 @@ pub record RunAt (records values decls carriers : List ℕ) (start : ℕ) : Type
   pub body : Action
   pub declared : body_of table main ≡ some body
   pub begins : start ≡ code.first main
-  pub words : length carriers ≡ 8 * totalWords table
+  pub words : length carriers ≡ 8 * total_words table
 
-abbrev pub endingOf : Ended → Ending
-endingOf (Done n) = done
-endingOf (Stopped n) = halted
-endingOf (Paused n) = paused
-endingOf (Broken m p n) = faulted m p
+abbrev pub ending_of : Ended → Ending
+ending_of (Done n) = done
+ending_of (Stopped n) = halted
+ending_of (Paused n) = paused
+ending_of (Broken m p n) = faulted m p
 
 abbrev pub steps_of : Ended → ℕ
 steps_of (Done n) = n
@@ -42,5 +42,5 @@ steps_of (Paused n) = n
 steps_of (Broken m p n) = n
 
 pub record RunAnswer {records values decls carriers : List ℕ} {start : ℕ} (v : RunAt records values decls carriers start) (budget : ℕ) (after : List ℕ) (r : Ended) : Type 0 where
-  pub same : run v.table v.main budget (carrierWords (totalWords v.table) carriers)
-      ≡ runWith (endingOf r) (steps_of r) (carrierWords (totalWords v.table) after)
+  pub same : run v.table v.main budget (carrier_words (total_words v.table) carriers)
+      ≡ run_with (ending_of r) (steps_of r) (carrier_words (total_words v.table) after)

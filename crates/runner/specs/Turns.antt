@@ -1,6 +1,6 @@
 -- Where control goes behind a step, by the stack of return addresses in an array.
 use Rattle.std.specs.Prelude.{ℕ, ◌<◌, ◌≤◌, ◌≡◌, List, length}
-use Rattle.rules.specs.Limits.{longestChain}
+use Rattle.rules.specs.Limits.{longest_chain}
 use Rattle.laws_orders.specs.Cited.Flat.{pc, over, halt, broken}
 use Rattle.laws_orders.specs.Cited.Flat as flat
 use Rattle.stepping.specs.declared.steps.Moved.{Moved}
@@ -10,19 +10,19 @@ use Rattle.runner.specs.declared.turns.Turned.{Turned}
 use Rattle.runner.specs.declared.turns.Turned.TheVariants.{At, Over, Stop, Fault}
 use Rattle.runner.specs.Runs.{stack_of}
 
-abbrev pub turnedTo : Turned → List ℕ → flat.At
-turnedTo (At n d) stack = pc n (stack_of stack d)
-turnedTo Over stack = over
-turnedTo Stop stack = halt
-turnedTo (Fault m p) stack = broken m p
+abbrev pub turned_to : Turned → List ℕ → flat.At
+turned_to (At n d) stack = pc n (stack_of stack d)
+turned_to Over stack = over
+turned_to Stop stack = halt
+turned_to (Fault m p) stack = broken m p
 
 -- a stack that has room for the return address of a step
 pub record Room (stack : List ℕ) (moved : Moved) (depth : ℕ) : Type 0 where
-  pub long : length stack ≡ longestChain
-  pub high : depth ≤ longestChain
-  pub more : (f k : ℕ) → moved ≡ Call f k → (k ≡ 0 → ⊥) → depth < longestChain
+  pub long : length stack ≡ longest_chain
+  pub high : depth ≤ longest_chain
+  pub more : (f k : ℕ) → moved ≡ Call f k → (k ≡ 0 → ⊥) → depth < longest_chain
 
 -- control has gone where the step leads
 pub record Turns (stack : List ℕ) (moved : Moved) (depth : ℕ) (stack' : List ℕ) (r : Turned) : Type 0 where
   pub size : length stack' ≡ length stack
-  pub to : turnedTo r stack' ≡ control moved (stack_of stack depth)
+  pub to : turned_to r stack' ≡ control moved (stack_of stack depth)

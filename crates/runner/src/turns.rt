@@ -1,9 +1,9 @@
 // Where control goes behind a step, by the stack of return addresses.
 ghost use Rattle.std.specs.Prelude.{◌≡◌, ◌≤◌};
-ghost use Rattle.rules.specs.Limits.{longestChain};
+ghost use Rattle.rules.specs.Limits.{longest_chain};
 ghost use Rattle.laws_orders.specs.Cited.Flat.{return};
 ghost use Rattle.runner.specs.Runs.{stack_of};
-ghost use Rattle.runner.specs.Turns.{turnedTo, Room, Turns};
+ghost use Rattle.runner.specs.Turns.{turned_to, Room, Turns};
 
 use rules::limits::LONGEST_CHAIN;
 use stepping::steps::Moved;
@@ -19,8 +19,8 @@ pub enum Turned {
 
 // Out of a body: control is at the newest return address, or all has ended.
 fn back(stack: &[usize; LONGEST_CHAIN], depth: usize) -> Turned
-    requires { depth ≤ longestChain }
-    ensures { turnedTo result stack.now ≡ return (stack_of stack.now depth) }
+    requires { depth ≤ longest_chain }
+    ensures { turned_to result stack.now ≡ return (stack_of stack.now depth) }
 {
     if depth == 0 {
         return Turned::Over;

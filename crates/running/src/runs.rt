@@ -1,6 +1,6 @@
 // Run, with its working memory.
 ghost use Rattle.std.specs.Prelude.{◌≤◌, length};
-ghost use Rattle.rules.specs.Limits.{longestText};
+ghost use Rattle.rules.specs.Limits.{longest_text};
 ghost use Rattle.preparing.specs.Outcome.{Outcome};
 
 use lent::answers::{Answer, refusal};
@@ -16,7 +16,7 @@ pub fn ran(
     values: &mut [u8],
     room: &mut [u8],
 ) -> Answer
-    requires { (length text.now ≤ longestText) × ((65536 ≤ length records.old) × ((65536 ≤ length values.old) × (65536 ≤ length room.old))) }
+    requires { (length text.now ≤ longest_text) × ((65536 ≤ length records.old) × ((65536 ≤ length values.old) × (65536 ≤ length room.old))) }
     ensures { Outcome text.now carriers.old budget carriers.new result }
 {
     let mut decls: [u8; 512] = [0; 512];

@@ -2,7 +2,7 @@
 // nothing is promised of it, and who takes one looks whether the label stands there.
 ghost use Rattle.std.specs.Prelude.{◌+◌, ◌*◌, ◌<◌, ◌≤◌, length};
 ghost use Rattle.scopes.specs.Hints.{Hinting};
-ghost use Rattle.room.specs.Whole.{scopesEnd, hintsEnd};
+ghost use Rattle.room.specs.Whole.{scopes_end, hints_end};
 
 use cells::{get16, put16};
 use records::fields::link_at;
@@ -11,7 +11,7 @@ use room::whole::{HINT_COUNT, SCOPES_END};
 // The cell for the spelling of the name. Spellings that are HINT_COUNT apart share one.
 fn hint_cell(records: &[u8], name: usize) -> usize
     requires { 8 * name + 8 ≤ length records.now }
-    ensures { (scopesEnd ≤ result) × (result < hintsEnd) }
+    ensures { (scopes_end ≤ result) × (result < hints_end) }
 {
     SCOPES_END + link_at(records, name) % HINT_COUNT
 }

@@ -1,12 +1,12 @@
 // The labels around a token, kept as a stack of their tokens' numbers in lent bytes.
 ghost use Rattle.std.specs.Prelude.{◌≡◌, true, ◌+◌, ◌-◌, ◌*◌, ◌<◌, ◌≤◌, length};
-ghost use Rattle.rules.specs.Text.Tokens.{Name, kindNo};
-ghost use Rattle.rules.specs.Faults.Declared.{isKnown};
-ghost use Rattle.records.specs.Holds.{kindByte, Tabled};
+ghost use Rattle.rules.specs.Text.Tokens.{Name, kind_no};
+ghost use Rattle.rules.specs.Faults.Declared.{is_known};
+ghost use Rattle.records.specs.Holds.{kind_byte, Tabled};
 ghost use Rattle.records.specs.Words.{word_at};
 ghost use Rattle.scopes.specs.Walks.{jumps};
-ghost use Rattle.room.specs.Whole.{scopesEnd};
-ghost use Rattle.scopes.specs.Labels.{Labelled, JumpKey, Pushed, namesFrom};
+ghost use Rattle.room.specs.Whole.{scopes_end};
+ghost use Rattle.scopes.specs.Labels.{Labelled, JumpKey, Pushed, names_from};
 
 use crate::hints::{hint, put_hint};
 use cells::{get16, put16};
@@ -26,9 +26,9 @@ fn hinted(
     top: usize,
     name: usize,
 ) -> bool
-    requires { Tabled text.now records.now n × (Labelled records.now labels.now n top × ((base ≤ top) × ((name < n) × (kindByte records.now name ≡ kindNo Name)))) }
+    requires { Tabled text.now records.now n × (Labelled records.now labels.now n top × ((base ≤ top) × ((name < n) × (kind_byte records.now name ≡ kind_no Name)))) }
     ensures { (v : Tabled text.now records.now n) → result ≡ true
-        → isKnown (word_at v.tokens name) (namesFrom v.tokens labels.now base (top - base)) ≡ true }
+        → is_known (word_at v.tokens name) (names_from v.tokens labels.now base (top - base)) ≡ true }
 {
     let k = hint(records, labels, name);
     if k < base {
@@ -51,9 +51,9 @@ fn listed(
     top: usize,
     name: usize,
 ) -> bool
-    requires { Tabled text.now records.now n × (Labelled records.now labels.now n top × ((base ≤ top) × ((name < n) × (kindByte records.now name ≡ kindNo Name)))) }
+    requires { Tabled text.now records.now n × (Labelled records.now labels.now n top × ((base ≤ top) × ((name < n) × (kind_byte records.now name ≡ kind_no Name)))) }
     ensures { (v : Tabled text.now records.now n)
-        → result ≡ isKnown (word_at v.tokens name) (namesFrom v.tokens labels.now base (top - base)) }
+        → result ≡ is_known (word_at v.tokens name) (names_from v.tokens labels.now base (top - base)) }
 {
     let mut j = top;
     while base < j {
@@ -76,9 +76,9 @@ fn among(
     top: usize,
     name: usize,
 ) -> bool
-    requires { Tabled text.now records.now n × (Labelled records.now labels.now n top × ((base ≤ top) × ((name < n) × (kindByte records.now name ≡ kindNo Name)))) }
+    requires { Tabled text.now records.now n × (Labelled records.now labels.now n top × ((base ≤ top) × ((name < n) × (kind_byte records.now name ≡ kind_no Name)))) }
     ensures { (v : Tabled text.now records.now n)
-        → result ≡ isKnown (word_at v.tokens name) (namesFrom v.tokens labels.now base (top - base)) }
+        → result ≡ is_known (word_at v.tokens name) (names_from v.tokens labels.now base (top - base)) }
 {
     if hinted(text, records, labels, n, base, top, name) {
         return true;
@@ -110,7 +110,7 @@ pub fn jump_key(
     top: usize,
     known: u32,
 ) -> u32
-    requires { Tabled text.now records.now n × (Labelled records.now labels.now n top × ((i < n) × (kind ≡ kindByte records.now i))) }
+    requires { Tabled text.now records.now n × (Labelled records.now labels.now n top × ((i < n) × (kind ≡ kind_byte records.now i))) }
     ensures { JumpKey text.now records.now labels.now n i base top known result }
 {
     if !jumps(kind) {
@@ -142,7 +142,7 @@ pub fn push_label(
     base: usize,
     top: usize,
 ) -> usize
-    requires { Tabled text.now records.now n × ((i < n) × ((1 ≤ i) × ((top < scopesEnd) × (2 * top + 2 ≤ length labels.old)))) }
+    requires { Tabled text.now records.now n × ((i < n) × ((1 ≤ i) × ((top < scopes_end) × (2 * top + 2 ≤ length labels.old)))) }
     ensures { Pushed text.now records.now labels.old labels.new n i base top result }
 {
     if top < base {

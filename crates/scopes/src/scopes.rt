@@ -1,7 +1,7 @@
 // The scopes around a token: the labels of the innermost member, and for each open block those around it.
 ghost use Rattle.std.specs.Prelude.{◌≡◌, ◌-◌, ◌<◌, ◌≤◌, length};
-ghost use Rattle.rules.specs.Limits.{mostTokens};
-ghost use Rattle.room.specs.Whole.{labelsSize};
+ghost use Rattle.rules.specs.Limits.{most_tokens};
+ghost use Rattle.room.specs.Whole.{labels_size};
 ghost use Rattle.scopes.specs.Frames.{FramePushed, Surrounding, Opened, Followed, Turning, Turned, Fresh};
 
 use crate::labels::push_label;
@@ -19,7 +19,7 @@ pub struct Nest {
 
 // Keeps the scope around a block that is opened with depth others around it.
 fn push_frame(labels: &mut [u8], depth: usize, base: usize, top: usize)
-    requires { (labelsSize ≤ length labels.old) × ((depth < mostTokens) × ((base < 65536) × (top < 65536))) }
+    requires { (labels_size ≤ length labels.old) × ((depth < most_tokens) × ((base < 65536) × (top < 65536))) }
     ensures { FramePushed labels.old labels.new depth base top }
 {
     let at = FIRST_SCOPE - 2 * depth;
@@ -29,7 +29,7 @@ fn push_frame(labels: &mut [u8], depth: usize, base: usize, top: usize)
 
 // Behind a BEGIN.
 fn opened(labels: &mut [u8], several: bool, depth: usize, base: usize, top: usize) -> Nest
-    requires { (labelsSize ≤ length labels.old) × ((depth < mostTokens) × ((base < 65536) × (top < 65536))) }
+    requires { (labels_size ≤ length labels.old) × ((depth < most_tokens) × ((base < 65536) × (top < 65536))) }
     ensures { Opened several labels.old labels.new depth base top result.depth result.base result.top }
 {
     push_frame(labels, depth, base, top);
@@ -49,7 +49,7 @@ fn opened(labels: &mut [u8], several: bool, depth: usize, base: usize, top: usiz
 
 // The scope around the innermost open block.
 fn surrounding(labels: &[u8], depth: usize, top: usize) -> Nest
-    requires { (labelsSize ≤ length labels.now) × ((depth < mostTokens) × (top < 65536)) }
+    requires { (labels_size ≤ length labels.now) × ((depth < most_tokens) × (top < 65536)) }
     ensures { (result.depth ≡ depth) × Surrounding labels.now depth top result.base result.top }
 {
     if depth == 0 {
@@ -80,7 +80,7 @@ fn fresh(depth: usize, top: usize) -> Nest
 
 // Behind an END.
 fn closed(labels: &[u8], depth: usize, top: usize) -> Nest
-    requires { (labelsSize ≤ length labels.now) × ((0 < depth) × ((depth < mostTokens) × (top < 65536))) }
+    requires { (labels_size ≤ length labels.now) × ((0 < depth) × ((depth < most_tokens) × (top < 65536))) }
     ensures { (result.depth ≡ depth - 1) × Surrounding labels.now depth top result.base result.top }
 {
     let around = surrounding(labels, depth, top);
@@ -93,7 +93,7 @@ fn closed(labels: &[u8], depth: usize, top: usize) -> Nest
 
 // Behind a NEXT.
 fn next_group(labels: &[u8], several: bool, depth: usize, top: usize) -> Nest
-    requires { (labelsSize ≤ length labels.now) × ((depth < mostTokens) × (top < 65536)) }
+    requires { (labels_size ≤ length labels.now) × ((depth < most_tokens) × (top < 65536)) }
     ensures { Followed several labels.now depth top result.depth result.base result.top }
 {
     if several {

@@ -3,7 +3,7 @@ use Rattle.std.specs.Prelude.{ℕ, zero, suc, ◌*◌, ◌<◌, ◌≤◌, ◌�
 use Rattle.cells.specs.Cells.{cell}
 use Rattle.rules.specs.Grammar.Trees.{Tokens}
 use Rattle.rules.specs.Selectors.{Item}
-use Rattle.rules.specs.Faults.Bodies.{someMeet}
+use Rattle.rules.specs.Faults.Bodies.{some_meet_of}
 use Rattle.selectors.specs.declared.alternatives.Items.{Items}
 use Rattle.selectors.specs.declared.alternatives.Items.TheVariants.{From, Nothing}
 use Rattle.patterns.specs.Stands.{Held, ItemsFrom, ItemsAt}
@@ -22,12 +22,12 @@ pub record AlternativesView (records values starts : List ℕ) (count : ℕ) : T
   pub stand : (k : ℕ) → k < count → ItemsAt tokens (cell 2 starts k) (items k)
 
 -- the items of the first k alternatives, the last first
-unfoldable pub earlierItems : (ℕ → List Item) → ℕ → List Item
-earlierItems items zero = []
-earlierItems items (suc k) = items k ++ earlierItems items k
+unfoldable pub earlier_items : (ℕ → List Item) → ℕ → List Item
+earlier_items items zero = []
+earlier_items items (suc k) = items k ++ earlier_items items k
 
 abbrev pub overlaps : (ℕ → List Item) → ℕ → Bool
-overlaps items k = someMeet (items k) (earlierItems items k)
+overlaps items k = some_meet_of (items k) (earlier_items items k)
 
 -- r is the first of `count` that overlaps an earlier one, or `count`
 pub record FirstOverlap (items : ℕ → List Item) (count r : ℕ) : Type 0 where

@@ -47,7 +47,7 @@ pub fn past(records: &[u8], values: &[u8], n: u32, p: usize) -> bool
 // Whether the alternatives at p and at q have a value in common.
 fn overlap(records: &[u8], values: &[u8], p: usize, q: usize) -> bool
     requires { TwoAlternatives records.now values.now p q }
-    ensures { (v : TwoAlternatives records.now values.now p q) → result ≡ rules.someMeet v.first v.second }
+    ensures { (v : TwoAlternatives records.now values.now p q) → result ≡ rules.some_meet_of v.first v.second }
 {
     match items_of(records, p) {
         Items::From(a) => match items_of(records, q) {

@@ -13,7 +13,7 @@ use rules::kinds::COMMA;
 // Whether the item has a value in common with one of those from q on.
 fn meets_any(records: &[u8], values: &[u8], item: Item, q: usize) -> bool
     requires { ItemsView records.now values.now q }
-    ensures { (v : ItemsView records.now values.now q) → result ≡ rules.meetsAny (meant item) v.items }
+    ensures { (v : ItemsView records.now values.now q) → result ≡ rules.meets_any (meant item) v.items }
 {
     let mut at = q;
     loop {
@@ -33,7 +33,7 @@ fn meets_any(records: &[u8], values: &[u8], item: Item, q: usize) -> bool
 // Whether some value lies in an item from p on and in one from q on.
 pub fn some_meet(records: &[u8], values: &[u8], p: usize, q: usize) -> bool
     requires { TwoLists records.now values.now p q }
-    ensures { (v : TwoLists records.now values.now p q) → result ≡ rules.someMeet v.first v.second }
+    ensures { (v : TwoLists records.now values.now p q) → result ≡ rules.some_meet_of v.first v.second }
 {
     let mut at = p;
     loop {

@@ -1,13 +1,13 @@
 // The sentences of the forties: bodies.
 ghost use Rattle.std.specs.Prelude.{◌+◌, ◌≤◌, length};
 ghost use Rattle.lines.specs.Appended.{Appended};
-ghost use Rattle.sentences.specs.Sentences.{among, bodySentences};
+ghost use Rattle.sentences.specs.Sentences.{among, body_sentences};
 
 use lines::bytes::put_bytes;
 
 pub fn put_body_sentence(out: &mut [u8], at: usize, number: u64) -> usize
     requires { at + 256 ≤ length out.old }
-    ensures { Appended out.old out.new at result (among bodySentences number) × (result ≤ at + 256) }
+    ensures { Appended out.old out.new at result (among body_sentences number) × (result ≤ at + 256) }
 {
     match number {
         40 => put_bytes(

@@ -1,13 +1,13 @@
 // The sentences of the thirties: declarations.
 ghost use Rattle.std.specs.Prelude.{◌+◌, ◌≤◌, length};
 ghost use Rattle.lines.specs.Appended.{Appended};
-ghost use Rattle.sentences.specs.Sentences.{among, declarationSentences};
+ghost use Rattle.sentences.specs.Sentences.{among, declaration_sentences};
 
 use lines::bytes::put_bytes;
 
 pub fn put_declaration_sentence(out: &mut [u8], at: usize, number: u64) -> usize
     requires { at + 256 ≤ length out.old }
-    ensures { Appended out.old out.new at result (among declarationSentences number) × (result ≤ at + 256) }
+    ensures { Appended out.old out.new at result (among declaration_sentences number) × (result ≤ at + 256) }
 {
     match number {
         30 => put_bytes(

@@ -1,13 +1,13 @@
 // The sentences of the twenties: the grammar.
 ghost use Rattle.std.specs.Prelude.{◌+◌, ◌≤◌, length};
 ghost use Rattle.lines.specs.Appended.{Appended};
-ghost use Rattle.sentences.specs.Sentences.{among, grammarSentences};
+ghost use Rattle.sentences.specs.Sentences.{among, grammar_sentences};
 
 use lines::bytes::put_bytes;
 
 pub fn put_grammar_sentence(out: &mut [u8], at: usize, number: u64) -> usize
     requires { at + 256 ≤ length out.old }
-    ensures { Appended out.old out.new at result (among grammarSentences number) × (result ≤ at + 256) }
+    ensures { Appended out.old out.new at result (among grammar_sentences number) × (result ≤ at + 256) }
 {
     match number {
         20 => put_bytes(

@@ -1,13 +1,13 @@
 // The sentences of the tens: bytes and tokens.
 ghost use Rattle.std.specs.Prelude.{◌+◌, ◌≤◌, length};
 ghost use Rattle.lines.specs.Appended.{Appended};
-ghost use Rattle.sentences.specs.Sentences.{among, tokenSentences};
+ghost use Rattle.sentences.specs.Sentences.{among, token_sentences};
 
 use lines::bytes::put_bytes;
 
 pub fn put_token_sentence(out: &mut [u8], at: usize, number: u64) -> usize
     requires { at + 256 ≤ length out.old }
-    ensures { Appended out.old out.new at result (among tokenSentences number) × (result ≤ at + 256) }
+    ensures { Appended out.old out.new at result (among token_sentences number) × (result ≤ at + 256) }
 {
     match number {
         10 => put_bytes(

@@ -1,13 +1,13 @@
 // The sentences of the fifties: the whole description.
 ghost use Rattle.std.specs.Prelude.{◌+◌, ◌≤◌, length};
 ghost use Rattle.lines.specs.Appended.{Appended};
-ghost use Rattle.sentences.specs.Sentences.{among, wholeSentences};
+ghost use Rattle.sentences.specs.Sentences.{among, whole_sentences};
 
 use lines::bytes::put_bytes;
 
 pub fn put_whole_sentence(out: &mut [u8], at: usize, number: u64) -> usize
     requires { at + 256 ≤ length out.old }
-    ensures { Appended out.old out.new at result (among wholeSentences number) × (result ≤ at + 256) }
+    ensures { Appended out.old out.new at result (among whole_sentences number) × (result ≤ at + 256) }
 {
     match number {
         50 => put_bytes(

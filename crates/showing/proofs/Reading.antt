@@ -10,8 +10,8 @@ use Rattle.reader.specs.Read.{Reads}
 use Rattle.reader.specs.declared.declaring.Standing.{Standing}
 use Rattle.reader.specs.declared.declaring.Standing.TheVariants.{Fine}
 
-pub ready-there : (text records values decls : List ℕ) {s : Standing} {m n : ℕ} → s ≡ Fine m n → Reads text records values decls s
+pub ready_there : (text records values decls : List ℕ) {s : Standing} {m n : ℕ} → s ≡ Fine m n → Reads text records values decls s
     → (ts : Tokens) × (d : Description) × Ready text records values decls ts d m
-ready-there text records values decls e h =
+ready_there text records values decls e h =
     let r = subst (Reads text records values decls) e h in
     ((scan text).tokens, r.description, r.ready)

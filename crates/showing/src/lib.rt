@@ -1,6 +1,6 @@
 // A run's report: how it ended, and the words of the text's carriers as lines; the text is read once more, for their names.
 ghost use Rattle.std.specs.Prelude.{◌≤◌, length};
-ghost use Rattle.rules.specs.Limits.{longestText};
+ghost use Rattle.rules.specs.Limits.{longest_text};
 
 use lines::answers::{Answer, REFUSED};
 use lines::bytes::put_byte;
@@ -23,7 +23,7 @@ pub fn put_words(
     b: &mut [u8],
     c: &mut [u8],
 ) -> usize
-    requires text_len_bound { (length text.now ≤ longestText) × ((65536 ≤ length a.old) × ((65536 ≤ length b.old) × (65536 ≤ length c.old))) }
+    requires text_len_bound { (length text.now ≤ longest_text) × ((65536 ≤ length a.old) × ((65536 ≤ length b.old) × (65536 ≤ length c.old))) }
     requires at_bound { (at ≤ 256) × ((524544 ≤ length out.old) × (32768 ≤ length carriers.now)) }
     ensures { result ≤ length out.new }
 {
@@ -52,7 +52,7 @@ pub fn put_report(
     b: &mut [u8],
     c: &mut [u8],
 ) -> usize
-    requires text_len_bound { (length text.now ≤ longestText) × ((65536 ≤ length a.old) × ((65536 ≤ length b.old) × (65536 ≤ length c.old))) }
+    requires text_len_bound { (length text.now ≤ longest_text) × ((65536 ≤ length a.old) × ((65536 ≤ length b.old) × (65536 ≤ length c.old))) }
     requires in_bounds { (524544 ≤ length out.old) × (32768 ≤ length carriers.now) }
     ensures { result ≤ length out.new }
 {

@@ -1,16 +1,16 @@
 // Names of words and bits: how many there are, how large, and whether some lie inside others. A name may be any u64.
 ghost use Rattle.std.specs.Prelude.{◌≡◌, false, ◌+◌, ◌≤◌};
-ghost use Rattle.rules.specs.Declarations.{names, howMany, these};
-ghost use Rattle.rules.specs.Faults.Declared.{farNames, among, inside as lies-inside};
-ghost use Rattle.rules.specs.Limits.{mostWords};
-ghost use Rattle.spans.specs.Spans.{farShown, largeShown, missingShown, countShown, storageShown, sameCount, fitsIn, fitsShown};
+ghost use Rattle.rules.specs.Declarations.{names, how_many, these};
+ghost use Rattle.rules.specs.Faults.Declared.{far_names, among, inside as lies-inside};
+ghost use Rattle.rules.specs.Limits.{most_words};
+ghost use Rattle.spans.specs.Spans.{far_shown, large_shown, missing_shown, count_shown, storage_shown, same_count, fits_in, fits_shown};
 
 use rules::limits::{LARGEST_NAME, MOST_BITS};
 use table::views::Names;
 
 // One fewer than there are: their number itself may not fit.
 fn distance(left: u64, right: u64) -> u64
-    ensures { result + 1 ≡ howMany (names left right) }
+    ensures { result + 1 ≡ how_many (names left right) }
 {
     if left < right {
         return right - left;
@@ -20,7 +20,7 @@ fn distance(left: u64, right: u64) -> u64
 
 // Whether there are none.
 pub fn is_missing(span: Names) -> bool
-    ensures { result ≡ missingShown span }
+    ensures { result ≡ missing_shown span }
 {
     match span {
         Names::Missing => true,
@@ -31,7 +31,7 @@ pub fn is_missing(span: Names) -> bool
 
 // One fewer than there are in a declaration.
 pub fn last_of(span: Names) -> u64
-    ensures { result + 1 ≡ countShown span }
+    ensures { result + 1 ≡ count_shown span }
 {
     match span {
         Names::Span(left, right) => distance(left, right),
@@ -42,8 +42,8 @@ pub fn last_of(span: Names) -> u64
 
 // The words of a declaration that is no mapping, by its bits and words.
 pub fn storage_words(bits: Names, words: Names) -> usize
-    requires { farShown words ≡ false }
-    ensures { (result ≡ storageShown bits words) × (result ≤ mostWords) }
+    requires { far_shown words ≡ false }
+    ensures { (result ≡ storage_shown bits words) × (result ≤ most_words) }
 {
     if is_missing(bits) {
         return 0;
@@ -53,7 +53,7 @@ pub fn storage_words(bits: Names, words: Names) -> usize
 
 // Whether one of two names is too large.
 fn is_far(left: u64, right: u64) -> bool
-    ensures { result ≡ farNames (names left right) }
+    ensures { result ≡ far_names (names left right) }
 {
     if LARGEST_NAME < left {
         return true;
@@ -63,7 +63,7 @@ fn is_far(left: u64, right: u64) -> bool
 
 // Whether a name is too large.
 pub fn far(span: Names) -> bool
-    ensures { result ≡ farShown span }
+    ensures { result ≡ far_shown span }
 {
     match span {
         Names::Span(left, right) => is_far(left, right),
@@ -74,7 +74,7 @@ pub fn far(span: Names) -> bool
 
 // Whether there are too many bits, or a name is too large.
 pub fn large_bits(span: Names) -> bool
-    ensures { result ≡ largeShown span }
+    ensures { result ≡ large_shown span }
 {
     match span {
         Names::Span(left, right) => {
@@ -125,7 +125,7 @@ pub fn inside(left: u64, right: u64, first: u64, last: u64) -> bool
 
 // Whether there are as many bits as from `first` to `last`.
 fn as_many(own: Names, first: u64, last: u64) -> bool
-    ensures { result ≡ sameCount own (names first last) }
+    ensures { result ≡ same_count own (names first last) }
 {
     match own {
         Names::Span(left, right) => distance(left, right) == distance(first, last),
@@ -136,7 +136,7 @@ fn as_many(own: Names, first: u64, last: u64) -> bool
 
 // Whether a mapping with bits of its own fits on some of those from `left` to `right`.
 fn fits_in(left: u64, right: u64, own: Names, on: Names) -> bool
-    ensures { result ≡ fitsIn (names left right) own on }
+    ensures { result ≡ fits_in (names left right) own on }
 {
     match on {
         Names::Span(first, last) => {
@@ -152,7 +152,7 @@ fn fits_in(left: u64, right: u64, own: Names, on: Names) -> bool
 
 // Whether it fits on some of the bits of its target.
 pub fn fits(bits: Names, own: Names, on: Names) -> bool
-    ensures { result ≡ fitsShown bits own on }
+    ensures { result ≡ fits_shown bits own on }
 {
     match bits {
         Names::Span(left, right) => fits_in(left, right, own, on),

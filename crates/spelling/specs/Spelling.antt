@@ -2,9 +2,9 @@
 use Rattle.std.specs.Prelude.{ℕ, ◌+◌, ◌*◌, ◌<◌, ◌≤◌, ◌≡◌, List, length}
 use Rattle.cells.specs.Cells.{cell}
 use Rattle.rules.specs.Grammar.Trees.{Tokens}
-use Rattle.records.specs.Holds.{linkCell, Holds}
+use Rattle.records.specs.Holds.{link_cell, Holds}
 use Rattle.records.specs.Words.{NameAt, word_at}
-use Rattle.spelling.specs.Trees.{no_node, cellBehind, Passes, Finds, Grown}
+use Rattle.spelling.specs.Trees.{no_node, cell_behind, Passes, Finds, Grown}
 use Rattle.room.specs.Spelling.{heads}
 
 -- x is the first name with the word of the name j, and the search for that word finds it among the names before i
@@ -16,7 +16,7 @@ pub record Spells (room : List ℕ) (ts : Tokens) (i j x : ℕ) : Type 0 where
 -- the names before the token i are spelled
 pub record SpelledTo (records room : List ℕ) (ts : Tokens) (i : ℕ) : Type 0 where
   pub grown : Grown room ts i
-  pub each : (j : ℕ) → j < i → NameAt ts j → Spells room ts i j (linkCell records j)
+  pub each : (j : ℕ) → j < i → NameAt ts j → Spells room ts i j (link_cell records j)
 
 -- so it is in a table, and i is one of its tokens
 pub record Spelling (text records room : List ℕ) (i : ℕ) : Type 0 where
@@ -34,7 +34,7 @@ pub record Seeking (text records room : List ℕ) (i : ℕ) : Type 0 where
 -- the search for the name i ends at the cell c: it has a name of the same word, or none
 pub record Ends (room : List ℕ) (ts : Tokens) (i c : ℕ) : Type 0 where
   pub depth : ℕ
-  pub comes : c ≡ cellBehind room (word_at ts i) depth
+  pub comes : c ≡ cell_behind room (word_at ts i) depth
   pub passes : Passes room ts i (word_at ts i) depth
   pub inside : c < heads + 2 * i
   pub same : (cell 2 room c ≡ no_node → ⊥) → word_at ts (cell 2 room c) ≡ word_at ts i

@@ -11,46 +11,46 @@ abbrev pub no_node : ℕ
 no_node = 65535
 
 -- the cell of two bytes that has the left child (b is 0) or the right one (b is 1) of the node n
-abbrev pub childCell : ℕ → ℕ → ℕ
-childCell n b = heads + 2 * n + b
+abbrev pub child_cell : ℕ → ℕ → ℕ
+child_cell n b = heads + 2 * n + b
 
 -- the hash of the first k letters
-unfoldable pub hashTo : List ℕ → ℕ → ℕ
-hashTo w zero = 0
-hashTo w (suc k) = (hashTo w k * 33 + get_or w k 0) % heads
+unfoldable pub hash_to : List ℕ → ℕ → ℕ
+hash_to w zero = 0
+hash_to w (suc k) = (hash_to w k * 33 + get_or w k 0) % heads
 
-abbrev pub hashOf : List ℕ → ℕ
-hashOf w = hashTo w (length w)
+abbrev pub hash_of : List ℕ → ℕ
+hash_of w = hash_to w (length w)
 
 -- the bit d of a word: six bits of a letter, which tell all letters apart, and the last letter first, since words often begin alike
 abbrev pub bit_of : List ℕ → ℕ → ℕ
 bit_of w d = get_or w (length w - (d / 6 + 1)) 0 / 2 ^ (d % 6) % 2
 
 -- the cell to which the search for w comes behind d nodes
-unfoldable pub cellBehind : List ℕ → List ℕ → ℕ → ℕ
-cellBehind room w zero = hashOf w
-cellBehind room w (suc d) = childCell (cell 2 room (cellBehind room w d)) (bit_of w d)
+unfoldable pub cell_behind : List ℕ → List ℕ → ℕ → ℕ
+cell_behind room w zero = hash_of w
+cell_behind room w (suc d) = child_cell (cell 2 room (cell_behind room w d)) (bit_of w d)
 
-abbrev pub nodeBehind : List ℕ → List ℕ → ℕ → ℕ
-nodeBehind room w d = cell 2 room (cellBehind room w d)
+abbrev pub node_behind : List ℕ → List ℕ → ℕ → ℕ
+node_behind room w d = cell 2 room (cell_behind room w d)
 
 -- the search for w passes d nodes, all of them tokens before i with other words
 pub record Passes (room : List ℕ) (ts : Tokens) (i : ℕ) (w : List ℕ) (d : ℕ) : Type 0 where
-  pub before : (k : ℕ) → k < d → nodeBehind room w k < i
-  pub other : (k : ℕ) → k < d → word_at ts (nodeBehind room w k) ≡ w → ⊥
+  pub before : (k : ℕ) → k < d → node_behind room w k < i
+  pub other : (k : ℕ) → k < d → word_at ts (node_behind room w k) ≡ w → ⊥
 
 -- and comes to the node x
 pub record Finds (room : List ℕ) (ts : Tokens) (i : ℕ) (w : List ℕ) (x : ℕ) : Type 0 where
   pub depth : ℕ
   pub passes : Passes room ts i w depth
-  pub comes : nodeBehind room w depth ≡ x
+  pub comes : node_behind room w depth ≡ x
   pub before : x < i
 
 -- x is a node for the cell c: a name before i, and behind the one whose child it is
 pub record Node (ts : Tokens) (i c x : ℕ) : Type 0 where
   pub before : x < i
   pub name : NameAt ts x
-  pub rises : c < childCell x 0
+  pub rises : c < child_cell x 0
 
 -- the heads and the children of the tokens before i have a node each, or none
 pub record Grown (room : List ℕ) (ts : Tokens) (i : ℕ) : Type 0 where

@@ -1,7 +1,7 @@
 // The letters of a word where it stands in the text: its hash, and its bits.
 ghost use Rattle.std.specs.Prelude.{◌≡◌, ◌+◌, ◌-◌, ◌/◌, ◌<◌, ◌≤◌, length, get_or};
-ghost use Rattle.records.specs.Holds.{foldedAt};
-ghost use Rattle.spelling.specs.Trees.{hashOf, bit_of};
+ghost use Rattle.records.specs.Holds.{folded_at};
+ghost use Rattle.spelling.specs.Trees.{hash_of, bit_of};
 ghost use Rattle.room.specs.Spelling.{heads};
 
 use classes::letters::upper;
@@ -10,7 +10,7 @@ use room::spelling::HEADS;
 // The letter k of the n at p, in upper case; 0 behind them.
 fn letter(text: &[u8], p: usize, n: usize, k: usize) -> u8
     requires { p + n ≤ length text.now }
-    ensures { result ≡ get_or (foldedAt text.now p n) k 0 }
+    ensures { result ≡ get_or (folded_at text.now p n) k 0 }
 {
     if k < n {
         return upper(text[p + k]);
@@ -21,7 +21,7 @@ fn letter(text: &[u8], p: usize, n: usize, k: usize) -> u8
 // The head for the n letters at p.
 pub fn hash_of(text: &[u8], p: usize, n: usize) -> usize
     requires { p + n ≤ length text.now }
-    ensures { (result ≡ hashOf (foldedAt text.now p n)) × (result < heads) }
+    ensures { (result ≡ hash_of (folded_at text.now p n)) × (result < heads) }
 {
     let mut h: usize = 0;
     let mut k: usize = 0;
@@ -46,7 +46,7 @@ fn letter_with(n: usize, d: usize) -> usize
 // The bit d of the n letters at p.
 pub fn bit_of(text: &[u8], p: usize, n: usize, d: usize) -> usize
     requires { p + n ≤ length text.now }
-    ensures { (result ≡ bit_of (foldedAt text.now p n) d) × (result < 2) }
+    ensures { (result ≡ bit_of (folded_at text.now p n) d) × (result < 2) }
 {
     ((letter(text, p, n, letter_with(n, d)) as usize) >> (d % 6)) % 2
 }

@@ -1,6 +1,6 @@
 // Where no node stands yet: at the heads, and at the children of a token.
 ghost use Rattle.std.specs.Prelude.{◌+◌, ◌*◌, ◌≤◌, length};
-ghost use Rattle.room.specs.Spelling.{heads, roomSize};
+ghost use Rattle.room.specs.Spelling.{heads, room_size};
 ghost use Rattle.spelling.specs.Spelling.{Cleared, Opened};
 
 use cells::put16;
@@ -11,7 +11,7 @@ pub const NONE: u16 = 65535;
 
 // Leaves no node at any head.
 pub fn clear_heads(room: &mut [u8])
-    requires { roomSize ≤ length room.old }
+    requires { room_size ≤ length room.old }
     ensures { Cleared room.new 0 heads }
 {
     let mut h: usize = 0;

@@ -1,6 +1,6 @@
 // The search for the word of a name among the names before it.
 ghost use Rattle.std.specs.Prelude.{◌≤◌, length};
-ghost use Rattle.room.specs.Spelling.{roomSize};
+ghost use Rattle.room.specs.Spelling.{room_size};
 ghost use Rattle.spelling.specs.Spelling.{Seeking, Ends};
 
 use crate::letters::{bit_of, hash_of};
@@ -13,7 +13,7 @@ use room::spelling::HEADS;
 // The cell at which the search for the word of the name i ends: it has a name of the same word, or none.
 pub fn search(text: &[u8], records: &[u8], room: &[u8], i: usize) -> usize
     requires seeking { Seeking text.now records.now room.now i }
-    requires room_size_in_bounds { roomSize ≤ length room.now }
+    requires room_size_in_bounds { room_size ≤ length room.now }
     ensures { (v : Seeking text.now records.now room.now i)
         → Ends room.now v.spelling.tokens i result }
 {

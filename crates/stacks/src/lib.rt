@@ -1,10 +1,10 @@
 // Names on a stack, kept as the numbers of their tokens in cells of lent bytes. An index behind the stack leads from a spelling to a stacked name, so that
 // looking a name up takes the same time however many are stacked.
 ghost use Rattle.std.specs.Prelude.{◌≡◌, ◌<◌};
-ghost use Rattle.rules.specs.Faults.Declared.{isKnown};
+ghost use Rattle.rules.specs.Faults.Declared.{is_known};
 ghost use Rattle.records.specs.Words.{word_at};
-ghost use Rattle.stacks.specs.Stacks.{NameView, stackedWords, FoundAt, Pushed};
-ghost use Rattle.room.specs.Bodies.{indexFrom};
+ghost use Rattle.stacks.specs.Stacks.{NameView, stacked_words, FoundAt, Pushed};
+ghost use Rattle.room.specs.Bodies.{index_from};
 
 use cells::{get16, put16};
 use records::fields::link_at;
@@ -32,14 +32,14 @@ fn position(records: &[u8], room: &[u8], count: usize, i: usize) -> usize
 pub fn is_stacked(records: &[u8], room: &[u8], count: usize, i: usize) -> bool
     requires { NameView records.now room.now count i }
     ensures { (v : NameView records.now room.now count i)
-        → result ≡ isKnown (word_at v.tokens i) (stackedWords v.tokens room.now count) }
+        → result ≡ is_known (word_at v.tokens i) (stacked_words v.tokens room.now count) }
 {
     position(records, room, count, i) < count
 }
 
 // Stacks the name i on top of `count` others. The index leads to the lowest name of each spelling, so it holds while names above are taken away.
 pub fn push(records: &[u8], room: &mut [u8], count: usize, i: usize)
-    requires { NameView records.now room.old count i × (count < indexFrom) }
+    requires { NameView records.now room.old count i × (count < index_from) }
     ensures { Pushed records.now count i room.old room.new }
 {
     let first = position(records, room, count, i);

@@ -6,25 +6,25 @@ use mathlib.Core.List.{List}
 use mathlib.Core.Option.{none, some}
 use borrow.Author.Tests.{eq-eqb, ne_eqb}
 use lib.ListN.{length}
-use Rattle.rules.specs.Declarations.{Table, totalWords}
-use Rattle.rules.specs.Answers.{refusal, wordLengths, runOn}
+use Rattle.rules.specs.Declarations.{Table, total_words}
+use Rattle.rules.specs.Answers.{refusal, word_lengths, run_on}
 use Rattle.starts.specs.Starts.{Begins}
-use Rattle.buffers.specs.Laws.Buffers.{words-cells}
-use Rattle.starts.specs.Laws.Passing.{longFrom}
+use Rattle.buffers.specs.Laws.Buffers.{words_cells}
+use Rattle.starts.specs.Laws.Passing.{long_from}
 
 module _ (ds : Table) (b : List ℕ) where
-  pub other_length : (length b ≡ 8 * totalWords ds → ⊥) → (budget : ℕ) → runOn ds b budget ≡ refusal 60 0
-  unfolding runOn
-  other_length n budget = rw (runOn, ne_eqb (length b) (8 * totalWords ds) n)
+  pub other_length : (length b ≡ 8 * total_words ds → ⊥) → (budget : ℕ) → run_on ds b budget ≡ refusal 60 0
+  unfolding run_on
+  other_length n budget = rw (run_on, ne_eqb (length b) (8 * total_words ds) n)
 
-  module _ (long : length b ≡ 8 * totalWords ds) where
-    pub long-refused : {o : ℕ} → longFrom b 0 (wordLengths ds) (totalWords ds) ≡ some o → (budget : ℕ) → runOn ds b budget ≡ refusal 61 o
-    unfolding runOn
-    long-refused e budget = rw (runOn, eq-eqb (length b) (8 * totalWords ds) long, ← words-cells (totalWords ds) b, e)
+  module _ (long : length b ≡ 8 * total_words ds) where
+    pub long_refused : {o : ℕ} → long_from b 0 (word_lengths ds) (total_words ds) ≡ some o → (budget : ℕ) → run_on ds b budget ≡ refusal 61 o
+    unfolding run_on
+    long_refused e budget = rw (run_on, eq-eqb (length b) (8 * total_words ds) long, ← words_cells (total_words ds) b, e)
 
-    pub none-long : longFrom b 0 (wordLengths ds) (totalWords ds) ≡ none → Begins ds b
-    unfolding runOn
-    none-long e = record {
+    pub none_long : long_from b 0 (word_lengths ds) (total_words ds) ≡ none → Begins ds b
+    unfolding run_on
+    none_long e = record {
       long = long;
-      runs = λ budget. rw (runOn, eq-eqb (length b) (8 * totalWords ds) long, ← words-cells (totalWords ds) b, e);
+      runs = λ budget. rw (run_on, eq-eqb (length b) (8 * total_words ds) long, ← words_cells (total_words ds) b, e);
     }

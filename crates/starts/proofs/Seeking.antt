@@ -13,8 +13,8 @@ use Rattle.cells.specs.Cells.{cell}
 use Rattle.starts.specs.Sought.{Sought}
 
 -- what is left of a word above its lowest bits
-pub long-test : (w n : ℕ) → ltb 1 (w / 2 ^ n) ≡ leb (2 ^ (n + 1)) w
-long-test w n = by (dec_lt w (2 ^ (n + 1)))
+pub long_test : (w n : ℕ) → ltb 1 (w / 2 ^ n) ≡ leb (2 ^ (n + 1)) w
+long_test w n = by (dec_lt w (2 ^ (n + 1)))
   where
     by : Dec (w < 2 ^ (n + 1)) → ltb 1 (w / 2 ^ n) ≡ leb (2 ^ (n + 1)) w
     by (yes l) =
@@ -25,19 +25,19 @@ long-test w n = by (dec_lt w (2 ^ (n + 1)))
         lt-ltb 1 (w / 2 ^ n) (omega (arith, shl-shr 2 n)) ∙ sym (le-leb (2 ^ (n + 1)) w (omega arith))
 
 -- the words before i are sought through
-pub none-sought : (b : List ℕ) (at bits : ℕ) → Sought b at at bits at
-none-sought b at bits = record { least = omega arith; most = omega arith; fit = λ i l h. absurd (omega arith); long = λ h. absurd (omega arith) }
+pub none_sought : (b : List ℕ) (at bits : ℕ) → Sought b at at bits at
+none_sought b at bits = record { least = omega arith; most = omega arith; fit = λ i l h. absurd (omega arith); long = λ h. absurd (omega arith) }
 
 module _ {b : List ℕ} {at i bits : ℕ} (s : Sought b at i bits i) where
-  pub all-sought : {end : ℕ} → i ≤ end → end ≤ i → Sought b at end bits end
-  all-sought {end} l h = let e : i ≡ end = omega arith in rw e at s
+  pub all_sought : {end : ℕ} → i ≤ end → end ≤ i → Sought b at end bits end
+  all_sought {end} l h = let e : i ≡ end = omega arith in rw e at s
 
   module _ {w : ℕ} {t : Bool} (is : w ≡ cell 8 b i) (test : t ≡ leb (2 ^ bits) w) where
-    pub long-here : {end : ℕ} → i < end → t ≡ true → Sought b at end bits i
-    long-here l y = record { least = s.least; most = omega arith; fit = s.fit; long = λ h. rw is at (leb-true (2 ^ bits) w (sym test ∙ y)) }
+    pub long_here : {end : ℕ} → i < end → t ≡ true → Sought b at end bits i
+    long_here l y = record { least = s.least; most = omega arith; fit = s.fit; long = λ h. rw is at (leb-true (2 ^ bits) w (sym test ∙ y)) }
 
-    pub sought-more : t ≡ false → Sought b at (i + 1) bits (i + 1)
-    sought-more n = record { least = omega (arith, s.least); most = omega arith; fit = λ j l h. by j l (dec_lt j i) h; long = λ h. absurd (omega arith) }
+    pub sought_more : t ≡ false → Sought b at (i + 1) bits (i + 1)
+    sought_more n = record { least = omega (arith, s.least); most = omega arith; fit = λ j l h. by j l (dec_lt j i) h; long = λ h. absurd (omega arith) }
       where
         by : (j : ℕ) → at ≤ j → Dec (j < i) → j < i + 1 → cell 8 b j < 2 ^ bits
         by j l (yes h) k = s.fit j l h

@@ -8,9 +8,9 @@ use Rattle.promise.specs.Instructions.{CaseStands, Numbered, Counted, EntriesSta
 use Rattle.patterns.specs.Stands.{Held}
 
 -- no instruction stands at token 0
-abbrev pub placeNo : Option ℕ → ℕ
-placeNo none = 0
-placeNo (some g) = g
+abbrev pub place_no : Option ℕ → ℕ
+place_no none = 0
+place_no (some g) = g
 
 -- an alternative whose selector, if it has one, begins at q, and which is the number-th
 pub record CaseView (records values : List ℕ) (q number : ℕ) : Type 0 where

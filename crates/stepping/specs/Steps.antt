@@ -1,14 +1,14 @@
 -- One instruction in the table: what its step comes to, whatever the stack of return addresses is.
 use Rattle.std.specs.Prelude.{ℕ, zero, suc, ◌*◌, ◌<◌, ◌≤◌, ◌≡◌, List, ◌∷◌, length}
 use Rattle.rules.specs.Text.Tokens.{Const}
-use Rattle.rules.specs.Declarations.{totalWords}
-use Rattle.rules.specs.Limits.{mostDeclarations}
-use Rattle.laws_orders.specs.Cited.Flat.{Instr, ifI, decodeI, goI, callI, stopI, moveI, Code, pc, halt, broken, return, put, step_m}
+use Rattle.rules.specs.Declarations.{total_words}
+use Rattle.rules.specs.Limits.{most_declarations}
+use Rattle.laws_orders.specs.Cited.Flat.{Instr, if_i, decode_i, go_i, call_i, stop_i, move_i, Code, pc, halt, broken, return, put, step_m}
 use Rattle.laws_orders.specs.Cited.Flat as flat
-use Rattle.records.specs.Holds.{tokenAt}
+use Rattle.records.specs.Holds.{token_at}
 use Rattle.promise.specs.Instructions.{InstructionHolds}
 use Rattle.promise.specs.Reached.{Leads}
-use Rattle.operands.specs.Scene.{Scene, carrierWords, words_of}
+use Rattle.operands.specs.Scene.{Scene, carrier_words, words_of}
 use Rattle.stepping.specs.declared.steps.Moved.{Moved}
 use Rattle.stepping.specs.declared.steps.Moved.TheVariants.{Go, Call, Stop, Fault}
 
@@ -30,8 +30,8 @@ control (Fault m p) σ = broken m p
 -- an instruction of an accepted text, which leads to no instruction 0
 pub record StepAt (records values decls carriers : List ℕ) (n : ℕ) : Type 0 where
   pub scene : Scene records values carriers
-  pub fixed : (i : ℕ) → i < length scene.tokens → (tokenAt scene.tokens i).kind ≡ Const → (tokenAt scene.tokens i).info.free ≡ 0
-  pub room : 2 * mostDeclarations ≤ length decls
+  pub fixed : (i : ℕ) → i < length scene.tokens → (token_at scene.tokens i).kind ≡ Const → (token_at scene.tokens i).info.free ≡ 0
+  pub room : 2 * most_declarations ≤ length decls
   pub code : Code
   pub within : n < length scene.tokens
   pub holds : InstructionHolds records decls scene.tokens scene.outer scene.table code n (code.instr n)
@@ -45,12 +45,12 @@ Keeps Stop before after = Unit {0}
 Keeps (Fault m p) before after = after ≡ before
 
 abbrev pub Activates : Instr → Type 0
-Activates (ifI e g k) = ⊥
-Activates (decodeI p e t) = ⊥
-Activates (goI k) = ⊥
-Activates (callI p k) = Unit {0}
-Activates stopI = ⊥
-Activates (moveI d e k) = ⊥
+Activates (if_i e g k) = ⊥
+Activates (decode_i p e t) = ⊥
+Activates (go_i k) = ⊥
+Activates (call_i p k) = Unit {0}
+Activates stop_i = ⊥
+Activates (move_i d e k) = ⊥
 
 -- just an activation leads into a body
 abbrev pub Into : Moved → Instr → Type 0
@@ -62,6 +62,6 @@ Into (Fault m p) i = Activates i → ⊥
 pub record StepAnswer {records values decls carriers : List ℕ} {n : ℕ} (v : StepAt records values decls carriers n) (after : List ℕ) (r : Moved) : Type 0 where
   pub comes : (σ : List ℕ)
       → step_m v.scene.table v.code n σ (words_of v.scene)
-      ≡ put (words_of v.scene) (carrierWords (totalWords v.scene.table) after) (control r σ)
+      ≡ put (words_of v.scene) (carrier_words (total_words v.scene.table) after) (control r σ)
   pub kept : Keeps r carriers after
   pub into : Into r (v.code.instr n)

@@ -1,9 +1,9 @@
 // The alternative of a DECODE that takes a value.
 ghost use Rattle.std.specs.Prelude.{◌≡◌};
-ghost use Rattle.rules.specs.Selectors.{anyMatches, takes};
+ghost use Rattle.rules.specs.Selectors.{any_matches, takes};
 ghost use Rattle.laws_orders.specs.Cited.Flat.{find};
 ghost use Rattle.patterns.specs.Stands.{ItemsView};
-ghost use Rattle.stepping.specs.Choice.{CaseView, ChoiceView, placeNo};
+ghost use Rattle.stepping.specs.Choice.{CaseView, ChoiceView, place_no};
 
 use patterns::items::matches;
 use patterns::read::item_at;
@@ -13,7 +13,7 @@ use rules::kinds::{COMMA, END, LBRA, MASKED, NAME, OTHERWISE};
 // Whether one of the items from q on matches x.
 fn any_matches(records: &[u8], values: &[u8], q: usize, x: u64) -> bool
     requires { ItemsView records.now values.now q }
-    ensures { (v : ItemsView records.now values.now q) → result ≡ anyMatches v.items x }
+    ensures { (v : ItemsView records.now values.now q) → result ≡ any_matches v.items x }
 {
     let mut at = q;
     loop {
@@ -54,7 +54,7 @@ fn takes_value(records: &[u8], values: &[u8], q: usize, number: u64, x: u64) -> 
 // Where the first of the alternatives from the separator p on that takes x leads, or 0.
 pub fn choose(records: &[u8], values: &[u8], p: usize, x: u64) -> usize
     requires { ChoiceView records.now values.now p 0 }
-    ensures { (v : ChoiceView records.now values.now p 0) → result ≡ placeNo (find v.entries x) }
+    ensures { (v : ChoiceView records.now values.now p 0) → result ≡ place_no (find v.entries x) }
 {
     let mut at = p;
     let mut number: u64 = 0;

@@ -1,7 +1,7 @@
 // One step: the instruction at n, without the stack of return addresses.
 ghost use Rattle.std.specs.Prelude.{◌≡◌, List, ℕ, ◌+◌, ◌≤◌, length};
-ghost use Rattle.rules.specs.Text.Tokens.{IF, DECODE, Name, LPar, kindNo};
-ghost use Rattle.records.specs.Holds.{kindByte};
+ghost use Rattle.rules.specs.Text.Tokens.{IF, DECODE, Name, LPar, kind_no};
+ghost use Rattle.records.specs.Holds.{kind_byte};
 ghost use Rattle.stepping.specs.Steps.{StepAt, StepAnswer};
 
 use crate::choice::choose;
@@ -23,9 +23,9 @@ pub enum Moved {
 
 // The IF at n acts when any bit of its test is 1.
 fn if_step(records: &[u8], values: &[u8], carriers: &[u8], n: usize) -> Moved
-    requires { (decls : List ℕ) × (StepAt records.now values.now decls carriers.now n × (kindByte records.now n ≡ kindNo IF)) }
+    requires { (decls : List ℕ) × (StepAt records.now values.now decls carriers.now n × (kind_byte records.now n ≡ kind_no IF)) }
     ensures { (decls : List ℕ) (v : StepAt records.now values.now decls carriers.now n)
-        → kindByte records.now n ≡ kindNo IF → StepAnswer v carriers.now result }
+        → kind_byte records.now n ≡ kind_no IF → StepAnswer v carriers.now result }
 {
     let tested = test(records, values, carriers, n);
     match tested {
@@ -41,9 +41,9 @@ fn if_step(records: &[u8], values: &[u8], carriers: &[u8], n: usize) -> Moved
 
 // The DECODE at n acts by the first alternative that takes its value.
 fn decode_step(records: &[u8], values: &[u8], carriers: &[u8], n: usize) -> Moved
-    requires { (decls : List ℕ) × (StepAt records.now values.now decls carriers.now n × (kindByte records.now n ≡ kindNo DECODE)) }
+    requires { (decls : List ℕ) × (StepAt records.now values.now decls carriers.now n × (kind_byte records.now n ≡ kind_no DECODE)) }
     ensures { (decls : List ℕ) (v : StepAt records.now values.now decls carriers.now n)
-        → kindByte records.now n ≡ kindNo DECODE → StepAnswer v carriers.now result }
+        → kind_byte records.now n ≡ kind_no DECODE → StepAnswer v carriers.now result }
 {
     let tested = test(records, values, carriers, n);
     match tested {
@@ -61,9 +61,9 @@ fn decode_step(records: &[u8], values: &[u8], carriers: &[u8], n: usize) -> Move
 // The activation at n.
 fn call_step(records: &[u8], decls: &[u8], n: usize) -> Moved
     requires { (values : List ℕ) × ((carriers : List ℕ) × (StepAt records.now values decls.now carriers n
-        × ((kindByte records.now n ≡ kindNo Name) × (kindByte records.now (n + 1) ≡ kindNo LPar)))) }
+        × ((kind_byte records.now n ≡ kind_no Name) × (kind_byte records.now (n + 1) ≡ kind_no LPar)))) }
     ensures { (values carriers : List ℕ) (v : StepAt records.now values decls.now carriers n)
-        → kindByte records.now n ≡ kindNo Name → kindByte records.now (n + 1) ≡ kindNo LPar → StepAnswer v carriers result }
+        → kind_byte records.now n ≡ kind_no Name → kind_byte records.now (n + 1) ≡ kind_no LPar → StepAnswer v carriers result }
 {
     let body = get16(decls, inside_at(records, n)) as usize;
     let first = link_at(records, body);
@@ -79,9 +79,9 @@ fn transfer_step(
     n: usize,
 ) -> Moved
     requires { (decls : List ℕ) × (StepAt records.now values.now decls carriers.old n
-        × ((kindByte records.now n ≡ kindNo Name) × ((kindByte records.now (n + 1) ≡ kindNo LPar → ⊥) × (512 ≤ length scratch.old)))) }
+        × ((kind_byte records.now n ≡ kind_no Name) × ((kind_byte records.now (n + 1) ≡ kind_no LPar → ⊥) × (512 ≤ length scratch.old)))) }
     ensures { (decls : List ℕ) (v : StepAt records.now values.now decls carriers.old n)
-        → kindByte records.now n ≡ kindNo Name → (kindByte records.now (n + 1) ≡ kindNo LPar → ⊥) → StepAnswer v carriers.new result }
+        → kind_byte records.now n ≡ kind_no Name → (kind_byte records.now (n + 1) ≡ kind_no LPar → ⊥) → StepAnswer v carriers.new result }
 {
     let next = link_at(records, n);
     let made = transfer(records, values, carriers, scratch, n);

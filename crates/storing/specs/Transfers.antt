@@ -2,10 +2,10 @@
 use Rattle.std.specs.Prelude.{ℕ, List, ◌∷◌}
 use Rattle.rules.specs.Values.{cut}
 use Rattle.rules.specs.Declarations.{Table}
-use Rattle.rules.specs.Stores.{Entry, entriesOf, ifGiven, made}
-use Rattle.rules.specs.Steps.Actions.{Access, access, transferPlace, joinedAccesses}
+use Rattle.rules.specs.Stores.{Entry, entries_of, if_given, made}
+use Rattle.rules.specs.Steps.Actions.{Access, access, transfer_place, joined_accesses}
 use Rattle.rules.specs.Steps.Control.{moves}
-use Rattle.rules.specs.Steps.Evaluation.{Carriers, Outcome, gives, then, evaluateAccesses}
+use Rattle.rules.specs.Steps.Evaluation.{Carriers, Outcome, gives, then, evaluate_accesses}
 use Rattle.operands.specs.Scene.{words_of}
 use Rattle.evaluation.specs.declared.transfers.Transferred.{Transferred}
 use Rattle.evaluation.specs.Stores.{sizes}
@@ -15,21 +15,21 @@ use Rattle.storing.specs.Parts.{Tells}
 
 -- beside `assigned`, the entries of the stores of x to a destination
 abbrev pub entered : ℕ → Table → Carriers → List Access → ℕ → Outcome (List Entry)
-entered p ds s to x = then (evaluateAccesses ds s to) (λ fs. gives (entriesOf p s fs (cut (sizes fs) x)))
+entered p ds s to x = then (evaluate_accesses ds s to) (λ fs. gives (entries_of p s fs (cut (sizes fs) x)))
 
 -- a destination whose first field is known
 abbrev pub FieldsTold : {records values carriers : List ℕ} {word low size p end : ℕ} → GatherAt records values carriers word low size p end → ℕ → ℕ → List ℕ
     → List Entry → List ℕ → List ℕ → Transferred → Type 0
 FieldsTold g x place after l room room' r =
     JoinedAnswer g x after r
-    × Tells l room room' (ifGiven (entered place g.scene.table (words_of g.scene) (g.first ∷ joinedAccesses g.more) x))
+    × Tells l room room' (if_given (entered place g.scene.table (words_of g.scene) (g.first ∷ joined_accesses g.more) x))
 
 -- a destination from the name n up to the `=`
 abbrev pub AssignTold : {records values carriers : List ℕ} {n end : ℕ} → AssignAt records values carriers n end → ℕ → List ℕ
     → List Entry → List ℕ → List ℕ → Transferred → Type 0
 AssignTold d x after l room room' r =
-    let to = access d.name d.subscript d.bits ∷ joinedAccesses d.more in
-    AssignAnswer d x after r × Tells l room room' (ifGiven (entered (transferPlace to) d.scene.table (words_of d.scene) to x))
+    let to = access d.name d.subscript d.bits ∷ joined_accesses d.more in
+    AssignAnswer d x after r × Tells l room room' (if_given (entered (transfer_place to) d.scene.table (words_of d.scene) to x))
 
 -- the transfer at the instruction n
 abbrev pub TransferTold : {records values carriers : List ℕ} {n : ℕ} → TransferAt records values carriers n → List ℕ

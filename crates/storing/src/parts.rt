@@ -1,12 +1,12 @@
 // The parts of a destination, whose fields wait in the scratch: each is stored, and what its word then holds is told.
 ghost use Rattle.std.specs.Prelude.{◌+◌, ◌*◌, ◌<◌, ◌≤◌, length};
-ghost use Rattle.rules.specs.Limits.{mostBits, mostWords};
-ghost use Rattle.rules.specs.Entries.{entriesIn};
-ghost use Rattle.operands.specs.Cells.{cellFirst, cellLow, cellBits};
+ghost use Rattle.rules.specs.Limits.{most_bits, most_words};
+ghost use Rattle.rules.specs.Entries.{entries_in};
+ghost use Rattle.operands.specs.Cells.{cell_first, cell_low, cell_bits};
 ghost use Rattle.evaluation.specs.Stores.{StoresAt};
 ghost use Rattle.listed.specs.Named.{entry_of};
-ghost use Rattle.matching.specs.Room.{matchingIn, Sound, Stands};
-ghost use Rattle.storing.specs.Parts.{PartPut, toldAt, StoresTold};
+ghost use Rattle.matching.specs.Room.{matching_in, Sound, Stands};
+ghost use Rattle.storing.specs.Parts.{PartPut, told_at, StoresTold};
 
 use cells::get64;
 use evaluation::transfers::store;
@@ -16,8 +16,8 @@ use values::fields::part;
 
 // The field f takes the next part of v, of which `rest` bits are left. The answer is the entry of this store.
 fn store_part(carriers: &mut [u8], f: u64, rest: u32, v: u64, place: u32) -> Entry
-    requires { ((0 < cellBits f) × (cellBits f ≤ rest) × (rest ≤ mostBits))
-        × ((8 * cellFirst f + 8 ≤ length carriers.old) × ((cellLow f < mostBits) × (cellLow f + cellBits f ≤ mostBits))) }
+    requires { ((0 < cell_bits f) × (cell_bits f ≤ rest) × (rest ≤ most_bits))
+        × ((8 * cell_first f + 8 ≤ length carriers.old) × ((cell_low f < most_bits) × (cell_low f + cell_bits f ≤ most_bits))) }
     ensures { PartPut carriers.old carriers.new f rest v place result }
 {
     let word = (f % 65536) as usize;
@@ -36,9 +36,9 @@ fn store_part(carriers: &mut [u8], f: u64, rest: u32, v: u64, place: u32) -> Ent
 
 // The part k of a transfer is told: the first takes an entry of its word, and each further one the entry right behind.
 fn tell_part(room: &mut [u8], entries: &[u8], k: usize, x: Entry)
-    requires { Sound (entriesIn entries.now) room.old × ((entry_of x).word < mostWords) }
-    ensures { Stands (entriesIn entries.now) room.new
-        (toldAt k (entry_of x) (matchingIn (entriesIn entries.now) room.old)) }
+    requires { Sound (entries_in entries.now) room.old × ((entry_of x).word < most_words) }
+    ensures { Stands (entries_in entries.now) room.new
+        (told_at k (entry_of x) (matching_in (entries_in entries.now) room.old)) }
 {
     if k == 0 {
         tell_first(room, entries, x);
@@ -59,9 +59,9 @@ pub fn store_all(
     place: u32,
 )
     requires { StoresAt carriers.old fields.now count bits × ((8 * count ≤ length fields.now)
-        × ((length carriers.old ≤ 8 * mostWords) × Sound (entriesIn entries.now) room.old)) }
+        × ((length carriers.old ≤ 8 * most_words) × Sound (entries_in entries.now) room.old)) }
     ensures { (s : StoresAt carriers.old fields.now count bits)
-        → StoresTold s v place carriers.new (entriesIn entries.now) room.old room.new }
+        → StoresTold s v place carriers.new (entries_in entries.now) room.old room.new }
 {
     let mut rest = bits;
     let mut k: usize = 0;

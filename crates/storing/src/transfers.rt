@@ -1,7 +1,7 @@
 // Transfers: the right side is worked out first, then the subscripts of the destination, then the stores; all from left to right. A fault stores and tells nothing.
 ghost use Rattle.std.specs.Prelude.{◌*◌, ◌≤◌, length};
-ghost use Rattle.rules.specs.Limits.{mostWords};
-ghost use Rattle.rules.specs.Entries.{entriesIn};
+ghost use Rattle.rules.specs.Limits.{most_words};
+ghost use Rattle.rules.specs.Entries.{entries_in};
 ghost use Rattle.evaluation.specs.Gathering.{GatherAt};
 ghost use Rattle.evaluation.specs.Transfers.{AssignAt, TransferAt};
 ghost use Rattle.matching.specs.Room.{Sound};
@@ -31,9 +31,9 @@ fn assign_fields(
     place: u32,
 ) -> Transferred
     requires { GatherAt records.now values.now carriers.old word low size p end × ((512 ≤ length fields.old)
-        × ((length carriers.old ≤ 8 * mostWords) × Sound (entriesIn entries.now) room.old)) }
+        × ((length carriers.old ≤ 8 * most_words) × Sound (entries_in entries.now) room.old)) }
     ensures { (g : GatherAt records.now values.now carriers.old word low size p end)
-        → FieldsTold g v place carriers.new (entriesIn entries.now) room.old room.new result }
+        → FieldsTold g v place carriers.new (entries_in entries.now) room.old room.new result }
 {
     let gathered = gather(records, values, carriers, fields, word, low, size, p, end);
     match gathered {
@@ -58,9 +58,9 @@ fn assign(
     v: u64,
 ) -> Transferred
     requires { AssignAt records.now values.now carriers.old n end × ((512 ≤ length fields.old)
-        × ((length carriers.old ≤ 8 * mostWords) × Sound (entriesIn entries.now) room.old)) }
+        × ((length carriers.old ≤ 8 * most_words) × Sound (entries_in entries.now) room.old)) }
     ensures { (d : AssignAt records.now values.now carriers.old n end)
-        → AssignTold d v carriers.new (entriesIn entries.now) room.old room.new result }
+        → AssignTold d v carriers.new (entries_in entries.now) room.old room.new result }
 {
     let place = place16_at(records, n) as u32;
     let first = access(records, values, carriers, n, DEEPEST);
@@ -83,9 +83,9 @@ pub fn transfer(
     n: usize,
 ) -> Transferred
     requires { TransferAt records.now values.now carriers.old n × ((512 ≤ length fields.old)
-        × ((length carriers.old ≤ 8 * mostWords) × Sound (entriesIn entries.now) room.old)) }
+        × ((length carriers.old ≤ 8 * most_words) × Sound (entries_in entries.now) room.old)) }
     ensures { (t : TransferAt records.now values.now carriers.old n)
-        → TransferTold t carriers.new (entriesIn entries.now) room.old room.new result }
+        → TransferTold t carriers.new (entries_in entries.now) room.old room.new result }
 {
     let equals = inside_at(records, n);
     let right = expression(records, values, carriers, equals + 1, DEEPEST);

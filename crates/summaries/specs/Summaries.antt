@@ -1,6 +1,6 @@
 -- What a summary tells of the values that items match.
 use Rattle.std.specs.Prelude.{ℕ, ◌+◌, ◌^◌, ◌<◌, ◌≤◌, List, [], ◌∷◌, ◌⊎◌, T}
-use Rattle.rules.specs.Selectors.{Item, pattern, between, agree, anyMatches}
+use Rattle.rules.specs.Selectors.{Item, pattern, between, agree, any_matches}
 use Rattle.summaries.specs.declared.Summary.{Summary}
 use Rattle.summaries.specs.Fits.{ItemFits}
 
@@ -41,6 +41,6 @@ pub record Admitted (s : Summary) : Type 0 where
 
 -- all values of the items fit the summary; where an item could be met without a common value, every value does
 pub record Tells (is : List Item) (s : Summary) : Type 0 where
-  pub each : (x : ℕ) → x < 2 ^ 64 → T (anyMatches is x) → Admits s x
+  pub each : (x : ℕ) → x < 2 ^ 64 → T (any_matches is x) → Admits s x
   pub known : AllFit is ⊎ Open s
   pub some : Admitted s

@@ -4,14 +4,14 @@ use Rattle.std.proofs.Math.Option.{Option, none, some}
 use Rattle.std.proofs.Common.{arith}
 use Rattle.std.proofs.Math.ListN.{get_elem?}
 use Rattle.cells.specs.Cells.{cell}
-use Rattle.rules.specs.Limits.{mostTokens}
+use Rattle.rules.specs.Limits.{most_tokens}
 use Rattle.rules.specs.Grammar.Trees.{Tokens, Declaration}
 use Rattle.table.specs.Declarations.{DeclaredAt}
 
 -- the cell k has the number of the name of the k-th declaration
 pub record DeclsHold (decls : List ℕ) (ts : Tokens) (list : List Declaration) : Type 0 where
   pub room : 2 * length list ≤ length decls
-  pub few : length list ≤ mostTokens
+  pub few : length list ≤ most_tokens
   pub each : (k : ℕ) (d : Declaration) → get_elem? list k ≡ some d → DeclaredAt ts (cell 2 decls k) d
 
 abbrev pub or_else : ℕ → Option ℕ → ℕ

@@ -1,15 +1,15 @@
 -- Searches along the tokens outside of blocks: what stands from the token on that is looked for. Kinds go by their numbers, as in the table.
 use Rattle.std.specs.Prelude.{ℕ, zero, suc, Bool, true, false, ◌&&◌, [], ◌∷◌, eqb}
-use Rattle.rules.specs.Text.Tokens.{Comma, Semi, BEGIN, END, NEXT, kindNo, Token}
+use Rattle.rules.specs.Text.Tokens.{Comma, Semi, BEGIN, END, NEXT, kind_no, Token}
 use Rattle.rules.specs.Grammar.Trees.{Tokens}
 use Rattle.rules.specs.Whole.Sets.{member}
 
 abbrev pub no : Token → ℕ
-no t = kindNo t.kind
+no t = kind_no t.kind
 
 -- `,`, `;`, END and NEXT stand behind an action
 unfoldable pub separates : ℕ → Bool
-separates k = member k (kindNo Comma ∷ kindNo Semi ∷ kindNo END ∷ kindNo NEXT ∷ [])
+separates k = member k (kind_no Comma ∷ kind_no Semi ∷ kind_no END ∷ kind_no NEXT ∷ [])
 
 -- what is looked for: a token of a kind, or with 0 any that separates actions
 unfoldable pub stops : ℕ → ℕ → Bool
@@ -29,7 +29,7 @@ halts g d k = stops g k && outermost d
 
 -- how many BEGINs are open behind a token of kind k
 unfoldable pub deeper : ℕ → ℕ → ℕ
-deeper d k = elim (eqb k (kindNo BEGIN)) [ true ↦ suc d | false ↦ elim (eqb k (kindNo END)) [ true ↦ down d | false ↦ d ] ]
+deeper d k = elim (eqb k (kind_no BEGIN)) [ true ↦ suc d | false ↦ elim (eqb k (kind_no END)) [ true ↦ down d | false ↦ d ] ]
 
 unfoldable pub scan : ℕ → ℕ → Tokens → Tokens
 scan g d [] = []

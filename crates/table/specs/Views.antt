@@ -2,10 +2,10 @@
 use Rattle.std.specs.Prelude.{ℕ, ◌+◌, ◌<◌, ◌≡◌, List, [], ◌∷◌, length, drop}
 use Rattle.std.proofs.Math.Option.{Option, none, some}
 use Rattle.rules.specs.Text.Tokens.{Name, Const, LBra, RBra, Less, Colon, MAIN, Info, Token, tk}
-use Rattle.rules.specs.Grammar.Trees.{Tokens, Action, body, meaningTokens, Given, carrier, given, words, with-bits, bare-body, MainBits, mainBitsTokens, Declaration, plain, main, declarationsTokens}
-use Rattle.rules.specs.Declarations.{these, Target, mainNames}
+use Rattle.rules.specs.Grammar.Trees.{Tokens, Action, body, meaning_tokens, Given, carrier, given, words, with_bits, bare_body, MainBits, main_bits_tokens, Declaration, plain, main, declarations_tokens}
+use Rattle.rules.specs.Declarations.{these, Target, main_names}
 use Rattle.laws_grammar.specs.Cited.Positions.{ActionAt}
-use Rattle.records.specs.Holds.{tokenAt, Holds}
+use Rattle.records.specs.Holds.{token_at, Holds}
 use Rattle.table.specs.Declarations.{DeclaredAt}
 
 -- a declaration's name is the token i of a table
@@ -18,27 +18,27 @@ pub record View (records values : List ℕ) (i : ℕ) : Type 0 where
 
 -- the tokens behind the declaration
 abbrev pub behind : {records values : List ℕ} {i : ℕ} → View records values i → Tokens
-behind v = declarationsTokens v.stands.following []
+behind v = declarations_tokens v.stands.following []
 
-abbrev pub wordsTokens : Declaration → Tokens → Tokens
-wordsTokens (plain n (words l f c t r b o)) ts = tk LBra l ∷ tk Const f ∷ tk Colon c ∷ tk Const t ∷ tk RBra r ∷ ts
-wordsTokens (plain n (with-bits l o g)) ts = ts
-wordsTokens (plain n (bare-body e b a m)) ts = ts
-wordsTokens (main k n o e b a m) ts = ts
+abbrev pub words_tokens : Declaration → Tokens → Tokens
+words_tokens (plain n (words l f c t r b o)) ts = tk LBra l ∷ tk Const f ∷ tk Colon c ∷ tk Const t ∷ tk RBra r ∷ ts
+words_tokens (plain n (with_bits l o g)) ts = ts
+words_tokens (plain n (bare_body e b a m)) ts = ts
+words_tokens (main k n o e b a m) ts = ts
 
-abbrev pub givenPart : Declaration → Given
-givenPart (plain n (words l f c t r b o)) = carrier
-givenPart (plain n (with-bits l o g)) = g
-givenPart (plain n (bare-body e b a m)) = given e (body b a m)
-givenPart (main k n o e b a m) = given e (body b a m)
+abbrev pub given_part : Declaration → Given
+given_part (plain n (words l f c t r b o)) = carrier
+given_part (plain n (with_bits l o g)) = g
+given_part (plain n (bare_body e b a m)) = given e (body b a m)
+given_part (main k n o e b a m) = given e (body b a m)
 
-abbrev pub wordsSize : Declaration → ℕ
-wordsSize d = length (wordsTokens d [])
+abbrev pub words_size_of : Declaration → ℕ
+words_size_of d = length (words_tokens d [])
 
 -- what `:=` gives stands from r on; 0 where there is none
 abbrev pub GivenAt : Tokens → ℕ → Given → Tokens → Type 0
 GivenAt ts r carrier rest = r ≡ 0
-GivenAt ts r (given e m) rest = (0 < r) × (drop r ts ≡ meaningTokens m rest)
+GivenAt ts r (given e m) rest = (0 < r) × (drop r ts ≡ meaning_tokens m rest)
 
 -- a body stands from r on; 0 where there is none
 abbrev pub BodyAt : Tokens → ℕ → Option Action → Type 0
@@ -49,13 +49,13 @@ BodyAt ts r (some a) = (0 < r) × ((j : ℕ) × ActionAt ts r a j)
 pub record TargetStands (ts : Tokens) (r : ℕ) (t : Target) : Type 0 where
   pub past : 0 < r
   pub within : r < length ts
-  pub name : tokenAt ts r ≡ tk Name t.name
+  pub name : token_at ts r ≡ tk Name t.name
   pub bits : MainBits
-  pub names : mainNames bits ≡ some (these t.bits)
+  pub names : main_names bits ≡ some (these t.bits)
   pub next : Token
   pub rest : Tokens
   pub ends : next.kind ≡ Less → ⊥
-  pub reads : drop (r + 1) ts ≡ mainBitsTokens bits (next ∷ rest)
+  pub reads : drop (r + 1) ts ≡ main_bits_tokens bits (next ∷ rest)
 
 abbrev pub TargetAt : Tokens → ℕ → Option Target → Type 0
 TargetAt ts r none = r ≡ 0
@@ -64,4 +64,4 @@ TargetAt ts r (some t) = TargetStands ts r t
 -- MAIN is the token r; 0 where there is none
 abbrev pub MainAt : Tokens → ℕ → Option Info → Type 0
 MainAt ts r none = r ≡ 0
-MainAt ts r (some k) = (0 < r) × ((r < length ts) × (tokenAt ts r ≡ tk MAIN k))
+MainAt ts r (some k) = (0 < r) × ((r < length ts) × (token_at ts r ≡ tk MAIN k))

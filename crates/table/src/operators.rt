@@ -1,12 +1,12 @@
 // Operators by their kinds: how tightly they bind.
 ghost use Rattle.std.specs.Prelude.{◌≡◌};
-ghost use Rattle.table.specs.Operators.{tightnessAt};
+ghost use Rattle.table.specs.Operators.{tightness_at};
 
 use rules::kinds::{AND, AT, EQL, EQV, GEQ, GTR, LEQ, LSS, MINUS, NEQ, OR, PLUS, XOR};
 
 // How tightly the operator of this kind binds; 0 for a kind that is no operator.
 pub fn tightness_of(kind: u8) -> u32
-    ensures { result ≡ tightnessAt kind }
+    ensures { result ≡ tightness_at kind }
 {
     match kind {
         AT => 5,

@@ -1,9 +1,9 @@
 // A declaration whose name is the token i, seen by tokens at fixed distances from it.
 ghost use Rattle.std.specs.Prelude.{◌≡◌, List, ℕ, ◌+◌};
-ghost use Rattle.rules.specs.Declarations.{declaredOf, mainNames};
-ghost use Rattle.table.specs.Bits.{BitsView, bitsSize};
-ghost use Rattle.table.specs.Views.{View, wordsSize, givenPart, behind, GivenAt, BodyAt, TargetAt, MainAt};
-ghost use Rattle.table.specs.Shown.{shownWords, shownBits, shownTarget};
+ghost use Rattle.rules.specs.Declarations.{declared_of, main_names};
+ghost use Rattle.table.specs.Bits.{BitsView, bits_size};
+ghost use Rattle.table.specs.Views.{View, words_size_of, given_part, behind, GivenAt, BodyAt, TargetAt, MainAt};
+ghost use Rattle.table.specs.Shown.{shown_words, shown_bits, shown_target};
 
 use records::fields::{kind_at, value_at};
 use rules::kinds::{BECOMES, BEGIN, COLON, GREATER, LBRA, LESS, MAIN};
@@ -19,7 +19,7 @@ pub enum Names {
 // How many tokens the bits at p take: nothing, `<>`, `<n>` or `<n:n>`.
 pub fn bits_size(records: &[u8], p: usize) -> usize
     requires { (values : List ℕ) × BitsView records.now values p }
-    ensures { (values : List ℕ) (v : BitsView records.now values p) → result ≡ bitsSize v.bits }
+    ensures { (values : List ℕ) (v : BitsView records.now values p) → result ≡ bits_size v.bits }
 {
     if kind_at(records, p) != LESS {
         return 0;
@@ -36,7 +36,7 @@ pub fn bits_size(records: &[u8], p: usize) -> usize
 // The names of the bits at p.
 pub fn names_at(records: &[u8], values: &[u8], p: usize) -> Names
     requires { BitsView records.now values.now p }
-    ensures { (v : BitsView records.now values.now p) → result ≡ shownBits (mainNames v.bits) }
+    ensures { (v : BitsView records.now values.now p) → result ≡ shown_bits (main_names v.bits) }
 {
     let size = bits_size(records, p);
     match size {
@@ -53,7 +53,7 @@ pub fn names_at(records: &[u8], values: &[u8], p: usize) -> Names
 // How many tokens the words take: nothing or `[n:n]`.
 fn words_size(records: &[u8], i: usize) -> usize
     requires { (values : List ℕ) × View records.now values i }
-    ensures { (values : List ℕ) (v : View records.now values i) → result ≡ wordsSize v.declaration }
+    ensures { (values : List ℕ) (v : View records.now values i) → result ≡ words_size_of v.declaration }
 {
     if kind_at(records, i + 1) == LBRA {
         return 5;
@@ -64,7 +64,7 @@ fn words_size(records: &[u8], i: usize) -> usize
 // The names of the words.
 pub fn words_of(records: &[u8], values: &[u8], i: usize) -> Names
     requires { View records.now values.now i }
-    ensures { (v : View records.now values.now i) → result ≡ shownWords (declaredOf v.declaration).words }
+    ensures { (v : View records.now values.now i) → result ≡ shown_words (declared_of v.declaration).words }
 {
     let size = words_size(records, i);
     if size == 0 {
@@ -76,7 +76,7 @@ pub fn words_of(records: &[u8], values: &[u8], i: usize) -> Names
 // The names of the bits of its own.
 pub fn bits_of(records: &[u8], values: &[u8], i: usize) -> Names
     requires { View records.now values.now i }
-    ensures { (v : View records.now values.now i) → result ≡ shownBits (declaredOf v.declaration).bits }
+    ensures { (v : View records.now values.now i) → result ≡ shown_bits (declared_of v.declaration).bits }
 {
     let size = words_size(records, i);
     names_at(records, values, i + 1 + size)
@@ -85,7 +85,7 @@ pub fn bits_of(records: &[u8], values: &[u8], i: usize) -> Names
 // The number of the token behind `:=`, or 0.
 fn given_at(records: &[u8], i: usize) -> usize
     requires { (values : List ℕ) × View records.now values i }
-    ensures { (values : List ℕ) (v : View records.now values i) → GivenAt v.tokens result (givenPart v.declaration) (behind v) }
+    ensures { (values : List ℕ) (v : View records.now values i) → GivenAt v.tokens result (given_part v.declaration) (behind v) }
 {
     let p = i + 1 + words_size(records, i);
     let q = p + bits_size(records, p);
@@ -98,7 +98,7 @@ fn given_at(records: &[u8], i: usize) -> usize
 // The number of the body's BEGIN, or 0.
 pub fn body_of(records: &[u8], i: usize) -> usize
     requires { (values : List ℕ) × View records.now values i }
-    ensures { (values : List ℕ) (v : View records.now values i) → BodyAt v.tokens result (declaredOf v.declaration).body }
+    ensures { (values : List ℕ) (v : View records.now values i) → BodyAt v.tokens result (declared_of v.declaration).body }
 {
     let g = given_at(records, i);
     if g == 0 {
@@ -113,7 +113,7 @@ pub fn body_of(records: &[u8], i: usize) -> usize
 // The number of the name that a mapping lies on, or 0.
 pub fn target_of(records: &[u8], i: usize) -> usize
     requires { (values : List ℕ) × View records.now values i }
-    ensures { (values : List ℕ) (v : View records.now values i) → TargetAt v.tokens result (declaredOf v.declaration).target }
+    ensures { (values : List ℕ) (v : View records.now values i) → TargetAt v.tokens result (declared_of v.declaration).target }
 {
     let g = given_at(records, i);
     if g == 0 {
@@ -128,7 +128,7 @@ pub fn target_of(records: &[u8], i: usize) -> usize
 // The names of the bits that a mapping lies on.
 pub fn target_bits(records: &[u8], values: &[u8], i: usize) -> Names
     requires { View records.now values.now i }
-    ensures { (v : View records.now values.now i) → result ≡ shownTarget (declaredOf v.declaration).target }
+    ensures { (v : View records.now values.now i) → result ≡ shown_target (declared_of v.declaration).target }
 {
     let t = target_of(records, i);
     if t == 0 {
@@ -140,7 +140,7 @@ pub fn target_bits(records: &[u8], values: &[u8], i: usize) -> Names
 // The number of the MAIN before the name, or 0.
 pub fn main_of(records: &[u8], i: usize) -> usize
     requires { (values : List ℕ) × View records.now values i }
-    ensures { (values : List ℕ) (v : View records.now values i) → MainAt v.tokens result (declaredOf v.declaration).mainly }
+    ensures { (values : List ℕ) (v : View records.now values i) → MainAt v.tokens result (declared_of v.declaration).mainly }
 {
     let before = i - 1;
     if kind_at(records, before) == MAIN {

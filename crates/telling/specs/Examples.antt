@@ -4,17 +4,17 @@
 --     10     11  15    16  20      25       29     30    31  35
 use Rattle.std.specs.Prelude.{ℕ, ◌-◌, ◌≡◌, refl, List, [], ◌∷◌, map, get_or}
 use Rattle.rules.specs.Text.Tokens.{Info}
-use Rattle.rules.specs.Text.Scan.{plainInfo}
-use Rattle.rules.specs.Grammar.Trees.{Action, block, repeat, no-op, end, also, next}
+use Rattle.rules.specs.Text.Scan.{plain_info}
+use Rattle.rules.specs.Grammar.Trees.{Action, block, repeat, no_op, end, also, next}
 use Rattle.traces.specs.Cited.Events.{opens, turns, closes}
-use Rattle.telling.specs.Cited.Passing.{Grouping, Passing, opened, turned, closed, groupEvent, times, allPairs, meet, climb, leaveDeeper, passage}
-use Rattle.telling.specs.Cited.Cells.{Cells, up_from, cellGrouping, Marked}
+use Rattle.telling.specs.Cited.Passing.{Grouping, Passing, opened, turned, closed, group_event, times, all_pairs, meet, climb, leave_deeper, passage}
+use Rattle.telling.specs.Cited.Cells.{Cells, up_from, cell_grouping, Marked}
 
 abbrev mark : Info
-mark = plainInfo 0
+mark = plain_info 0
 
 abbrev letter : Action
-letter = no-op mark mark mark
+letter = no_op mark mark mark
 
 abbrev example : Action
 example =
@@ -41,7 +41,7 @@ marked = (
 )
 
 abbrev M : Grouping
-M = cellGrouping cells
+M = cell_grouping cells
 
 abbrev way : ℕ → ℕ → List Passing
 way n k = passage M (M.around n) (M.around k)
@@ -52,18 +52,18 @@ ways = way 11 16 ∷ way 16 20 ∷ way 20 25 ∷ way 25 29 ∷ way 29 31 ∷ way
 passed :
     ways
     ≡ (turned 15 ∷ opened 16 ∷ []) ∷ (turned 20 ∷ []) ∷ (closed 20 ∷ turned 25 ∷ []) ∷ (closed 25 ∷ []) ∷ (opened 31 ∷ []) ∷ (turned 35 ∷ []) ∷ (closed 35 ∷ []) ∷ []
-unfolding up_from meet climb leaveDeeper passage
+unfolding up_from meet climb leave_deeper passage
 passed = refl
 
 -- a group of three is two nested pairs: the second begins where the first turns, and both end together
 pairs :
-    map (allPairs M) ways
+    map (all_pairs M) ways
     ≡ (turns ∷ opens ∷ opens ∷ []) ∷ (turns ∷ []) ∷ (closes ∷ turns ∷ []) ∷ (closes ∷ closes ∷ []) ∷ (opens ∷ []) ∷ (turns ∷ []) ∷ (closes ∷ []) ∷ []
-unfolding up_from meet climb leaveDeeper passage times allPairs
+unfolding up_from meet climb leave_deeper passage times all_pairs
 pairs = refl
 
 groups :
-    map (map groupEvent) ways
+    map (map group_event) ways
     ≡ (turns ∷ opens ∷ []) ∷ (turns ∷ []) ∷ (closes ∷ turns ∷ []) ∷ (closes ∷ []) ∷ (opens ∷ []) ∷ (turns ∷ []) ∷ (closes ∷ []) ∷ []
-unfolding up_from meet climb leaveDeeper passage
+unfolding up_from meet climb leave_deeper passage
 groups = refl

@@ -1,8 +1,8 @@
 -- What it is for a code to hold an action at its place among the members of groups.
 use Rattle.std.specs.Prelude.{ℕ, suc, ◌≡◌, Bool, true, false, List, [], ◌∷◌}
 use Rattle.rules.specs.Declarations.{Word}
-use Rattle.rules.specs.Steps.Actions.{Act, seq, par, label, ins, Ins, iff, decode, repeat, leave, restart, call, stop, noop, transfer, Alts, no-alts, alt}
-use Rattle.laws_orders.specs.Cited.Flat.{Link, at, exit, Entries, no-entry, entry, ifI, decodeI, goI, callI, stopI, moveI, Code, Labels, bind, leaveTo, restartTo, Jumps, ownLabel}
+use Rattle.rules.specs.Steps.Actions.{Act, seq, par, label, ins, Ins, iff, decode, repeat, leave, restart, call, stop, noop, transfer, Alts, no_alts, alt}
+use Rattle.laws_orders.specs.Cited.Flat.{Link, at, exit, Entries, no_entry, entry, if_i, decode_i, go_i, call_i, stop_i, move_i, Code, Labels, bind, leave_to, restart_to, Jumps, own_label}
 use Rattle.laws_orders.specs.Cited.Flat.{Holds, HoldsI, HoldsAlts}
 use Rattle.telling.specs.Cited.Passing.{Grouping}
 
@@ -51,23 +51,23 @@ module _ (M : Grouping) where
       HoldsIn (rest z c) ρ f k (ins i) = ⊥
 
       pub HoldsInI : List ℕ → Labels → ℕ → Link → Ins → Type 0
-      HoldsInI c ρ f k (iff e a) = (g : ℕ) × (C.instr f ≡ ifI e g k) × HoldsIn (alone c) ρ g k a
-      HoldsInI c ρ f k (decode p e bs) = (t : Entries) × (C.instr f ≡ decodeI p e t) × HoldsInAlts c ρ t k bs
-      HoldsInI c ρ f k (repeat a) = (g : ℕ) × (C.instr f ≡ goI (at g)) × HoldsIn (alone c) ρ g (at f) a
-      HoldsInI c ρ f k (leave l) = Jumps (leaveTo ρ l) (C.instr f)
-      HoldsInI c ρ f k (restart l) = Jumps (restartTo ρ l) (C.instr f)
-      HoldsInI c ρ f k (call p) = C.instr f ≡ callI p k
-      HoldsInI c ρ f k stop = C.instr f ≡ stopI
-      HoldsInI c ρ f k noop = C.instr f ≡ goI k
-      HoldsInI c ρ f k (transfer d e) = C.instr f ≡ moveI d e k
+      HoldsInI c ρ f k (iff e a) = (g : ℕ) × (C.instr f ≡ if_i e g k) × HoldsIn (alone c) ρ g k a
+      HoldsInI c ρ f k (decode p e bs) = (t : Entries) × (C.instr f ≡ decode_i p e t) × HoldsInAlts c ρ t k bs
+      HoldsInI c ρ f k (repeat a) = (g : ℕ) × (C.instr f ≡ go_i (at g)) × HoldsIn (alone c) ρ g (at f) a
+      HoldsInI c ρ f k (leave l) = Jumps (leave_to ρ l) (C.instr f)
+      HoldsInI c ρ f k (restart l) = Jumps (restart_to ρ l) (C.instr f)
+      HoldsInI c ρ f k (call p) = C.instr f ≡ call_i p k
+      HoldsInI c ρ f k stop = C.instr f ≡ stop_i
+      HoldsInI c ρ f k noop = C.instr f ≡ go_i k
+      HoldsInI c ρ f k (transfer d e) = C.instr f ≡ move_i d e k
 
       pub HoldsInAlts : List ℕ → Labels → Entries → Link → Alts → Type 0
-      HoldsInAlts c ρ t k no-alts = t ≡ no-entry
+      HoldsInAlts c ρ t k no_alts = t ≡ no_entry
       HoldsInAlts c ρ t k (alt x a bs) = (g : ℕ) × (t' : Entries) × (t ≡ entry x g t') × HoldsIn (alone c) ρ g k a × HoldsInAlts c ρ t' k bs
 
     -- no group is around a body
     abbrev pub HoldsGrouped : (Word → Act) → Type 0
-    HoldsGrouped body = (p : Word) → HoldsIn (alone []) (ownLabel C p) (C.first p) exit (body p)
+    HoldsGrouped body = (p : Word) → HoldsIn (alone []) (own_label C p) (C.first p) exit (body p)
 
     mutual
       -- such a code holds the action
@@ -83,7 +83,7 @@ module _ (M : Grouping) where
 
       pub holds_i : (i : Ins) (c : List ℕ) (ρ : Labels) (f : ℕ) (k : Link) → HoldsInI c ρ f k i → HoldsI C ρ f k i
       holds_i (iff e a) c ρ f k h = (h.0, h.1, holds a (alone c) ρ h.0 k h.2)
-      holds_i (decode p e bs) c ρ f k h = (h.0, h.1, holdsAlts bs c ρ h.0 k h.2)
+      holds_i (decode p e bs) c ρ f k h = (h.0, h.1, holds_alts bs c ρ h.0 k h.2)
       holds_i (repeat a) c ρ f k h = (h.0, h.1, holds a (alone c) ρ h.0 (at f) h.2)
       holds_i (leave l) c ρ f k h = h
       holds_i (restart l) c ρ f k h = h
@@ -92,6 +92,6 @@ module _ (M : Grouping) where
       holds_i noop c ρ f k h = h
       holds_i (transfer d e) c ρ f k h = h
 
-      holdsAlts : (bs : Alts) (c : List ℕ) (ρ : Labels) (t : Entries) (k : Link) → HoldsInAlts c ρ t k bs → HoldsAlts C ρ t k bs
-      holdsAlts no-alts c ρ t k h = h
-      holdsAlts (alt x a bs) c ρ t k h = (h.0, h.1, h.2, holds a (alone c) ρ h.0 k h.3, holdsAlts bs c ρ h.1 k h.4)
+      holds_alts : (bs : Alts) (c : List ℕ) (ρ : Labels) (t : Entries) (k : Link) → HoldsInAlts c ρ t k bs → HoldsAlts C ρ t k bs
+      holds_alts no_alts c ρ t k h = h
+      holds_alts (alt x a bs) c ρ t k h = (h.0, h.1, h.2, holds a (alone c) ρ h.0 k h.3, holds_alts bs c ρ h.1 k h.4)

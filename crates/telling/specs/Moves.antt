@@ -4,7 +4,7 @@ use Rattle.std.proofs.Math.Path.{refl, sym, ap}
 use Rattle.std.proofs.Common.{◌∙◌, ap₂, subst}
 use mathlib.Core.List.{List, [], ◌∷◌, ◌++◌, append_assoc, map}
 use Rattle.traces.specs.Cited.Events.{Event}
-use Rattle.telling.specs.Cited.Passing.{Grouping, Passing, opened, turned, closed, pairEvents, allPairs}
+use Rattle.telling.specs.Cited.Passing.{Grouping, Passing, opened, turned, closed, pair_events, all_pairs}
 use Rattle.telling.specs.Passages.{into, Lasts, Firsts}
 
 module _ (M : Grouping) where
@@ -16,52 +16,52 @@ module _ (M : Grouping) where
       (x : ℕ) × (u : List ℕ) × (w ≡ x ∷ u) × (M.last x ≡ false) × (M.before y ≡ suc (M.before x)) × Follows (y ∷ u) ps v
   Follows w (closed z ∷ ps) v = (u : List ℕ) × (w ≡ z ∷ u) × (M.last z ≡ true) × Follows u ps v
 
-  pub follows-append : (ps qs : List Passing) (w v u : List ℕ) → Follows w ps v → Follows v qs u → Follows w (ps ++ qs) u
-  follows-append [] qs w v u h k = subst (λ z. Follows z qs u) (sym h) k
-  follows-append (opened y ∷ ps) qs w v u h k = (h.0, h.1, follows-append ps qs (y ∷ w) v u h.2 k)
-  follows-append (turned y ∷ ps) qs w v u h k = (h.0, h.1, h.2, h.3, h.4, follows-append ps qs (y ∷ h.1) v u h.5 k)
-  follows-append (closed z ∷ ps) qs w v u h k = (h.0, h.1, h.2, follows-append ps qs h.0 v u h.3 k)
+  pub follows_append : (ps qs : List Passing) (w v u : List ℕ) → Follows w ps v → Follows v qs u → Follows w (ps ++ qs) u
+  follows_append [] qs w v u h k = subst (λ z. Follows z qs u) (sym h) k
+  follows_append (opened y ∷ ps) qs w v u h k = (h.0, h.1, follows_append ps qs (y ∷ w) v u h.2 k)
+  follows_append (turned y ∷ ps) qs w v u h k = (h.0, h.1, h.2, h.3, h.4, follows_append ps qs (y ∷ h.1) v u h.5 k)
+  follows_append (closed z ∷ ps) qs w v u h k = (h.0, h.1, h.2, follows_append ps qs h.0 v u h.3 k)
 
-  pub pairs-append : (ps qs : List Passing) → allPairs M (ps ++ qs) ≡ allPairs M ps ++ allPairs M qs
-  unfolding allPairs
-  pairs-append [] qs = refl
-  pairs-append (p ∷ ps) qs = ap (λ z. pairEvents M p ++ z) (pairs-append ps qs) ∙ sym (append_assoc (pairEvents M p) (allPairs M ps) (allPairs M qs))
+  pub pairs_append : (ps qs : List Passing) → all_pairs M (ps ++ qs) ≡ all_pairs M ps ++ all_pairs M qs
+  unfolding all_pairs
+  pairs_append [] qs = refl
+  pairs_append (p ∷ ps) qs = ap (λ z. pair_events M p ++ z) (pairs_append ps qs) ∙ sym (append_assoc (pair_events M p) (all_pairs M ps) (all_pairs M qs))
 
   pub record Moves (w : List ℕ) (es : List Event) (ps : List Passing) (v : List ℕ) : Type 0 where
-    pub events : es ≡ allPairs M ps
+    pub events : es ≡ all_pairs M ps
     pub follows : Follows w ps v
 
-  pub moves-none : (w : List ℕ) → Moves w [] [] w
-  unfolding allPairs
-  moves-none w = record { events = refl; follows = refl }
+  pub moves_none : (w : List ℕ) → Moves w [] [] w
+  unfolding all_pairs
+  moves_none w = record { events = refl; follows = refl }
 
-  pub moves-append :
+  pub moves_append :
       {w v u : List ℕ} {es fs : List Event} {ps qs : List Passing} → Moves w es ps v → Moves v fs qs u → Moves w (es ++ fs) (ps ++ qs) u
-  moves-append {w} {v} {u} {es} {fs} {ps} {qs} a b =
+  moves_append {w} {v} {u} {es} {fs} {ps} {qs} a b =
       record {
-        events = ap₂ ◌++◌ a.events b.events ∙ sym (pairs-append ps qs);
-        follows = follows-append ps qs w v u a.follows b.follows;
+        events = ap₂ ◌++◌ a.events b.events ∙ sym (pairs_append ps qs);
+        follows = follows_append ps qs w v u a.follows b.follows;
       }
 
-  closed-follows : (xs w : List ℕ) → Lasts M xs → Follows (xs ++ w) (map closed xs) w
-  closed-follows [] w h = refl
-  closed-follows (x ∷ xs) w h = (xs ++ w, refl, h.1, closed-follows xs w h.2)
+  closed_follows : (xs w : List ℕ) → Lasts M xs → Follows (xs ++ w) (map closed xs) w
+  closed_follows [] w h = refl
+  closed_follows (x ∷ xs) w h = (xs ++ w, refl, h.1, closed_follows xs w h.2)
 
-  opened-follows : (ys w : List ℕ) → Firsts M ys → Follows w (map opened ys) (into ys w)
+  opened_follows : (ys w : List ℕ) → Firsts M ys → Follows w (map opened ys) (into ys w)
   unfolding into
-  opened-follows [] w h = refl
-  opened-follows (y ∷ ys) w h = (h.0, h.1, opened-follows ys (y ∷ w) h.2)
+  opened_follows [] w h = refl
+  opened_follows (y ∷ ys) w h = (h.0, h.1, opened_follows ys (y ∷ w) h.2)
 
-  pub moves-closed : (xs w : List ℕ) → Lasts M xs → Moves (xs ++ w) (allPairs M (map closed xs)) (map closed xs) w
-  moves-closed xs w h = record { events = refl; follows = closed-follows xs w h }
+  pub moves_closed : (xs w : List ℕ) → Lasts M xs → Moves (xs ++ w) (all_pairs M (map closed xs)) (map closed xs) w
+  moves_closed xs w h = record { events = refl; follows = closed_follows xs w h }
 
-  pub moves-opened : (ys w : List ℕ) → Firsts M ys → Moves w (allPairs M (map opened ys)) (map opened ys) (into ys w)
-  moves-opened ys w h = record { events = refl; follows = opened-follows ys w h }
+  pub moves_opened : (ys w : List ℕ) → Firsts M ys → Moves w (all_pairs M (map opened ys)) (map opened ys) (into ys w)
+  moves_opened ys w h = record { events = refl; follows = opened_follows ys w h }
 
-  pub moves-as :
+  pub moves_as :
       {w v v' : List ℕ} {es es' : List Event} {ps ps' : List Passing} → es' ≡ es → ps' ≡ ps → v ≡ v' → Moves w es ps v → Moves w es' ps' v'
-  moves-as {w} {v} {v'} {es} {es'} {ps} {ps'} e p q a =
+  moves_as {w} {v} {v'} {es} {es'} {ps} {ps'} e p q a =
       record {
-        events = e ∙ (a.events ∙ ap (allPairs M) (sym p));
+        events = e ∙ (a.events ∙ ap (all_pairs M) (sym p));
         follows = subst (λ z. Follows w ps' z) q (subst (λ z. Follows w z v) (sym p) a.follows);
       }

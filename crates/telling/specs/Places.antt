@@ -6,68 +6,68 @@ use mathlib.Core.List.{List, [], ◌∷◌, ◌++◌}
 use Rattle.std.proofs.Math.Option.{none, some}
 use native.Mathlib.Omega.{arith}
 use Rattle.std.proofs.Math.ListN.{length-append}
-use Rattle.rules.specs.Text.Scan.{sameBytes}
+use Rattle.rules.specs.Text.Scan.{same_bytes}
 use Rattle.rules.specs.Declarations.{Word, Table}
 use Rattle.rules.specs.Limits.{deepest}
-use Rattle.rules.specs.Steps.Control.{Live, one, seqL, both, left, right, labL, loopL, callL, start, leftmost, Sig, ends, goes, leaves, restarts, stops, faults, next}
-use Rattle.rules.specs.Steps.Runs.{bodyAct}
-use Rattle.rules.specs.Whole.Sets.{chainOver}
+use Rattle.rules.specs.Steps.Control.{Live, one, seq_l, both, left, right, lab_l, loop_l, call_l, start, leftmost, Sig, ends, goes, leaves, restarts, stops, faults, next}
+use Rattle.rules.specs.Steps.Runs.{body_act}
+use Rattle.rules.specs.Whole.Sets.{chain_over}
 use Rattle.laws_orders.specs.Orders.Tests.{impossible}
 use Rattle.laws_orders.specs.Orders.Foot.{Prints}
-use Rattle.laws_orders.specs.Orders.Ok.{OkL, OkS, in_body, BodiesOk, start-ok, next-ok}
-use Rattle.laws_orders.specs.Orders.Depth.{Chained, ChainedS, call-chained, next-chained}
-use Rattle.laws_orders.specs.Cited.Flat.{Link, at, exit, Code, pc, Labels, bind, leaveTo, restartTo, ownLabel}
+use Rattle.laws_orders.specs.Orders.Ok.{OkL, OkS, in_body, BodiesOk, start_ok, next_ok}
+use Rattle.laws_orders.specs.Orders.Depth.{Chained, ChainedS, call_chained, next_chained}
+use Rattle.laws_orders.specs.Cited.Flat.{Link, at, exit, Code, pc, Labels, bind, leave_to, restart_to, own_label}
 use Rattle.traces.specs.Cited.Events.{Event}
-use Rattle.traces.specs.Telling.{stepEvents}
+use Rattle.traces.specs.Telling.{step_events}
 use Rattle.telling.specs.Cited.Passing.{Grouping, passage}
-use Rattle.telling.specs.Cited.Tracing.{Told, return, nextT}
+use Rattle.telling.specs.Cited.Tracing.{Told, return, next_t}
 use Rattle.telling.specs.Holding.{Spot, alone, rest, base, onward, HoldsGrouped}
 use Rattle.telling.specs.Moves.{Follows}
-use Rattle.telling.specs.Standing.{whole, Activations, Stands, Says, Jumping, start-stands, next-says, ends-over, body-moves}
+use Rattle.telling.specs.Standing.{whole, Activations, Stands, Says, Jumping, start_stands, next_says, ends_over, body_moves}
 
 module _ (ds : Table) (C : Code) (M : Grouping) where
   -- an activation for each body of the chain, but the outermost
-  stack-few :
+  stack_few :
       (c : ℕ) (r : Live) (s : Spot) (ρ : Labels) (k : Link) (τ : List ℕ) (n : ℕ) (κ : List ℕ) → Chained ds c r → Stands C M s ρ k τ r n κ
       → length κ ≤ length τ + c
-  stack-few c (one i) (alone b) ρ k τ n κ h q = omega (arith, ap length q.0)
-  stack-few c (one i) (rest z b) ρ k τ n κ h q = absurd q
-  stack-few c (seqL r a) (alone b) ρ k τ n κ h q = stack-few c r (alone b) ρ (at q.0) τ n κ h.0 q.1
-  stack-few c (seqL r a) (rest z b) ρ k τ n κ h q = absurd q
-  stack-few c (both r t) s ρ k τ n κ h q = stack-few c r (alone (q.2 ∷ base s)) ρ (at q.0) τ n κ h.0 q.5
-  stack-few c (left r) s ρ k τ n κ h q = absurd h
-  stack-few c (right r) s ρ k τ n κ h q = stack-few c r (onward (M.last q.1) q.1 (base s)) ρ k τ n κ h q.3
-  stack-few c (labL l a r) (alone b) ρ k τ n κ h q = stack-few c r (alone b) (bind l q.0 k ρ) k τ n κ h.1 q.2
-  stack-few c (labL l a r) (rest z b) ρ k τ n κ h q = absurd q
-  stack-few c (loopL a r) (alone b) ρ k τ n κ h q = stack-few c r (alone b) ρ (at q.0) τ n κ h.1 q.3
-  stack-few c (loopL a r) (rest z b) ρ k τ n κ h q = absurd q
-  stack-few zero (callL p r) (alone b) ρ k τ n κ h q = absurd h
-  stack-few (suc c) (callL p r) (alone b) ρ k τ n κ h q =
-      omega (arith, stack-few c r (alone []) (ownLabel C p) exit q.0 n κ h.1 q.2, q.1.deeper)
-  stack-few (suc c) (callL p r) (rest z b) ρ k τ n κ h q = absurd q
-  stack-few zero (callL p r) (rest z b) ρ k τ n κ h q = absurd q
+  stack_few c (one i) (alone b) ρ k τ n κ h q = omega (arith, ap length q.0)
+  stack_few c (one i) (rest z b) ρ k τ n κ h q = absurd q
+  stack_few c (seq_l r a) (alone b) ρ k τ n κ h q = stack_few c r (alone b) ρ (at q.0) τ n κ h.0 q.1
+  stack_few c (seq_l r a) (rest z b) ρ k τ n κ h q = absurd q
+  stack_few c (both r t) s ρ k τ n κ h q = stack_few c r (alone (q.2 ∷ base s)) ρ (at q.0) τ n κ h.0 q.5
+  stack_few c (left r) s ρ k τ n κ h q = absurd h
+  stack_few c (right r) s ρ k τ n κ h q = stack_few c r (onward (M.last q.1) q.1 (base s)) ρ k τ n κ h q.3
+  stack_few c (lab_l l a r) (alone b) ρ k τ n κ h q = stack_few c r (alone b) (bind l q.0 k ρ) k τ n κ h.1 q.2
+  stack_few c (lab_l l a r) (rest z b) ρ k τ n κ h q = absurd q
+  stack_few c (loop_l a r) (alone b) ρ k τ n κ h q = stack_few c r (alone b) ρ (at q.0) τ n κ h.1 q.3
+  stack_few c (loop_l a r) (rest z b) ρ k τ n κ h q = absurd q
+  stack_few zero (call_l p r) (alone b) ρ k τ n κ h q = absurd h
+  stack_few (suc c) (call_l p r) (alone b) ρ k τ n κ h q =
+      omega (arith, stack_few c r (alone []) (own_label C p) exit q.0 n κ h.1 q.2, q.1.deeper)
+  stack_few (suc c) (call_l p r) (rest z b) ρ k τ n κ h q = absurd q
+  stack_few zero (call_l p r) (rest z b) ρ k τ n κ h q = absurd q
 
   -- each by its instruction
-  stack-active :
+  stack_active :
       (r : Live) (s : Spot) (ρ : Labels) (k : Link) (τ : List ℕ) (n : ℕ) (κ : List ℕ) → Activations C M τ → Stands C M s ρ k τ r n κ → Activations C M κ
-  stack-active (one i) (alone b) ρ k τ n κ h q = subst (Activations C M) (sym q.0) h
-  stack-active (one i) (rest z b) ρ k τ n κ h q = absurd q
-  stack-active (seqL r a) (alone b) ρ k τ n κ h q = stack-active r (alone b) ρ (at q.0) τ n κ h q.1
-  stack-active (seqL r a) (rest z b) ρ k τ n κ h q = absurd q
-  stack-active (both r t) s ρ k τ n κ h q = stack-active r (alone (q.2 ∷ base s)) ρ (at q.0) τ n κ h q.5
-  stack-active (left r) s ρ k τ n κ h q = absurd q
-  stack-active (right r) s ρ k τ n κ h q = stack-active r (onward (M.last q.1) q.1 (base s)) ρ k τ n κ h q.3
-  stack-active (labL l a r) (alone b) ρ k τ n κ h q = stack-active r (alone b) (bind l q.0 k ρ) k τ n κ h q.2
-  stack-active (labL l a r) (rest z b) ρ k τ n κ h q = absurd q
-  stack-active (loopL a r) (alone b) ρ k τ n κ h q = stack-active r (alone b) ρ (at q.0) τ n κ h q.3
-  stack-active (loopL a r) (rest z b) ρ k τ n κ h q = absurd q
-  stack-active (callL p r) (alone b) ρ k τ n κ h q = stack-active r (alone []) (ownLabel C p) exit q.0 n κ (q.1.active h) q.2
-  stack-active (callL p r) (rest z b) ρ k τ n κ h q = absurd q
+  stack_active (one i) (alone b) ρ k τ n κ h q = subst (Activations C M) (sym q.0) h
+  stack_active (one i) (rest z b) ρ k τ n κ h q = absurd q
+  stack_active (seq_l r a) (alone b) ρ k τ n κ h q = stack_active r (alone b) ρ (at q.0) τ n κ h q.1
+  stack_active (seq_l r a) (rest z b) ρ k τ n κ h q = absurd q
+  stack_active (both r t) s ρ k τ n κ h q = stack_active r (alone (q.2 ∷ base s)) ρ (at q.0) τ n κ h q.5
+  stack_active (left r) s ρ k τ n κ h q = absurd q
+  stack_active (right r) s ρ k τ n κ h q = stack_active r (onward (M.last q.1) q.1 (base s)) ρ k τ n κ h q.3
+  stack_active (lab_l l a r) (alone b) ρ k τ n κ h q = stack_active r (alone b) (bind l q.0 k ρ) k τ n κ h q.2
+  stack_active (lab_l l a r) (rest z b) ρ k τ n κ h q = absurd q
+  stack_active (loop_l a r) (alone b) ρ k τ n κ h q = stack_active r (alone b) ρ (at q.0) τ n κ h q.3
+  stack_active (loop_l a r) (rest z b) ρ k τ n κ h q = absurd q
+  stack_active (call_l p r) (alone b) ρ k τ n κ h q = stack_active r (alone []) (own_label C p) exit q.0 n κ (q.1.active h) q.2
+  stack_active (call_l p r) (rest z b) ρ k τ n κ h q = absurd q
 
-  whole-few : (κ : List ℕ) → ((n : ℕ) → length (M.around n) ≤ deepest) → length (whole C M κ) ≤ deepest * length κ
+  whole_few : (κ : List ℕ) → ((n : ℕ) → length (M.around n) ≤ deepest) → length (whole C M κ) ≤ deepest * length κ
   unfolding whole
-  whole-few [] h = omega arith
-  whole-few (m ∷ κ) h = omega (arith, length-append (M.around m) (whole C M κ), h m, whole-few κ h)
+  whole_few [] h = omega arith
+  whole_few (m ∷ κ) h = omega (arith, length-append (M.around m) (whole C M κ), h m, whole_few κ h)
 
   module _ (P : Prints) (c : ℕ) (p : Word) where
     -- something of a run of the body of p from left to right is left there, in which activations go at most c deep
@@ -75,51 +75,51 @@ module _ (ds : Table) (C : Code) (M : Grouping) where
       left : Live
       sound : OkL P (in_body P p) left
       chained : Chained ds c left
-      stands : Stands C M (alone []) (ownLabel C p) exit [] left n κ
+      stands : Stands C M (alone []) (own_label C p) exit [] left n κ
 
     -- so few activations go on
-    pub place-stack : {n : ℕ} {κ : List ℕ} → TracePlace n κ → length κ ≤ c
-    place-stack {n} {κ} h = omega (arith, stack-few c h.left (alone []) (ownLabel C p) exit [] n κ h.chained h.stands)
+    pub place_stack : {n : ℕ} {κ : List ℕ} → TracePlace n κ → length κ ≤ c
+    place_stack {n} {κ} h = omega (arith, stack_few c h.left (alone []) (own_label C p) exit [] n κ h.chained h.stands)
 
-    pub place-active : {n : ℕ} {κ : List ℕ} → TracePlace n κ → Activations C M κ
-    place-active {n} {κ} h = stack-active h.left (alone []) (ownLabel C p) exit [] n κ tt h.stands
+    pub place_active : {n : ℕ} {κ : List ℕ} → TracePlace n κ → Activations C M κ
+    place_active {n} {κ} h = stack_active h.left (alone []) (own_label C p) exit [] n κ tt h.stands
 
     -- and so few groups are open
-    pub place-groups :
+    pub place_groups :
         ((n : ℕ) → length (M.around n) ≤ deepest) → {n : ℕ} {κ : List ℕ} → TracePlace n κ → length (M.around n ++ whole C M κ) ≤ deepest * suc c
-    place-groups few {n} {κ} h = omega (arith, length-append (M.around n) (whole C M κ), few n, whole-few κ few, place-stack h)
+    place_groups few {n} {κ} h = omega (arith, length-append (M.around n) (whole C M κ), few n, whole_few κ few, place_stack h)
 
-    module _ (ok : BodiesOk P (bodyAct ds)) (bodies : HoldsGrouped M C (bodyAct ds)) (far : chainOver ds (suc c) p ≡ false) where
-      pub place-first : TracePlace (C.first p) []
-      place-first =
+    module _ (ok : BodiesOk P (body_act ds)) (bodies : HoldsGrouped M C (body_act ds)) (far : chain_over ds (suc c) p ≡ false) where
+      pub place_first : TracePlace (C.first p) []
+      place_first =
           record {
-            left = start (bodyAct ds p);
-            sound = start-ok P (in_body P p) (bodyAct ds p) (ok p);
-            chained = (call-chained ds (suc c) p far).1;
-            stands = start-stands C M (bodyAct ds p) (alone []) (ownLabel C p) (C.first p) exit [] (bodies p);
+            left = start (body_act ds p);
+            sound = start_ok P (in_body P p) (body_act ds p) (ok p);
+            chained = (call_chained ds (suc c) p far).1;
+            stands = start_stands C M (body_act ds p) (alone []) (own_label C p) (C.first p) exit [] (bodies p);
           }
 
-      pub place-next :
+      pub place_next :
           {n : ℕ} {κ : List ℕ} → TracePlace n κ → (v n' : ℕ) (κ' : List ℕ)
-          → (nextT C M n (C.instr n) κ v).control ≡ pc n' κ' → TracePlace n' κ'
-      unfolding return leaveTo restartTo
-      place-next {n} {κ} h v n' κ' e =
-          by (next (bodyAct ds) h.left (leftmost h.left) v) (nextT C M n (C.instr n) κ v) e (next-ok P (bodyAct ds) ok (in_body P p) h.left (leftmost h.left) v h.sound)
-          (next-chained ds c h.left v h.chained)
-          (next-says C M (bodyAct ds) bodies P ok h.left (in_body P p) (alone []) (ownLabel C p) exit [] n κ h.sound h.stands v)
+          → (next_t C M n (C.instr n) κ v).control ≡ pc n' κ' → TracePlace n' κ'
+      unfolding return leave_to restart_to
+      place_next {n} {κ} h v n' κ' e =
+          by (next (body_act ds) h.left (leftmost h.left) v) (next_t C M n (C.instr n) κ v) e (next_ok P (body_act ds) ok (in_body P p) h.left (leftmost h.left) v h.sound)
+          (next_chained ds c h.left v h.chained)
+          (next_says C M (body_act ds) bodies P ok h.left (in_body P p) (alone []) (own_label C p) exit [] n κ h.sound h.stands v)
         where
           w : List ℕ
           w = M.around n ++ whole C M κ
 
           es : List Event
-          es = stepEvents (bodyAct ds) h.left v
+          es = step_events (body_act ds) h.left v
 
           again : (b : Bool) (m : Told) → m.control ≡ pc n' κ' → Jumping C M (cond b (some (at (C.first p))) none) (alone []) [] w es m → TracePlace n' κ'
           again true m i q =
               let d = q.jumped in
               let x : C.first p ≡ n' = cc in
               let y : ◌≡◌ {A = List ℕ} [] κ' = cc in
-              subst₂ TracePlace x y place-first
+              subst₂ TracePlace x y place_first
           again false m i q = absurd q.jumped
 
           gone : (b : Bool) (m : Told) → m.control ≡ pc n' κ' → Jumping C M (cond b (some exit) none) (alone []) [] w es m → TracePlace n' κ'
@@ -127,38 +127,38 @@ module _ (ds : Table) (C : Code) (M : Grouping) where
           gone false m i q = absurd q.jumped
 
           by :
-              (x : Sig) (m : Told) → m.control ≡ pc n' κ' → OkS P (in_body P p) x → ChainedS ds c x → Says C M (alone []) (ownLabel C p) exit [] w es x m
+              (x : Sig) (m : Told) → m.control ≡ pc n' κ' → OkS P (in_body P p) x → ChainedS ds c x → Says C M (alone []) (own_label C p) exit [] w es x m
               → TracePlace n' κ'
-          by ends m i o k q = let d = (ends-over C M q).0 in impossible (cc)
+          by ends m i o k q = let d = (ends_over C M q).0 in impossible (cc)
           by (goes r) m i o k q =
               let d = q.control in
               let x : q.n ≡ n' = cc in
               let y : q.κ ≡ κ' = cc in
-              record { left = r; sound = o; chained = k; stands = subst₂ (λ x y. Stands C M (alone []) (ownLabel C p) exit [] r x y) x y q.stands }
-          by (leaves l) m i o k q = gone (sameBytes l p) m i q
-          by (restarts l) m i o k q = again (sameBytes l p) m i q
+              record { left = r; sound = o; chained = k; stands = subst₂ (λ x y. Stands C M (alone []) (own_label C p) exit [] r x y) x y q.stands }
+          by (leaves l) m i o k q = gone (same_bytes l p) m i q
+          by (restarts l) m i o k q = again (same_bytes l p) m i q
           by stops m i o k q = let d = ap (λ (z : Told). z.control) q.0 in impossible (cc)
           by (faults x y) m i o k q = let d = ap (λ (z : Told). z.control) q.0 in impossible (cc)
 
       -- the groups that open where the body begins
-      pub first-moves : Follows M [] (passage M [] (M.around (C.first p))) (M.around (C.first p) ++ whole C M [])
+      pub first_moves : Follows M [] (passage M [] (M.around (C.first p))) (M.around (C.first p) ++ whole C M [])
       unfolding whole
-      first-moves = (body-moves C M (bodyAct ds) bodies p []).follows
+      first_moves = (body_moves C M (body_act ds) bodies p []).follows
 
       -- what a step passes leads to the groups that are open where it has come to
-      pub place-moves :
-          {n : ℕ} {κ : List ℕ} → TracePlace n κ → (v n' : ℕ) (κ' : List ℕ) → (nextT C M n (C.instr n) κ v).control ≡ pc n' κ'
-          → Follows M (M.around n ++ whole C M κ) (nextT C M n (C.instr n) κ v).passed (M.around n' ++ whole C M κ')
-      unfolding return leaveTo restartTo whole
-      place-moves {n} {κ} h v n' κ' e =
-          by (next (bodyAct ds) h.left (leftmost h.left) v) (nextT C M n (C.instr n) κ v) e
-          (next-says C M (bodyAct ds) bodies P ok h.left (in_body P p) (alone []) (ownLabel C p) exit [] n κ h.sound h.stands v)
+      pub place_moves :
+          {n : ℕ} {κ : List ℕ} → TracePlace n κ → (v n' : ℕ) (κ' : List ℕ) → (next_t C M n (C.instr n) κ v).control ≡ pc n' κ'
+          → Follows M (M.around n ++ whole C M κ) (next_t C M n (C.instr n) κ v).passed (M.around n' ++ whole C M κ')
+      unfolding return leave_to restart_to whole
+      place_moves {n} {κ} h v n' κ' e =
+          by (next (body_act ds) h.left (leftmost h.left) v) (next_t C M n (C.instr n) κ v) e
+          (next_says C M (body_act ds) bodies P ok h.left (in_body P p) (alone []) (own_label C p) exit [] n κ h.sound h.stands v)
         where
           w : List ℕ
           w = M.around n ++ whole C M κ
 
           es : List Event
-          es = stepEvents (bodyAct ds) h.left v
+          es = step_events (body_act ds) h.left v
 
           Arrives : Told → Type 0
           Arrives m = Follows M w m.passed (M.around n' ++ whole C M κ')
@@ -170,21 +170,21 @@ module _ (ds : Table) (C : Code) (M : Grouping) where
               let y : ◌≡◌ {A = List ℕ} [] κ' = cc in
               subst (λ (z : Told). Follows M w z.passed (M.around n' ++ whole C M κ')) (sym d)
               (subst₂ (λ x y. Follows M w (passage M [] (M.around (C.first p))) (M.around x ++ whole C M y)) x y
-              (subst (λ z. Follows M z (passage M [] (M.around (C.first p))) (M.around (C.first p) ++ [])) (sym q.same) (body-moves C M (bodyAct ds) bodies p []).follows))
+              (subst (λ z. Follows M z (passage M [] (M.around (C.first p))) (M.around (C.first p) ++ [])) (sym q.same) (body_moves C M (body_act ds) bodies p []).follows))
           again false m i q = absurd q.jumped
 
           gone : (b : Bool) (m : Told) → m.control ≡ pc n' κ' → Jumping C M (cond b (some exit) none) (alone []) [] w es m → Arrives m
           gone true m i q = let d = q.jumped in impossible (cc)
           gone false m i q = absurd q.jumped
 
-          by : (x : Sig) (m : Told) → m.control ≡ pc n' κ' → Says C M (alone []) (ownLabel C p) exit [] w es x m → Arrives m
-          by ends m i q = let d = (ends-over C M q).0 in impossible (cc)
+          by : (x : Sig) (m : Told) → m.control ≡ pc n' κ' → Says C M (alone []) (own_label C p) exit [] w es x m → Arrives m
+          by ends m i q = let d = (ends_over C M q).0 in impossible (cc)
           by (goes r) m i q =
               let d = q.control in
               let x : q.n ≡ n' = cc in
               let y : q.κ ≡ κ' = cc in
               subst₂ (λ x y. Follows M w m.passed (M.around x ++ whole C M y)) x y q.moves.follows
-          by (leaves l) m i q = gone (sameBytes l p) m i q
-          by (restarts l) m i q = again (sameBytes l p) m i q
+          by (leaves l) m i q = gone (same_bytes l p) m i q
+          by (restarts l) m i q = again (same_bytes l p) m i q
           by stops m i q = let d = ap (λ (z : Told). z.control) q.0 in impossible (cc)
           by (faults x y) m i q = let d = ap (λ (z : Told). z.control) q.0 in impossible (cc)

@@ -2,10 +2,10 @@
 mod bytes;
 
 ghost use Rattle.std.specs.Prelude.{◌≡◌, ◌+◌, ◌*◌, ◌≤◌, length};
-ghost use Rattle.cells.specs.Cells.{putCell};
+ghost use Rattle.cells.specs.Cells.{put_cell};
 ghost use Rattle.rules.specs.Text.Scan.{scan as scanText};
-ghost use Rattle.rules.specs.Limits.{longestText};
-ghost use Rattle.text.specs.Table.{valueBy, pack, recordCells, valueCells, writeCells, scannedOf};
+ghost use Rattle.rules.specs.Limits.{longest_text};
+ghost use Rattle.text.specs.Table.{value_by, pack, record_cells, value_cells, write_cells, scanned_of};
 
 use crate::bytes::CLASSES;
 use cells::put64;
@@ -22,7 +22,7 @@ pub enum Scanned {
 
 // What the values have for a token: a constant's value, and for any other kind the free bits of the token before.
 fn value_cell(kind: u8, value: u64, before: u64) -> u64
-    ensures { result ≡ valueBy kind value before }
+    ensures { result ≡ value_by kind value before }
 {
     if kind == CONST {
         return value;
@@ -35,7 +35,7 @@ fn value_cell(kind: u8, value: u64, before: u64) -> u64
 
 // A token's record in one cell.
 fn packed(kind: u8, size: u8, at: usize) -> u64
-    requires { at ≤ longestText }
+    requires { at ≤ longest_text }
     ensures { result ≡ pack kind size at }
 {
     kind as u64 + 256 * size as u64 + 65536 * at as u64
@@ -44,8 +44,8 @@ fn packed(kind: u8, size: u8, at: usize) -> u64
 // The cell i of both buffers.
 fn put_token(records: &mut [u8], values: &mut [u8], i: usize, record: u64, value: u64)
     requires { (8 * i + 8 ≤ length records.old) × (8 * i + 8 ≤ length values.old) }
-    ensures records_after { records.new ≡ putCell 8 records.old i «record» }
-    ensures values_after { values.new ≡ putCell 8 values.old i value }
+    ensures records_after { records.new ≡ put_cell 8 records.old i «record» }
+    ensures values_after { values.new ≡ put_cell 8 values.old i value }
 {
     put64(records, i, record);
     put64(values, i, value);
@@ -53,10 +53,10 @@ fn put_token(records: &mut [u8], values: &mut [u8], i: usize, record: u64, value
 
 // Reads a text once, from left to right, and writes a cell of `records` and of `values` for each token.
 pub fn scan(text: &[u8], records: &mut [u8], values: &mut [u8]) -> Scanned
-    requires { (length text.now ≤ longestText) × ((65536 ≤ length records.old) × (65536 ≤ length values.old)) }
-    ensures value { result ≡ scannedOf (scanText text.now) }
-    ensures records_after { records.new ≡ writeCells 8 records.old 0 (recordCells (scanText text.now).tokens) }
-    ensures values_after { values.new ≡ writeCells 8 values.old 0 (valueCells 0 (scanText text.now).tokens) }
+    requires { (length text.now ≤ longest_text) × ((65536 ≤ length records.old) × (65536 ≤ length values.old)) }
+    ensures value { result ≡ scanned_of (scanText text.now) }
+    ensures records_after { records.new ≡ write_cells 8 records.old 0 (record_cells (scanText text.now).tokens) }
+    ensures values_after { values.new ≡ write_cells 8 values.old 0 (value_cells 0 (scanText text.now).tokens) }
 {
     let classes = CLASSES;
     let mut at: usize = 0;

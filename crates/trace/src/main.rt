@@ -3,7 +3,7 @@ mod naming;
 mod saying;
 
 ghost use Rattle.std.specs.Prelude.{◌≤◌, length};
-ghost use Rattle.rules.specs.Limits.{longestText};
+ghost use Rattle.rules.specs.Limits.{longest_text};
 
 use crate::saying::{Saying, say, say_answer};
 use asking::{carrier_bytes, check};
@@ -58,7 +58,7 @@ fn compare_judged(
     c: &mut [u8],
     d: &mut [u8],
 )
-    requires { (length text.now ≤ longestText) × (size ≤ 32768) }
+    requires { (length text.now ≤ longest_text) × (size ≤ 32768) }
 {
     let carriers = [0u8; 32768];
     let answer = compared(entries, text, &carriers, size, a, b, c, d);
@@ -67,7 +67,7 @@ fn compare_judged(
 
 // Judges the text for the number of its words, and compares.
 fn compare(entries: &[u8], text: &[u8], a: &mut [u8], b: &mut [u8], c: &mut [u8], d: &mut [u8])
-    requires { length text.now ≤ longestText }
+    requires { length text.now ≤ longest_text }
 {
     let judged = check(text, a, b, c);
     let size = carrier_bytes(judged.words);
@@ -75,7 +75,7 @@ fn compare(entries: &[u8], text: &[u8], a: &mut [u8], b: &mut [u8], c: &mut [u8]
 }
 
 fn with_memory(entries: &[u8], text: &[u8])
-    requires { length text.now ≤ longestText }
+    requires { length text.now ≤ longest_text }
 {
     let mut a = io::large_buffer();
     let mut b = io::large_buffer();

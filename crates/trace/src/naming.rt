@@ -1,6 +1,6 @@
 // The word that an entry names, with the value that the entry gives it, as the listing of all words has it.
 ghost use Rattle.std.specs.Prelude.{◌+◌, ◌*◌, ◌<◌, ◌≤◌, length};
-ghost use Rattle.rules.specs.Limits.{longestText};
+ghost use Rattle.rules.specs.Limits.{longest_text};
 
 use cells::put64;
 use showing::put_words;
@@ -58,7 +58,7 @@ pub fn put_named(
     b: &mut [u8],
     c: &mut [u8],
 ) -> usize
-    requires text_len_bound { (length text.now ≤ longestText) × ((65536 ≤ length a.old) × ((65536 ≤ length b.old) × (65536 ≤ length c.old))) }
+    requires text_len_bound { (length text.now ≤ longest_text) × ((65536 ≤ length a.old) × ((65536 ≤ length b.old) × (65536 ≤ length c.old))) }
     requires in_bounds { (524544 ≤ length out.old) × ((32768 ≤ length carriers.old) × (8 * word + 8 ≤ length carriers.old)) }
     ensures { result ≤ length out.new }
 {

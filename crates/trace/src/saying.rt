@@ -1,6 +1,6 @@
 // What the program writes.
 ghost use Rattle.std.specs.Prelude.{◌+◌, ◌*◌, ◌≤◌, length};
-ghost use Rattle.rules.specs.Limits.{longestText};
+ghost use Rattle.rules.specs.Limits.{longest_text};
 
 use crate::naming::{end_of_line, put_named, start_of_line};
 use libc::STDOUT_FILENO;
@@ -74,7 +74,7 @@ fn say_word(
     b: &mut [u8],
     c: &mut [u8],
 )
-    requires text_len_bound { (length text.now ≤ longestText) × ((65536 ≤ length a.old) × ((65536 ≤ length b.old) × (65536 ≤ length c.old))) }
+    requires text_len_bound { (length text.now ≤ longest_text) × ((65536 ≤ length a.old) × ((65536 ≤ length b.old) × (65536 ≤ length c.old))) }
     requires in_bounds { (32768 ≤ length carriers.old) × (8 * word + 8 ≤ length carriers.old) }
 {
     let mut out = page();
@@ -84,7 +84,7 @@ fn say_word(
 
 // The same, with memory of its own.
 fn say_named(text: &[u8], word: usize, value: u64)
-    requires { (length text.now ≤ longestText) × (8 * word + 8 ≤ 32768) }
+    requires { (length text.now ≤ longest_text) × (8 * word + 8 ≤ 32768) }
 {
     let mut carriers = [0u8; 32768];
     let mut a = io::large_buffer();
@@ -95,7 +95,7 @@ fn say_named(text: &[u8], word: usize, value: u64)
 
 // The entry n, which cannot be, of a description whose carriers have so many bytes.
 fn say_entry(e: Entry, n: u64, text: &[u8], size: usize)
-    requires { (length text.now ≤ longestText) × (size ≤ 32768) }
+    requires { (length text.now ≤ longest_text) × (size ≤ 32768) }
 {
     let place = e.place as usize;
     let word = e.word as usize;
@@ -117,7 +117,7 @@ fn say_entry(e: Entry, n: u64, text: &[u8], size: usize)
 
 // Why a list is not so: by the number of an entry, or of all.
 fn say_no(number: usize, entries: &[u8], text: &[u8], size: usize)
-    requires { (length text.now ≤ longestText) × (size ≤ 32768) }
+    requires { (length text.now ≤ longest_text) × (size ≤ 32768) }
 {
     if count(entries) <= number {
         say(Saying::Short(number as u64));
@@ -129,7 +129,7 @@ fn say_no(number: usize, entries: &[u8], text: &[u8], size: usize)
 
 // What is said of an answer: the fourth and fifth number of it are whether the list is so, and the first entry that cannot be.
 pub fn say_answer(answer: Answer, entries: &[u8], text: &[u8], size: usize)
-    requires { (length text.now ≤ longestText) × (size ≤ 32768) }
+    requires { (length text.now ≤ longest_text) × (size ≤ 32768) }
 {
     if answer.ending == REFUSED {
         say(Saying::Refusal(answer));

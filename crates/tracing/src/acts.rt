@@ -1,9 +1,9 @@
 // The step of one instruction, whose stores are told.
 ghost use Rattle.std.specs.Prelude.{◌≡◌, List, ℕ, ◌+◌, ◌*◌, ◌≤◌, length};
-ghost use Rattle.rules.specs.Text.Tokens.{Name, LPar, kindNo};
-ghost use Rattle.rules.specs.Limits.{mostWords};
-ghost use Rattle.rules.specs.Entries.{entriesIn};
-ghost use Rattle.records.specs.Holds.{kindByte};
+ghost use Rattle.rules.specs.Text.Tokens.{Name, LPar, kind_no};
+ghost use Rattle.rules.specs.Limits.{most_words};
+ghost use Rattle.rules.specs.Entries.{entries_in};
+ghost use Rattle.records.specs.Holds.{kind_byte};
 ghost use Rattle.stepping.specs.Steps.{StepAt};
 ghost use Rattle.matching.specs.Room.{Sound};
 ghost use Rattle.tracing.specs.Acts.{ActTold};
@@ -24,11 +24,11 @@ fn transfer_act(
     entries: &[u8],
     n: usize,
 ) -> Moved
-    requires { ((decls : List ℕ) × (StepAt records.now values.now decls carriers.old n × ((kindByte records.now n ≡ kindNo Name) × (kindByte records.now (n + 1) ≡ kindNo LPar → ⊥))))
-        × ((512 ≤ length scratch.old) × ((length carriers.old ≤ 8 * mostWords) × Sound (entriesIn entries.now) room.old)) }
+    requires { ((decls : List ℕ) × (StepAt records.now values.now decls carriers.old n × ((kind_byte records.now n ≡ kind_no Name) × (kind_byte records.now (n + 1) ≡ kind_no LPar → ⊥))))
+        × ((512 ≤ length scratch.old) × ((length carriers.old ≤ 8 * most_words) × Sound (entries_in entries.now) room.old)) }
     ensures { (decls : List ℕ) (v : StepAt records.now values.now decls carriers.old n)
-        → kindByte records.now n ≡ kindNo Name → (kindByte records.now (n + 1) ≡ kindNo LPar → ⊥)
-        → ActTold v carriers.new (entriesIn entries.now) room.old room.new result }
+        → kind_byte records.now n ≡ kind_no Name → (kind_byte records.now (n + 1) ≡ kind_no LPar → ⊥)
+        → ActTold v carriers.new (entries_in entries.now) room.old room.new result }
 {
     let next = link_at(records, n);
     let made = transfer(records, values, carriers, scratch, room, entries, n);
@@ -50,9 +50,9 @@ pub fn act(
     n: usize,
 ) -> Moved
     requires { StepAt records.now values.now decls.now carriers.old n
-        × ((512 ≤ length scratch.old) × ((length carriers.old ≤ 8 * mostWords) × Sound (entriesIn entries.now) room.old)) }
+        × ((512 ≤ length scratch.old) × ((length carriers.old ≤ 8 * most_words) × Sound (entries_in entries.now) room.old)) }
     ensures { (v : StepAt records.now values.now decls.now carriers.old n)
-        → ActTold v carriers.new (entriesIn entries.now) room.old room.new result }
+        → ActTold v carriers.new (entries_in entries.now) room.old room.new result }
 {
     if kind_at(records, n) != NAME {
         return step(records, values, decls, carriers, scratch, n);

@@ -1,7 +1,7 @@
 // The run from left to right, with a budget of steps, that tells the matching.
 ghost use Rattle.std.specs.Prelude.{◌≡◌, ◌<◌};
-ghost use Rattle.rules.specs.Limits.{mostSteps};
-ghost use Rattle.tracing.specs.Traces.{endedBy, TraceAt, TraceTold};
+ghost use Rattle.rules.specs.Limits.{most_steps};
+ghost use Rattle.tracing.specs.Traces.{ended_by, TraceAt, TraceTold};
 
 use crate::turns::turn;
 use passing::enter;
@@ -17,8 +17,8 @@ const SCRATCH: usize = 512;
 
 // How a run stands behind so many steps and one that leads there: at an instruction it is paused.
 fn ended(turned: Turned, steps: u32) -> Ended
-    requires { steps < mostSteps }
-    ensures { result ≡ endedBy turned steps }
+    requires { steps < most_steps }
+    ensures { result ≡ ended_by turned steps }
 {
     match turned {
         Turned::At(_, _) => Ended::Paused(steps + 1),

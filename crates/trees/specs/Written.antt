@@ -17,10 +17,10 @@ module _ {Step : ℕ → Kind → ℕ → Type 0} where
   alone s i = token s i nothing
 
   -- a reader whom no step changes is not changed by all of them
-  pub all-equal : {A : Type 0} {m n : ℕ} {f : Tokens → Tokens} (run : ℕ → Tokens → A)
+  pub all_equal : {A : Type 0} {m n : ℕ} {f : Tokens → Tokens} (run : ℕ → Tokens → A)
       → ((l m : ℕ) (k : Kind) → Step l k m → (i : Info) (ts : Tokens) → run l (tk k i ∷ ts) ≡ run m ts) → Written Step m f n → (ts : Tokens) → run m (f ts) ≡ run n ts
-  all-equal run step nothing ts = refl
-  all-equal run step (token {l} {m} {k = k} {f} s i w) ts = step l m k s i (f ts) ∙ all-equal run step w ts
+  all_equal run step nothing ts = refl
+  all_equal run step (token {l} {m} {k = k} {f} s i w) ts = step l m k s i (f ts) ∙ all_equal run step w ts
 
 -- the depth that does not change
 abbrev pub level : ℕ → ℕ

@@ -2,8 +2,8 @@
 -- Assumes nothing: these are definitions.
 use Rattle.std.specs.Prelude.{ℕ, ◌^◌, ◌<◌, ◌≤◌}
 use Rattle.rules.specs.Text.Tokens.{Op}
-use Rattle.rules.specs.Values.{opBits}
-use Rattle.rules.specs.Limits.{mostBits}
+use Rattle.rules.specs.Values.{op_bits}
+use Rattle.rules.specs.Limits.{most_bits}
 
 -- a is a number of m bits, and b of n
 pub record Fit (m a n b : ℕ) : Type 0 where
@@ -14,4 +14,4 @@ pub record Fit (m a n b : ℕ) : Type 0 where
 pub record Operands (o : Op) (m a n b : ℕ) : Type 0 where
   pub some : 0 < m
   pub fit : Fit m a n b
-  pub short : opBits o m n ≤ mostBits
+  pub short : op_bits o m n ≤ most_bits

@@ -1,15 +1,15 @@
 -- The operators by the numbers of their kinds.
 use Rattle.std.specs.Prelude.{ℕ, Bool, true, false, List, [], ◌∷◌, ◌++◌, ◌==◌}
-use Rattle.rules.specs.Text.Tokens.{Op, join, plus, minus, eql, neq, lss, leq, gtr, geq, and, eqv, or, xor, kindNo, opKind}
+use Rattle.rules.specs.Text.Tokens.{Op, join, plus, minus, eql, neq, lss, leq, gtr, geq, and, eqv, or, xor, kind_no, op_kind}
 
-abbrev pub pickOp : Bool → Op → Op → Op
-pickOp true a b = a
-pickOp false a b = b
+abbrev pub pick_op : Bool → Op → Op → Op
+pick_op true a b = a
+pick_op false a b = b
 
 -- the operator of the list whose kind has the number k, and `geq` if there is none
 abbrev pub among : List Op → ℕ → Op
 among [] k = geq
-among (o ∷ os) k = pickOp (k == kindNo (opKind o)) o (among os k)
+among (o ∷ os) k = pick_op (k == kind_no (op_kind o)) o (among os k)
 
 -- the operators that are no relations
 abbrev pub plain : List Op
@@ -19,5 +19,5 @@ plain = join ∷ plus ∷ minus ∷ and ∷ eqv ∷ or ∷ xor ∷ []
 abbrev pub relations : List Op
 relations = eql ∷ neq ∷ lss ∷ leq ∷ gtr ∷ []
 
-unfoldable pub opAt : ℕ → Op
-opAt k = among (plain ++ relations) k
+unfoldable pub op_at : ℕ → Op
+op_at k = among (plain ++ relations) k

@@ -24,7 +24,7 @@ pub fn field(low: u32, size: u32, w: u64) -> u64
 // The word w with these bits replaced by the lowest of v.
 pub fn with_field(low: u32, size: u32, w: u64, v: u64) -> u64
     requires { (low < 64) × (low + size ≤ 64) }
-    ensures { result ≡ rules.withField low size w v }
+    ensures { result ≡ rules.with_field low size w v }
 {
     let old = field(low, size, w);
     let new = low_bits(v, size);

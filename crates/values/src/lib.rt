@@ -3,9 +3,9 @@ pub mod fields;
 pub mod operators;
 
 ghost use Rattle.std.specs.Prelude.{◌≡◌, ◌≤◌, max};
-ghost use Rattle.rules.specs.Values.{opBits, opNumber};
+ghost use Rattle.rules.specs.Values.{op_bits, op_number};
 ghost use Rattle.values.specs.Operands.{Operands};
-ghost use Rattle.values.specs.Operators.{opAt};
+ghost use Rattle.values.specs.Operators.{op_at};
 
 use operators::{add, alike, both, differ, either, join, subtract, truth};
 use rules::kinds::{AND, AT, EQL, EQV, GTR, LEQ, LSS, MINUS, NEQ, OR, PLUS, XOR};
@@ -19,7 +19,7 @@ fn longer(m: u32, n: u32) -> u32
 // The length of the result.
 pub fn operate_bits(op: u8, m: u32, n: u32) -> u32
     requires { (m ≤ 64) × (n ≤ 64) }
-    ensures { result ≡ opBits (opAt op) m n }
+    ensures { result ≡ op_bits (op_at op) m n }
 {
     let long = longer(m, n);
     match op {
@@ -36,8 +36,8 @@ pub fn operate_bits(op: u8, m: u32, n: u32) -> u32
 
 // The result of the operator on a, m bits long, and b, n bits long.
 pub fn operate(op: u8, m: u32, a: u64, n: u32, b: u64) -> u64
-    requires { Operands (opAt op) m a n b }
-    ensures { result ≡ opNumber (opAt op) m a n b }
+    requires { Operands (op_at op) m a n b }
+    ensures { result ≡ op_number (op_at op) m a n b }
 {
     match op {
         AT => join(n, a, b),

@@ -2,7 +2,7 @@
 ghost use Rattle.std.specs.Prelude.{◌≡◌, ℕ, ◌+◌, ◌*◌, ◌^◌, ◌<◌, ◌≤◌};
 ghost use Rattle.rules.specs.Text.Tokens.{join, plus, minus, and, eqv, or, xor};
 ghost use Rattle.rules.specs.Values as rules;
-ghost use Rattle.rules.specs.Values.{opBits, opNumber, notNumber};
+ghost use Rattle.rules.specs.Values.{op_bits, op_number, not_number};
 ghost use Rattle.values.specs.Operands.{Fit};
 
 use super::fields::low_bits;
@@ -10,7 +10,7 @@ use super::fields::low_bits;
 // The sum, one bit longer than the longer operand.
 pub fn add(a: u64, b: u64) -> u64
     requires { a + b < 2 ^ 64 }
-    ensures { (m n : ℕ) → result ≡ opNumber plus m a n b }
+    ensures { (m n : ℕ) → result ≡ op_number plus m a n b }
 {
     a + b
 }
@@ -18,7 +18,7 @@ pub fn add(a: u64, b: u64) -> u64
 // The difference, n bits long.
 pub fn subtract(n: u32, a: u64, b: u64) -> u64
     requires { n ≤ 64 }
-    ensures { (m k : ℕ) → Fit m a k b → n ≡ opBits minus m k → result ≡ opNumber minus m a k b }
+    ensures { (m k : ℕ) → Fit m a k b → n ≡ op_bits minus m k → result ≡ op_number minus m a k b }
 {
     low_bits(std::num::wrapping_sub_u64(a, b), n)
 }
@@ -26,7 +26,7 @@ pub fn subtract(n: u32, a: u64, b: u64) -> u64
 // The bits of a, then the n bits of b.
 pub fn join(n: u32, a: u64, b: u64) -> u64
     requires { (n < 64) × (a * 2 ^ n + b < 2 ^ 64) }
-    ensures { (m : ℕ) → result ≡ opNumber join m a n b }
+    ensures { (m : ℕ) → result ≡ op_number join m a n b }
 {
     (a << n) + b
 }
@@ -34,28 +34,28 @@ pub fn join(n: u32, a: u64, b: u64) -> u64
 // NOT of a, which has n bits.
 pub fn invert(n: u32, a: u64) -> u64
     requires { (n ≤ 64) × (a < 2 ^ n) }
-    ensures { result ≡ notNumber n a }
+    ensures { result ≡ not_number n a }
 {
     low_bits(!a, n)
 }
 
 // AND.
 pub fn both(a: u64, b: u64) -> u64
-    ensures { (m n : ℕ) → Fit m a n b → result ≡ opNumber and m a n b }
+    ensures { (m n : ℕ) → Fit m a n b → result ≡ op_number and m a n b }
 {
     a & b
 }
 
 // OR.
 pub fn either(a: u64, b: u64) -> u64
-    ensures { (m n : ℕ) → Fit m a n b → result ≡ opNumber or m a n b }
+    ensures { (m n : ℕ) → Fit m a n b → result ≡ op_number or m a n b }
 {
     a | b
 }
 
 // XOR.
 pub fn differ(a: u64, b: u64) -> u64
-    ensures { (m n : ℕ) → Fit m a n b → result ≡ opNumber xor m a n b }
+    ensures { (m n : ℕ) → Fit m a n b → result ≡ op_number xor m a n b }
 {
     a ^ b
 }
@@ -63,7 +63,7 @@ pub fn differ(a: u64, b: u64) -> u64
 // EQV, n bits long.
 pub fn alike(n: u32, a: u64, b: u64) -> u64
     requires { (n ≤ 64) × (a < 2 ^ n) × (b < 2 ^ n) }
-    ensures { (m k : ℕ) → Fit m a k b → n ≡ opBits eqv m k → result ≡ opNumber eqv m a k b }
+    ensures { (m k : ℕ) → Fit m a k b → n ≡ op_bits eqv m k → result ≡ op_number eqv m a k b }
 {
     invert(n, a ^ b)
 }

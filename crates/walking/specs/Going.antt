@@ -10,9 +10,9 @@ pub record Beginning (records table room : List ℕ) (m n : ℕ) : Type 0 where
   pub space : enough ≤ length room
 
 -- the body at `from`
-abbrev pub countFrom : {records table : List ℕ} {m n : ℕ} → Scene records table m n → ℕ → ℕ
-countFrom g from = run g.counts 0 outset (drop from g.reading.tokens)
+abbrev pub count_from : {records table : List ℕ} {m n : ℕ} → Scene records table m n → ℕ → ℕ
+count_from g from = run g.counts 0 outset (drop from g.reading.tokens)
 
 pub record Walked (records table : List ℕ) (m n from r : ℕ) : Type 0 where
   pub low : r ≤ endless
-  pub is : (g : Scene records table m n) → r ≡ countFrom g from
+  pub is : (g : Scene records table m n) → r ≡ count_from g from

@@ -1,6 +1,6 @@
 // What a token does to a walk.
 ghost use Rattle.std.specs.Prelude.{◌≡◌};
-ghost use Rattle.records.specs.Holds.{kindByte};
+ghost use Rattle.records.specs.Holds.{kind_byte};
 ghost use Rattle.walking.specs.Walking.{Acting, Acted};
 
 use crate::names::name;
@@ -21,7 +21,7 @@ pub fn step(
     mode: usize,
     s: Nest,
 ) -> Nest
-    requires { Acting records.now table.now room.old m n i s × (kind ≡ kindByte records.now i) }
+    requires { Acting records.now table.now room.old m n i s × (kind ≡ kind_byte records.now i) }
     ensures { Acted records.now table.now room.old room.new m n i mode s result }
 {
     if kind == NAME {

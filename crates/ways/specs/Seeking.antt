@@ -1,8 +1,8 @@
 -- What a search looks for, where a tree stands.
 use Rattle.std.specs.Prelude.{ℕ, ◌≡◌, true, List, ◌∷◌, drop}
 use Rattle.rules.specs.Text.Tokens.{Token}
-use Rattle.rules.specs.Text.Scan.{sameBytes}
-use Rattle.rules.specs.Grammar.Trees.{Tokens, Action, actionTokens}
+use Rattle.rules.specs.Text.Scan.{same_bytes}
+use Rattle.rules.specs.Grammar.Trees.{Tokens, Action, action_tokens}
 use Rattle.rules.specs.Declarations.{Word, Table}
 use Rattle.records.specs.Holds.{Holds}
 use Rattle.table.specs.Scans.{scan}
@@ -16,7 +16,7 @@ pub record Ground : Type 0 where
   pub outer : Word
   pub table : Table
   pub spelling : ℕ → ℕ
-  pub alike : (i j : ℕ) → NameAt tokens i → NameAt tokens j → sameBytes (word_at tokens i) (word_at tokens j) ≡ true → spelling i ≡ spelling j
+  pub alike : (i j : ℕ) → NameAt tokens i → NameAt tokens j → same_bytes (word_at tokens i) (word_at tokens j) ≡ true → spelling i ≡ spelling j
 
 abbrev pub Stands : Ground → List ℕ → Type 0
 Stands g records = Holds g.text records g.values g.tokens
@@ -33,4 +33,4 @@ pub record Starts (g : Ground) (records : List ℕ) (i : ℕ) : Type 0 where
   pub holds : Stands g records
   pub action : Action
   pub rest : Tokens
-  pub reads : drop i g.tokens ≡ actionTokens action rest
+  pub reads : drop i g.tokens ≡ action_tokens action rest

@@ -2,13 +2,13 @@
 -- labels with a spelling none stands above the one that the hint leads to.
 use Rattle.std.specs.Prelude.{ℕ, suc, ◌+◌, ◌*◌, ◌<◌, ◌≤◌, ◌≡◌, true, false, cond, List, eqb, length}
 use Rattle.cells.specs.Cells.{cell}
-use Rattle.rules.specs.Text.Scan.{sameBytes}
-use Rattle.room.specs.Links.{hintsFrom, hintCell, mostLabels, hintsEnd}
+use Rattle.rules.specs.Text.Scan.{same_bytes}
+use Rattle.room.specs.Links.{hints_from, hint_cell, most_labels, hints_end}
 use Rattle.rules.specs.Declarations.{Word}
 use Rattle.laws_orders.specs.Cited.Flat.{Link, Labels, outer, bind}
-use Rattle.records.specs.Holds.{linkCell}
+use Rattle.records.specs.Holds.{link_cell}
 use Rattle.records.specs.Words.{NameAt, word_at}
-use Rattle.promise.specs.Instructions.{linkNo}
+use Rattle.promise.specs.Instructions.{link_no}
 use Rattle.ways.specs.Seeking.{Ground, Stands}
 
 -- the label number j has this name, begins there and goes on there, and its hint leads to it or above it
@@ -16,8 +16,8 @@ pub record Labelled (labels : List ℕ) (g : Ground) (j : ℕ) (l : Word) (f : �
   pub name : NameAt g.tokens (cell 2 labels (3 * j))
   pub word : word_at g.tokens (cell 2 labels (3 * j)) ≡ l
   pub first : cell 2 labels (3 * j + 1) ≡ f
-  pub link : cell 2 labels (3 * j + 2) ≡ linkNo k
-  pub hint : j ≤ cell 2 labels (hintCell (g.spelling (cell 2 labels (3 * j))))
+  pub link : cell 2 labels (3 * j + 2) ≡ link_no k
+  pub hint : j ≤ cell 2 labels (hint_cell (g.spelling (cell 2 labels (3 * j))))
 
 -- n labels, the innermost last
 abbrev pub LabelsHold : List ℕ → Ground → ℕ → Labels → Type 0
@@ -28,31 +28,31 @@ LabelsHold labels g n (bind l f k ρ) = (m : ℕ) × (n ≡ suc m) × Labelled l
 pub record LabelsKept (old now : List ℕ) (n : ℕ) : Type 0 where
   pub long : length now ≡ length old
   pub each : (j : ℕ) → j < 3 * n → cell 2 now j ≡ cell 2 old j
-  pub hints : (m c : ℕ) → m ≤ n → hintsFrom ≤ c → m ≤ cell 2 old c → m ≤ cell 2 now c
+  pub hints : (m c : ℕ) → m ≤ n → hints_from ≤ c → m ≤ cell 2 old c → m ≤ cell 2 now c
 
 -- the entry of the label number n, and nothing else
 pub record Entered (old now : List ℕ) (n p first link : ℕ) : Type 0 where
   pub long : length now ≡ length old
   pub others : (j : ℕ) → (3 * n ≤ j → j < 3 * n + 3 → ⊥) → cell 2 now j ≡ cell 2 old j
   pub is_name : cell 2 now (3 * n) ≡ p
-  pub is-first : cell 2 now (3 * n + 1) ≡ first
-  pub is-link : cell 2 now (3 * n + 2) ≡ link
+  pub is_first : cell 2 now (3 * n + 1) ≡ first
+  pub is_link : cell 2 now (3 * n + 2) ≡ link
 
 -- its entry and its hint
 pub record Pushed (records old now : List ℕ) (n p first link : ℕ) : Type 0 where
   pub kept : LabelsKept old now n
   pub is_name : cell 2 now (3 * n) ≡ p
-  pub is-first : cell 2 now (3 * n + 1) ≡ first
-  pub is-link : cell 2 now (3 * n + 2) ≡ link
-  pub hint : cell 2 now (hintCell (linkCell records p)) ≡ n
+  pub is_first : cell 2 now (3 * n + 1) ≡ first
+  pub is_link : cell 2 now (3 * n + 2) ≡ link
+  pub hint : cell 2 now (hint_cell (link_cell records p)) ≡ n
 
 -- what a jump finds: the start of its label, or what is behind it
 abbrev pub part : ℕ → ℕ → Link → ℕ
-part p f k = elim (eqb p 1) [ true ↦ f | false ↦ linkNo k ]
+part p f k = elim (eqb p 1) [ true ↦ f | false ↦ link_no k ]
 
 unfoldable pub aims : ℕ → Labels → Word → ℕ
 aims p outer w = 0
-aims p (bind l f k ρ) w = cond (sameBytes w l) (part p f k) (aims p ρ w)
+aims p (bind l f k ρ) w = cond (same_bytes w l) (part p f k) (aims p ρ w)
 
 -- the name of a jump is the token i, inside n labels
 pub record JumpAt (g : Ground) (text records labels : List ℕ) (n i : ℕ) : Type 0 where
@@ -60,10 +60,10 @@ pub record JumpAt (g : Ground) (text records labels : List ℕ) (n i : ℕ) : Ty
   pub holds : Stands g records
   pub around : Labels
   pub held : LabelsHold labels g n around
-  pub few : n ≤ mostLabels
-  pub room : 2 * hintsEnd ≤ length labels
+  pub few : n ≤ most_labels
+  pub room : 2 * hints_end ≤ length labels
   pub name : NameAt g.tokens i
-  pub spelled : linkCell records i ≡ g.spelling i
+  pub spelled : link_cell records i ≡ g.spelling i
 
 -- what a jump of the name i finds among the n labels, it finds among the first j
 pub record Looking (text records labels : List ℕ) (n i j : ℕ) : Type 0 where

@@ -2,11 +2,11 @@
 // stand hints: by spelling, where a label that has it was last pushed. So no label above has the word, and a jump looks from there outwards; labels of a body
 // have different words, so it finds its own at once.
 ghost use Rattle.std.specs.Prelude.{◌≡◌, List, ℕ, ◌+◌, ◌*◌, ◌<◌, ◌≤◌, length};
-ghost use Rattle.records.specs.Holds.{linkCell};
+ghost use Rattle.records.specs.Holds.{link_cell};
 ghost use Rattle.records.specs.Words.{word_at};
 ghost use Rattle.ways.specs.Seeking.{Ground};
 ghost use Rattle.ways.specs.Stack.{Entered, Pushed, JumpAt, Looking, aims};
-ghost use Rattle.room.specs.Links.{mostLabels, hintsFrom, hintsEnd, hintCell, roomSize};
+ghost use Rattle.room.specs.Links.{most_labels, hints_from, hints_end, hint_cell, room_size};
 
 use cells::{get16, put16};
 use records::fields::link_at;
@@ -22,7 +22,7 @@ pub const BEHIND: usize = 2;
 // The cell of the hint for the name i.
 fn hint_cell(records: &[u8], i: usize) -> usize
     requires { 8 * i + 8 ≤ length records.now }
-    ensures { (result ≡ hintCell (linkCell records.now i)) × (hintsFrom ≤ result) × (result < hintsEnd) }
+    ensures { (result ≡ hint_cell (link_cell records.now i)) × (hints_from ≤ result) × (result < hints_end) }
 {
     HINTS + link_at(records, i) % MOST_TOKENS
 }
@@ -40,7 +40,7 @@ fn enter(labels: &mut [u8], n: usize, p: usize, first: usize, link: usize)
 
 // The label number n: its name is the token p.
 pub fn push(records: &[u8], labels: &mut [u8], n: usize, p: usize, first: usize, link: usize)
-    requires { (n < mostLabels) × (roomSize ≤ length labels.old) × (8 * p + 8 ≤ length records.now) × (p < 65536) × (first < 65536) × (link < 65536) }
+    requires { (n < most_labels) × (room_size ≤ length labels.old) × (8 * p + 8 ≤ length records.now) × (p < 65536) × (first < 65536) × (link < 65536) }
     ensures { Pushed records.now labels.old labels.new n p first link }
 {
     let hint = hint_cell(records, p);

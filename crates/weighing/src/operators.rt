@@ -1,6 +1,6 @@
 // Operators: how tightly they bind, what they make of their operands, and those that wait.
 ghost use Rattle.std.specs.Prelude.{◌≡◌, ◌≤◌};
-ghost use Rattle.rules.specs.Text.Tokens.{Info, Op, opKind, kindNo};
+ghost use Rattle.rules.specs.Text.Tokens.{Info, Op, op_kind, kind_no};
 ghost use Rattle.rules.specs.Grammar.Precedence.{Factor};
 ghost use Rattle.rules.specs.Faults.Bodies as rules;
 ghost use Rattle.weighing.specs.Weights.{Weighs, operated};
@@ -24,7 +24,7 @@ pub struct Settled {
 // An operator and its operands: 43 at its place where both are sound and the result is over 64 bits.
 pub fn combined(op: u8, place: usize, left: Weight, right: Weight) -> Weight
     requires { (left.bits ≤ 64) × (right.bits ≤ 64) × (place ≤ 32768) }
-    ensures { (o : Op) (i : Info) (a b : rules.Judged) → op ≡ kindNo (opKind o) → place ≡ i.place
+    ensures { (o : Op) (i : Info) (a b : rules.Judged) → op ≡ kind_no (op_kind o) → place ≡ i.place
         → Weighs left.key left.bits a → Weighs right.key right.bits b → Weighs result.key result.bits (operated o i a b) }
 {
     let key = earlier(left.key, right.key);

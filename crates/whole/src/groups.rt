@@ -2,11 +2,11 @@
 ghost use Rattle.std.specs.Prelude.{◌≡◌, ◌++◌, ◌*◌, ◌≤◌, length, drop};
 ghost use Rattle.rules.specs.Whole.Sets.{Sets, race};
 ghost use Rattle.rules.specs.Faults.Fault.{when};
-ghost use Rattle.rules.specs.Limits.{longestText};
-ghost use Rattle.keys.specs.Keys.{leastNumberKey};
+ghost use Rattle.rules.specs.Limits.{longest_text};
+ghost use Rattle.keys.specs.Keys.{least_number_key};
 ghost use Rattle.reading.specs.Reading.{Reading, Kinded, table_of};
 ghost use Rattle.gathering.specs.Filling.{Complete};
-ghost use Rattle.reading.specs.Groups.{place_of, more, groupAt};
+ghost use Rattle.reading.specs.Groups.{place_of, more, group_at};
 ghost use Rattle.whole.specs.GroupKeys.{Holding};
 
 use gathering::memory::{Touched, nothing};
@@ -34,9 +34,9 @@ pub fn races(u: Touched, t: Touched) -> bool
 
 // The least key of 52 and 53 of a member at its place, behind others that touch u.
 fn member_key(u: Touched, own: Touched, place: usize) -> u32
-    requires { place ≤ longestText }
+    requires { place ≤ longest_text }
     ensures { (a b : Sets) → Holding u.reads.w u.writes.w a → Holding own.reads.w own.writes.w b
-        → result ≡ leastNumberKey (when own.stops 52 place ++ when (race a b) 53 place) }
+        → result ≡ least_number_key (when own.stops 52 place ++ when (race a b) 53 place) }
 {
     if own.stops {
         return number_key(52, place);
@@ -50,7 +50,7 @@ fn member_key(u: Touched, own: Touched, place: usize) -> u32
 // The place of the token i, of n.
 pub fn place_of(records: &[u8], decls: &[u8], m: usize, n: usize, i: usize) -> usize
     requires { Reading records.now decls.now m n }
-    ensures { (result ≤ longestText) × ((v : Reading records.now decls.now m n) → result ≡ place_of (drop i v.tokens)) }
+    ensures { (result ≤ longest_text) × ((v : Reading records.now decls.now m n) → result ≡ place_of (drop i v.tokens)) }
 {
     if i < n {
         return place_at(records, i);
@@ -68,7 +68,7 @@ pub struct Group {
 // The group at from. Where its first member is also its last, no key of it counts.
 pub fn group_at(records: &[u8], decls: &[u8], memo: &[u8], m: usize, n: usize, from: usize) -> Group
     requires { Reading records.now decls.now m n × ((72 * m ≤ length memo.now) × Complete records.now decls.now memo.now m n) }
-    ensures { ((v : Reading records.now decls.now m n) → result.key ≡ leastNumberKey (groupAt (table_of v) (drop from v.tokens)))
+    ensures { ((v : Reading records.now decls.now m n) → result.key ≡ least_number_key (group_at (table_of v) (drop from v.tokens)))
         × ((v : Kinded records.now n) → result.several ≡ more (drop from v.tokens)) }
 {
     let mut key = NO_KEY;

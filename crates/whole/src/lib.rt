@@ -4,12 +4,12 @@ pub mod walks;
 
 ghost use Rattle.std.specs.Prelude.{◌≡◌, false, ◌≤◌, length};
 ghost use Rattle.rules.specs.Declarations.{Word};
-ghost use Rattle.rules.specs.Whole.Sets.{chainOver};
-ghost use Rattle.rules.specs.Limits.{longestChain};
+ghost use Rattle.rules.specs.Whole.Sets.{chain_over};
+ghost use Rattle.rules.specs.Limits.{longest_chain};
 ghost use Rattle.rules.specs.Faults.Whole.{faults50};
-ghost use Rattle.keys.specs.Keys.{leastNumberKey};
+ghost use Rattle.keys.specs.Keys.{least_number_key};
 ghost use Rattle.reading.specs.Reading.{Reading, table_of};
-ghost use Rattle.room.specs.Whole.{roomSize};
+ghost use Rattle.room.specs.Whole.{room_size};
 ghost use Rattle.whole.specs.Written.{Written, whole};
 ghost use Rattle.whole.specs.WalkKeys.{Roomy};
 
@@ -22,8 +22,8 @@ use room::whole::LABELS_BYTE;
 
 // Gathers what the bodies touch in the front of the room.
 fn gather_in(records: &[u8], decls: &[u8], room: &mut [u8], m: usize, n: usize)
-    requires { Reading records.now decls.now m n × ((roomSize ≤ length room.old)
-        × ((v : Reading records.now decls.now m n) (w : Word) → chainOver (table_of v) longestChain w ≡ false)) }
+    requires { Reading records.now decls.now m n × ((room_size ≤ length room.old)
+        × ((v : Reading records.now decls.now m n) (w : Word) → chain_over (table_of v) longest_chain w ≡ false)) }
     ensures { Roomy records.now decls.now room.new m n }
 {
     gather_all(records, decls, &mut room[..LABELS_BYTE], m, n);
@@ -38,8 +38,8 @@ pub fn fault50(
     m: usize,
     n: usize,
 ) -> u32
-    requires { Written text.now records.now decls.now m n × (roomSize ≤ length room.old) }
-    ensures { (v : Written text.now records.now decls.now m n) → result ≡ leastNumberKey (faults50 (whole v)) }
+    requires { Written text.now records.now decls.now m n × (room_size ≤ length room.old) }
+    ensures { (v : Written text.now records.now decls.now m n) → result ≡ least_number_key (faults50 (whole v)) }
 {
     let first = earlier(
         main_key(records, decls, m, n),

@@ -1,12 +1,12 @@
 // The bodies, each from its first token to its last: the least key of its groups and of its jumps.
 ghost use Rattle.std.specs.Prelude.{◌≡◌, ◌<◌, ◌≤◌, length};
-ghost use Rattle.rules.specs.Faults.Whole.{groupsFaults};
-ghost use Rattle.keys.specs.Keys.{leastNumberKey};
-ghost use Rattle.room.specs.Whole.{roomSize};
+ghost use Rattle.rules.specs.Faults.Whole.{groups_faults};
+ghost use Rattle.keys.specs.Keys.{least_number_key};
+ghost use Rattle.room.specs.Whole.{room_size};
 ghost use Rattle.scopes.specs.Walks.{opens};
 ghost use Rattle.scopes.specs.Frames.{Told, Turning};
 ghost use Rattle.whole.specs.Written.{Written, whole};
-ghost use Rattle.whole.specs.WalkKeys.{labelsOf, Roomy, Faulty, FaultKey, TurnedIn, Walked, BodyKey};
+ghost use Rattle.whole.specs.WalkKeys.{labels_of, Roomy, Faulty, FaultKey, TurnedIn, Walked, BodyKey};
 
 use crate::groups::{Group, group_at};
 use keys::{NO_KEY, earlier};
@@ -79,7 +79,7 @@ fn turn_in(
     base: usize,
     top: usize,
 ) -> Nest
-    requires { Turning text.now records.now (labelsOf room.old) n i kind several depth base top × (roomSize ≤ length room.old) }
+    requires { Turning text.now records.now (labels_of room.old) n i kind several depth base top × (room_size ≤ length room.old) }
     ensures { TurnedIn text.now records.now room.old room.new n i depth base top result.depth result.base result.top }
 {
     turn(
@@ -162,7 +162,7 @@ pub fn groups_key(
     n: usize,
 ) -> u32
     requires { Written text.now records.now decls.now m n × Roomy records.now decls.now room.old m n }
-    ensures { (v : Written text.now records.now decls.now m n) → result ≡ leastNumberKey (groupsFaults (whole v) (whole v)) }
+    ensures { (v : Written text.now records.now decls.now m n) → result ≡ least_number_key (groups_faults (whole v) (whole v)) }
 {
     let mut key = NO_KEY;
     let mut k: usize = 0;

@@ -8,11 +8,11 @@ pub record Text : Type 0 where
   pub text : List ℕ
   pub numbers : List ℕ
 
-abbrev pub refusesBytes : List ℕ → ℕ → ℕ → Text
-refusesBytes t m p = record { text = t; numbers = 4 ∷ m ∷ p ∷ [] }
+abbrev pub refuses_bytes : List ℕ → ℕ → ℕ → Text
+refuses_bytes t m p = record { text = t; numbers = 4 ∷ m ∷ p ∷ [] }
 
-abbrev pub acceptsBytes : List ℕ → ℕ → ℕ → Text
-acceptsBytes t n w = record { text = t; numbers = 0 ∷ n ∷ w ∷ [] }
+abbrev pub accepts_bytes : List ℕ → ℕ → ℕ → Text
+accepts_bytes t n w = record { text = t; numbers = 0 ∷ n ∷ w ∷ [] }
 
 -- some bytes n times
 unfoldable pub times : ℕ → List ℕ → List ℕ
@@ -25,11 +25,11 @@ opening = bytes "N := BEGIN "
 abbrev idle : List ℕ
 idle = bytes "MAIN GO := BEGIN NO.OP() END END"
 
-abbrev longName : ℕ → List ℕ
-longName n = replicate n 65 ++ (bytes " := BEGIN " ++ idle)
+abbrev long_name : ℕ → List ℕ
+long_name n = replicate n 65 ++ (bytes " := BEGIN " ++ idle)
 
-abbrev longConstant : ℕ → List ℕ
-longConstant n = opening ++ (bytes "A<>, MAIN GO := BEGIN A = '" ++ (replicate n 49 ++ bytes " END END"))
+abbrev long_constant : ℕ → List ℕ
+long_constant n = opening ++ (bytes "A<>, MAIN GO := BEGIN A = '" ++ (replicate n 49 ++ bytes " END END"))
 
 -- BEGIN stands open twice around the parentheses
 abbrev nested : ℕ → List ℕ
@@ -52,29 +52,29 @@ chain (suc n) i = 67 ∷ (65 + i) ∷ (bytes " := BEGIN C" ++ ((66 + i) ∷ (byt
 abbrev pub edges : List Text
 edges =
     -- 32 and 33 bytes of a name
-    acceptsBytes (longName 32) 1 0
-    ∷ refusesBytes (longName 33) 11 0
+    accepts_bytes (long_name 32) 1 0
+    ∷ refuses_bytes (long_name 33) 11 0
     -- 64 and 65 bits: of a constant, of a declaration, of a value
-    ∷ acceptsBytes (longConstant 64) 2 1
-    ∷ refusesBytes (longConstant 65) 12 37
-    ∷ acceptsBytes (opening ++ (bytes "A<63:0>, " ++ idle)) 2 1
-    ∷ refusesBytes (opening ++ (bytes "A<64:0>, " ++ idle)) 31 11
-    ∷ acceptsBytes (opening ++ bytes "A<62:0>, MAIN GO := BEGIN A = A @ '1 END END") 2 1
-    ∷ refusesBytes (opening ++ bytes "A<63:0>, MAIN GO := BEGIN A = A @ '1 END END") 43 43
+    ∷ accepts_bytes (long_constant 64) 2 1
+    ∷ refuses_bytes (long_constant 65) 12 37
+    ∷ accepts_bytes (opening ++ (bytes "A<63:0>, " ++ idle)) 2 1
+    ∷ refuses_bytes (opening ++ (bytes "A<64:0>, " ++ idle)) 31 11
+    ∷ accepts_bytes (opening ++ bytes "A<62:0>, MAIN GO := BEGIN A = A @ '1 END END") 2 1
+    ∷ refuses_bytes (opening ++ bytes "A<63:0>, MAIN GO := BEGIN A = A @ '1 END END") 43 43
     -- 32 and 33 open
-    ∷ acceptsBytes (nested 30) 2 1
-    ∷ refusesBytes (nested 31) 21 70
+    ∷ accepts_bytes (nested 30) 2 1
+    ∷ refuses_bytes (nested 31) 21 70
     -- a bit named 4,095 and one named 4,096
-    ∷ acceptsBytes (opening ++ (bytes "A<4095>, " ++ idle)) 2 1
-    ∷ refusesBytes (opening ++ (bytes "A<4096>, " ++ idle)) 31 11
+    ∷ accepts_bytes (opening ++ (bytes "A<4095>, " ++ idle)) 2 1
+    ∷ refuses_bytes (opening ++ (bytes "A<4096>, " ++ idle)) 31 11
     -- 256 and 257 declarations; 4,096 and 4,097 words
-    ∷ acceptsBytes (opening ++ (carriers 255 0 ++ idle)) 256 255
-    ∷ refusesBytes (opening ++ (carriers 256 0 ++ idle)) 32 1808
-    ∷ acceptsBytes (opening ++ (bytes "M[0:4095]<>, " ++ idle)) 2 4096
-    ∷ refusesBytes (opening ++ (bytes "M[0:4095]<>, A<>, " ++ idle)) 32 24
+    ∷ accepts_bytes (opening ++ (carriers 255 0 ++ idle)) 256 255
+    ∷ refuses_bytes (opening ++ (carriers 256 0 ++ idle)) 32 1808
+    ∷ accepts_bytes (opening ++ (bytes "M[0:4095]<>, " ++ idle)) 2 4096
+    ∷ refuses_bytes (opening ++ (bytes "M[0:4095]<>, A<>, " ++ idle)) 32 24
     -- 64 and 65 alternatives
-    ∷ acceptsBytes (alternatives 63) 2 1
-    ∷ refusesBytes (alternatives 64) 45 630
+    ∷ accepts_bytes (alternatives 63) 2 1
+    ∷ refuses_bytes (alternatives 64) 45 630
     -- 16 and 17 bodies in a chain
-    ∷ acceptsBytes (opening ++ (chain 15 0 ++ idle)) 17 0
-    ∷ refusesBytes (opening ++ (chain 16 0 ++ idle)) 51 11 ∷ []
+    ∷ accepts_bytes (opening ++ (chain 15 0 ++ idle)) 17 0
+    ∷ refuses_bytes (opening ++ (chain 16 0 ++ idle)) 51 11 ∷ []

@@ -3,165 +3,165 @@
 use Rattle.std.specs.Prelude.{ℕ, ◌+◌, ◌*◌, ◌<◌, ◌≤◌, ◌≡◌, refl, Bool, true, false, not, List, [], ◌∷◌, ◌++◌, eqb, length, drop}
 use Rattle.std.proofs.Common.{sym, ap, ◌∙◌, arith, ne_eqb}
 use Rattle.std.proofs.Math.Option.{Option, none, some}
-use Rattle.rules.specs.Text.Tokens.{Name, kindNo, Token, tk}
-use Rattle.rules.specs.Limits.{longestText}
-use Rattle.rules.specs.Grammar.Trees.{Tokens, bit, upto, Bits, all-bits, bits, bitsTokens}
+use Rattle.rules.specs.Text.Tokens.{Name, kind_no, Token, tk}
+use Rattle.rules.specs.Limits.{longest_text}
+use Rattle.rules.specs.Grammar.Trees.{Tokens, bit, upto, Bits, all_bits, bits, bits_tokens}
 use Rattle.rules.specs.Grammar.Precedence.{Index, no_index, index}
-use Rattle.rules.specs.Declarations.{Names as Span-of, BitNames, one-unnamed, these, mainNames, declaredOf, number_of}
+use Rattle.rules.specs.Declarations.{Names as Span-of, BitNames, one_unnamed, these, main_names, declared_of, number_of}
 use Rattle.rules.specs.Faults.Fault.{fault, when}
-use Rattle.rules.specs.Faults.Bodies.{Judged, judgedAs, soundBits, accessJudged, subscripted, judgeName, judgeAccess}
-use Rattle.records.specs.Holds.{tokenAt, placeCell, insideCell}
-use Rattle.keys.specs.Keys.{key, noKey, leastBy, Small, none-small, also-small}
-use Rattle.table.specs.Meaning.{meaningBy, outerOnly, unknownName}
-use Rattle.table.specs.Laws.Positions.{record-within, behind-far}
-use Rattle.table.specs.Bits.{BitsView, bitsSize, accessBits}
-use Rattle.table.specs.Laws.Bits.{access-bits}
-use Rattle.table.specs.Shown.{shownBits, shownWords}
+use Rattle.rules.specs.Faults.Bodies.{Judged, judged_as, sound_bits, access_judged, subscripted, judge_name, judge_access}
+use Rattle.records.specs.Holds.{token_at, place_cell, inside_cell}
+use Rattle.keys.specs.Keys.{key, no_key, least_by, Small, none_small, also_small}
+use Rattle.table.specs.Meaning.{meaning_by, outer_only, unknown_name}
+use Rattle.table.specs.Laws.Positions.{record_within, behind_far}
+use Rattle.table.specs.Bits.{BitsView, bits_size, access_bits}
+use Rattle.table.specs.Laws.Bits.{access_bits_lem}
+use Rattle.table.specs.Shown.{shown_bits, shown_words}
 use Rattle.table.specs.declared.views.Names.{Names}
 use Rattle.table.specs.Laws.Operators.{no_bits}
 use Rattle.weighing.specs.Weights.{Weighs}
-use Rattle.weighing.specs.Laws.Weights.{weighs-fault, weighs-sound}
-use Rattle.accesses.specs.Scene.{Scene, outerOf, table_of}
+use Rattle.weighing.specs.Laws.Weights.{weighs_fault, weighs_sound}
+use Rattle.accesses.specs.Scene.{Scene, outer_of, table_of}
 use Rattle.accesses.specs.Laws.Lookups.{Found, undeclared, declared}
-use Rattle.accesses.specs.Lengths.{accessLength, Short}
-use Rattle.accesses.specs.Laws.Lengths.{bits-judged, access-fits}
-use Rattle.accesses.specs.Names.{fitsWords, has_index, isMissing, Shows, NamedAt, NamedAnswer}
+use Rattle.accesses.specs.Lengths.{access_length, Short}
+use Rattle.accesses.specs.Laws.Lengths.{bits_judged_lem, access_fits}
+use Rattle.accesses.specs.Names.{fits_words, has_index, is_missing, Shows, NamedAt, NamedAnswer}
 
-fits-words : (w : Option Span-of) (x : Index) → fitsWords (shownWords w) (has_index x) ≡ subscripted w x
-fits-words none no_index = refl
-fits-words none (index l e r) = refl
-fits-words (some s) no_index = refl
-fits-words (some s) (index l e r) = refl
+fits_words_lem : (w : Option Span-of) (x : Index) → fits_words (shown_words w) (has_index x) ≡ subscripted w x
+fits_words_lem none no_index = refl
+fits_words_lem none (index l e r) = refl
+fits_words_lem (some s) no_index = refl
+fits_words_lem (some s) (index l e r) = refl
 
 -- one fault, and another of a larger number at its place
-one-small : (n p : ℕ) → n < 128 → p ≤ longestText → Small (fault n p)
-one-small n p h l = record { number = h; place = l }
+one_small : (n p : ℕ) → n < 128 → p ≤ longest_text → Small (fault n p)
+one_small n p h l = record { number = h; place = l }
 
-pub weighs-one : (n p m : ℕ) → n < 128 → p ≤ longestText → Weighs (key (fault n p)) 0 (judgedAs (fault n p ∷ []) m)
-unfolding leastBy
-weighs-one n p m h l =
-    weighs-fault (fault n p ∷ []) m _ (also-small (one-small n p h l) none-small) (omega arith) (omega arith)
+pub weighs_one : (n p m : ℕ) → n < 128 → p ≤ longest_text → Weighs (key (fault n p)) 0 (judged_as (fault n p ∷ []) m)
+unfolding least_by
+weighs_one n p m h l =
+    weighs_fault (fault n p ∷ []) m _ (also_small (one_small n p h l) none_small) (omega arith) (omega arith)
 
-weighs-first : (p m : ℕ) (b : Bool) → p ≤ longestText → Weighs (key (fault 41 p)) 0 (judgedAs (fault 41 p ∷ when b 42 p) m)
-unfolding leastBy
-weighs-first p m false l = weighs-one 41 p m (omega arith) l
-weighs-first p m true l =
-    weighs-fault (fault 41 p ∷ fault 42 p ∷ []) m _
-    (also-small (one-small 41 p (omega arith) l) (also-small (one-small 42 p (omega arith) l) none-small)) (omega arith) (omega arith)
+weighs_first : (p m : ℕ) (b : Bool) → p ≤ longest_text → Weighs (key (fault 41 p)) 0 (judged_as (fault 41 p ∷ when b 42 p) m)
+unfolding least_by
+weighs_first p m false l = weighs_one 41 p m (omega arith) l
+weighs_first p m true l =
+    weighs_fault (fault 41 p ∷ fault 42 p ∷ []) m _
+    (also_small (one_small 41 p (omega arith) l) (also_small (one_small 42 p (omega arith) l) none_small)) (omega arith) (omega arith)
 
-pub missing-bits : (b : Option BitNames) → isMissing (shownBits b) ≡ true → b ≡ none
-missing-bits none e = refl
-missing-bits (some one-unnamed) e = absurd (let z : ◌≡◌ {A = ℕ} 0 1 = cc in omega arith)
-missing-bits (some (these s)) e = absurd (let z : ◌≡◌ {A = ℕ} 0 1 = cc in omega arith)
+pub missing_bits : (b : Option BitNames) → is_missing (shown_bits b) ≡ true → b ≡ none
+missing_bits none e = refl
+missing_bits (some one_unnamed) e = absurd (let z : ◌≡◌ {A = ℕ} 0 1 = cc in omega arith)
+missing_bits (some (these s)) e = absurd (let z : ◌≡◌ {A = ℕ} 0 1 = cc in omega arith)
 
-pub present-bits : (b : Option BitNames) → isMissing (shownBits b) ≡ false → (c : BitNames) × (b ≡ some c)
-present-bits none e = absurd (let z : ◌≡◌ {A = ℕ} 0 1 = cc in omega arith)
-present-bits (some c) e = (c, refl)
+pub present_bits : (b : Option BitNames) → is_missing (shown_bits b) ≡ false → (c : BitNames) × (b ≡ some c)
+present_bits none e = absurd (let z : ◌≡◌ {A = ℕ} 0 1 = cc in omega arith)
+present_bits (some c) e = (c, refl)
 
-with-bits : (p : ℕ) (words own given : Names) (t : Bool) (w : Option Span-of) (c : BitNames) (x : Index) (g : Bits)
-    → fitsWords words t ≡ subscripted w x → own ≡ shownBits (some c) → given ≡ shownBits (mainNames (accessBits g)) → let n = accessLength own given in
-    accessJudged p w (some c) x g ≡ judgedAs (when (not (fitsWords words t)) 41 p ++ when (eqb n 0) 42 p) (soundBits (when (eqb n 0) 42 p) n)
-with-bits p words own given t w c x g f o h = rw (f, o, h, bits-judged p c g)
+with_bits : (p : ℕ) (words own given : Names) (t : Bool) (w : Option Span-of) (c : BitNames) (x : Index) (g : Bits)
+    → fits_words words t ≡ subscripted w x → own ≡ shown_bits (some c) → given ≡ shown_bits (main_names (access_bits g)) → let n = access_length own given in
+    access_judged p w (some c) x g ≡ judged_as (when (not (fits_words words t)) 41 p ++ when (eqb n 0) 42 p) (sound_bits (when (eqb n 0) 42 p) n)
+with_bits p words own given t w c x g f o h = rw (f, o, h, bits_judged_lem p c g)
 
 module _ (p : ℕ) {words own given : Names} {t : Bool} {w : Option Span-of} {b : Option BitNames} {x : Index} {g : Bits} (s : Shows words own given t w b x g) where
-  pub access-bitless : isMissing own ≡ true → p ≤ longestText → Weighs (key (fault 41 p)) 0 (accessJudged p w b x g)
-  access-bitless e l = rw (missing-bits b (ap isMissing (sym s.own-shown) ∙ e)) (weighs-one 41 p 0 (omega arith) l)
+  pub access_bitless : is_missing own ≡ true → p ≤ longest_text → Weighs (key (fault 41 p)) 0 (access_judged p w b x g)
+  access_bitless e l = rw (missing_bits b (ap is_missing (sym s.own_shown) ∙ e)) (weighs_one 41 p 0 (omega arith) l)
 
-  module _ (has : isMissing own ≡ false) where
+  module _ (has : is_missing own ≡ false) where
     bits_are : (c : BitNames) × (b ≡ some c)
-    bits_are = present-bits b (ap isMissing (sym s.own-shown) ∙ has)
+    bits_are = present_bits b (ap is_missing (sym s.own_shown) ∙ has)
 
-    fits : fitsWords words t ≡ subscripted w x
-    fits = ap (λ n. fitsWords n t) s.words-shown ∙ ap (fitsWords (shownWords w)) s.index-shown ∙ fits-words w x
+    fits : fits_words words t ≡ subscripted w x
+    fits = ap (λ n. fits_words n t) s.words_shown ∙ ap (fits_words (shown_words w)) s.index_shown ∙ fits_words_lem w x
 
-    by_length : let n = accessLength own given in
-        accessJudged p w b x g ≡ judgedAs (when (not (fitsWords words t)) 41 p ++ when (eqb n 0) 42 p) (soundBits (when (eqb n 0) 42 p) n)
+    by_length : let n = access_length own given in
+        access_judged p w b x g ≡ judged_as (when (not (fits_words words t)) 41 p ++ when (eqb n 0) 42 p) (sound_bits (when (eqb n 0) 42 p) n)
     by_length =
-        ap (λ b. accessJudged p w b x g) bits_are.1
-        ∙ with-bits p words own given t w bits_are.0 x g fits (s.own-shown ∙ ap shownBits bits_are.1) s.given-shown
+        ap (λ b. access_judged p w b x g) bits_are.1
+        ∙ with_bits p words own given t w bits_are.0 x g fits (s.own_shown ∙ ap shown_bits bits_are.1) s.given_shown
 
-    pub access-unfit : fitsWords words t ≡ false → p ≤ longestText → Weighs (key (fault 41 p)) 0 (accessJudged p w b x g)
-    access-unfit e l = rw (by_length, e) (weighs-first p (soundBits (when (eqb (accessLength own given) 0) 42 p) (accessLength own given)) (eqb (accessLength own given) 0) l)
+    pub access_unfit : fits_words words t ≡ false → p ≤ longest_text → Weighs (key (fault 41 p)) 0 (access_judged p w b x g)
+    access_unfit e l = rw (by_length, e) (weighs_first p (sound_bits (when (eqb (access_length own given) 0) 42 p) (access_length own given)) (eqb (access_length own given) 0) l)
 
-    module _ (fit : fitsWords words t ≡ true) where
-      pub access-outside : accessLength own given ≡ 0 → p ≤ longestText → Weighs (key (fault 42 p)) 0 (accessJudged p w b x g)
-      access-outside e l = rw (by_length, fit, e) (weighs-one 42 p 0 (omega arith) l)
+    module _ (fit : fits_words words t ≡ true) where
+      pub access_outside : access_length own given ≡ 0 → p ≤ longest_text → Weighs (key (fault 42 p)) 0 (access_judged p w b x g)
+      access_outside e l = rw (by_length, fit, e) (weighs_one 42 p 0 (omega arith) l)
 
-      pub access-sound : (accessLength own given ≡ 0 → ⊥) → Short own → Weighs noKey (accessLength own given) (accessJudged p w b x g)
-      access-sound n h =
-          let l : 0 < accessLength own given = omega (arith, n) in
-          rw (by_length, fit, ne_eqb (accessLength own given) 0 n) (weighs-sound (accessLength own given) refl l (access-fits own given h))
+      pub access_sound : (access_length own given ≡ 0 → ⊥) → Short own → Weighs no_key (access_length own given) (access_judged p w b x g)
+      access_sound n h =
+          let l : 0 < access_length own given = omega (arith, n) in
+          rw (by_length, fit, ne_eqb (access_length own given) 0 n) (weighs_sound (access_length own given) refl l (access_fits own given h))
 
 -- by what the name's cell says
-place-small : {records values decls : List ℕ} (s : Scene records values decls) (i : ℕ) (t : Token) → i < length s.tokens → tokenAt s.tokens i ≡ t
-    → t.info.place ≤ longestText
-place-small s i t h e =
-    let q : (tokenAt s.tokens i).info.place ≡ t.info.place = ap (λ (t : Token). t.info.place) e in
+place_small : {records values decls : List ℕ} (s : Scene records values decls) (i : ℕ) (t : Token) → i < length s.tokens → token_at s.tokens i ≡ t
+    → t.info.place ≤ longest_text
+place_small s i t h e =
+    let q : (token_at s.tokens i).info.place ≡ t.info.place = ap (λ (t : Token). t.info.place) e in
     omega (arith, (s.ready.holds.entry i h).inside, s.ready.holds.short)
 
-pub place-fits : {records values decls : List ℕ} {i p : ℕ} (v : NamedAt records values decls i p) → v.name.place ≤ longestText
-place-fits v = place-small v.scene _ (tk Name v.name) v.within v.here
+pub place_fits : {records values decls : List ℕ} {i p : ℕ} (v : NamedAt records values decls i p) → v.name.place ≤ longest_text
+place_fits v = place_small v.scene _ (tk Name v.name) v.within v.here
 
 module _ {records values decls : List ℕ} {i p : ℕ} (v : NamedAt records values decls i p) (x : Index) where
   abbrev pub named : Judged
-  named = judgeAccess (outerOf v.scene) (table_of v.scene) v.name x v.bits
+  named = judge_access (outer_of v.scene) (table_of v.scene) v.name x v.bits
 
   -- 40 and 41: not declared, and not the outer name, or only that
-  undeclared-judged : (o : Bool) → insideCell records i ≡ meaningBy none o
-      → named ≡ judgedAs (when (not o) 40 v.name.place ++ when o 41 v.name.place) 0
-  unfolding judgeAccess judgeName
-  undeclared-judged o e =
+  undeclared_judged : (o : Bool) → inside_cell records i ≡ meaning_by none o
+      → named ≡ judged_as (when (not o) 40 v.name.place ++ when o 41 v.name.place) 0
+  unfolding judge_access judge_name
+  undeclared_judged o e =
       let q = undeclared v.scene i v.name v.within v.here o e in
       rw (q.0, q.1)
 
-  pub named-unknown : insideCell records i ≡ unknownName → Weighs (key (fault 40 v.name.place)) 0 named
-  named-unknown e = rw (undeclared-judged false e) (weighs-one 40 v.name.place 0 (omega arith) (place-fits v))
+  pub named_unknown : inside_cell records i ≡ unknown_name → Weighs (key (fault 40 v.name.place)) 0 named
+  named_unknown e = rw (undeclared_judged false e) (weighs_one 40 v.name.place 0 (omega arith) (place_fits v))
 
-  pub named-outer : insideCell records i ≡ outerOnly → Weighs (key (fault 41 v.name.place)) 0 named
-  named-outer e = rw (undeclared-judged true e) (weighs-one 41 v.name.place 0 (omega arith) (place-fits v))
+  pub named_outer : inside_cell records i ≡ outer_only → Weighs (key (fault 41 v.name.place)) 0 named
+  named_outer e = rw (undeclared_judged true e) (weighs_one 41 v.name.place 0 (omega arith) (place_fits v))
 
-  named-declared : {k : ℕ} → number_of (table_of v.scene) v.name.word ≡ some k → (f : Found v.scene k)
-      → named ≡ accessJudged v.name.place (declaredOf f.declaration).words (declaredOf f.declaration).bits x v.bits
-  unfolding judgeAccess judgeName
-  named-declared e f = rw (e, f.listed)
+  named_declared : {k : ℕ} → number_of (table_of v.scene) v.name.word ≡ some k → (f : Found v.scene k)
+      → named ≡ access_judged v.name.place (declared_of f.declaration).words (declared_of f.declaration).bits x v.bits
+  unfolding judge_access judge_name
+  named_declared e f = rw (e, f.listed)
 
 -- the bits behind the name, and the token behind them
-behind-bits : (b : Bits) (ts : Tokens) → drop (bitsSize (accessBits b)) (bitsTokens b ts) ≡ ts
-behind-bits all-bits ts = refl
-behind-bits (bits l n (bit g)) ts = refl
-behind-bits (bits l n (upto c m g)) ts = refl
+behind_bits : (b : Bits) (ts : Tokens) → drop (bits_size (access_bits b)) (bits_tokens b ts) ≡ ts
+behind_bits all_bits ts = refl
+behind_bits (bits l n (bit g)) ts = refl
+behind_bits (bits l n (upto c m g)) ts = refl
 
 module _ {records values decls : List ℕ} {i p : ℕ} (v : NamedAt records values decls i p) where
-  abbrev pub bits-view : BitsView records values p
-  bits-view = record {
+  abbrev pub bits_view : BitsView records values p
+  bits_view = record {
     text = v.scene.text;
     tokens = v.scene.tokens;
     holds = v.scene.ready.holds;
-    bits = accessBits v.bits;
+    bits = access_bits v.bits;
     next = v.next;
     rest = v.rest;
-    ends = λ e. no_bits v.next.kind v.ends (ap kindNo e);
-    reads = v.reads ∙ access-bits v.bits (v.next ∷ v.rest);
+    ends = λ e. no_bits v.next.kind v.ends (ap kind_no e);
+    reads = v.reads ∙ access_bits_lem v.bits (v.next ∷ v.rest);
   }
 
-  pub name-room : 8 * i + 8 ≤ length records
-  name-room = record-within v.scene.ready.holds i v.within
+  pub name_room : 8 * i + 8 ≤ length records
+  name_room = record_within v.scene.ready.holds i v.within
 
-  pub name-place : placeCell records i ≡ v.name.place
-  name-place = (v.scene.ready.holds.entry i v.within).place ∙ ap (λ (t : Token). t.info.place) v.here
+  pub name_place : place_cell records i ≡ v.name.place
+  name_place = (v.scene.ready.holds.entry i v.within).place ∙ ap (λ (t : Token). t.info.place) v.here
 
-  pub named-answer : {t : Bool} {k n s : ℕ} → ((x : Index) → t ≡ has_index x → Weighs k n (named v x)) → s ≡ bitsSize (accessBits v.bits)
+  pub named_answer : {t : Bool} {k n s : ℕ} → ((x : Index) → t ≡ has_index x → Weighs k n (named v x)) → s ≡ bits_size (access_bits v.bits)
       → NamedAnswer v t (record { key = k; bits = n; next = p + s })
-  named-answer f e x q = record {
+  named_answer f e x q = record {
     weighs = f x q;
     past = let b = v.before in omega arith;
-    behind = ap (λ s. drop (p + s) v.scene.tokens) e ∙ behind-far v.scene.tokens p _ v.reads (bitsSize (accessBits v.bits)) ∙ behind-bits v.bits (v.next ∷ v.rest);
+    behind = ap (λ s. drop (p + s) v.scene.tokens) e ∙ behind_far v.scene.tokens p _ v.reads (bits_size (access_bits v.bits)) ∙ behind_bits v.bits (v.next ∷ v.rest);
   }
 
   -- the name is declared, and its number is k
-  pub name-found : (k : ℕ) → k ≡ insideCell records i → (k ≡ unknownName → ⊥) → (k ≡ outerOnly → ⊥) → Found v.scene k
-  name-found k e u o = (declared v.scene i v.name v.within v.here k e u o).1
+  pub name_found : (k : ℕ) → k ≡ inside_cell records i → (k ≡ unknown_name → ⊥) → (k ≡ outer_only → ⊥) → Found v.scene k
+  name_found k e u o = (declared v.scene i v.name v.within v.here k e u o).1
 
-  pub found-judged : (k : ℕ) (e : k ≡ insideCell records i) (u : k ≡ unknownName → ⊥) (o : k ≡ outerOnly → ⊥) (x : Index)
-      → let d = declaredOf (name-found k e u o).declaration in named v x ≡ accessJudged v.name.place d.words d.bits x v.bits
-  found-judged k e u o x = named-declared v x (declared v.scene i v.name v.within v.here k e u o).0 (name-found k e u o)
+  pub found_judged : (k : ℕ) (e : k ≡ inside_cell records i) (u : k ≡ unknown_name → ⊥) (o : k ≡ outer_only → ⊥) (x : Index)
+      → let d = declared_of (name_found k e u o).declaration in named v x ≡ access_judged v.name.place d.words d.bits x v.bits
+  found_judged k e u o x = named_declared v x (declared v.scene i v.name v.within v.here k e u o).0 (name_found k e u o)

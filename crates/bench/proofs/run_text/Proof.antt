@@ -6,8 +6,8 @@ use lib.ListN.{length-take}
 use Rattle.bench.proofs.run_text.Statement.{statement}
 use Rattle.bench.proofs.run_text.Tie as tie
 
-pub run-text-spec : {M : Type 1} → statement M
-run-text-spec =
+pub run_text_spec : {M : Type 1} → statement M
+run_text_spec =
     tie.close
     (tie.spec
     (λ c κs. search rules)

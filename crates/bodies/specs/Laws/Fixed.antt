@@ -2,18 +2,18 @@
 -- Assumes nothing.
 use Rattle.std.specs.Prelude.{ℕ, ◌*◌, ◌≤◌, refl, List, length}
 use Rattle.rules.specs.Text.Tokens.{Name, tk}
-use Rattle.rules.specs.Text.Scan.{plainInfo, scan}
+use Rattle.rules.specs.Text.Scan.{plain_info, scan}
 use Rattle.rules.specs.Grammar.Trees.{Description}
-use Rattle.laws_accepted.specs.Accepted.Scanned.{scanned-each}
+use Rattle.laws_accepted.specs.Accepted.Scanned.{scanned_each}
 use Rattle.table.specs.Ready.{Ready}
 use Rattle.spelling.specs.Spelled.{Spelled}
-use Rattle.room.specs.Bodies.{indexEnd}
+use Rattle.room.specs.Bodies.{index_end}
 use Rattle.bodies.specs.Bodies.{BodiesView}
 
-abbrev pub ready-bodies : {text records values decls room : List ℕ} {d : Description} {m : ℕ} → Ready text records values decls (scan text).tokens d m → Spelled records (scan text).tokens
-    → 2 * indexEnd ≤ length room → BodiesView text records values decls room m
-ready-bodies {text} {d = d} {m = m} r spelled large = record {
-  stage = record { tokens = (scan text).tokens; description = d; declared = m; ready = r; spelled = spelled; fixed = λ i l e. (scanned-each text (tk Name (plainInfo 0)) i l e).1 };
+abbrev pub ready_bodies : {text records values decls room : List ℕ} {d : Description} {m : ℕ} → Ready text records values decls (scan text).tokens d m → Spelled records (scan text).tokens
+    → 2 * index_end ≤ length room → BodiesView text records values decls room m
+ready_bodies {text} {d = d} {m = m} r spelled large = record {
+  stage = record { tokens = (scan text).tokens; description = d; declared = m; ready = r; spelled = spelled; fixed = λ i l e. (scanned_each text (tk Name (plain_info 0)) i l e).1 };
   count = refl;
   large = large;
 }

@@ -4,67 +4,67 @@ use Rattle.std.proofs.Common.{sym, ap, ◌∙◌, subst, arith}
 use Rattle.std.proofs.Math.Option.{Option, none, some, none-ne-some, some-injective}
 use Rattle.std.proofs.Math.ListN.{get_elem?}
 use Rattle.cells.specs.Cells.{cell}
-use Rattle.rules.specs.Text.Tokens.{Info, Token, kindNo, Name}
+use Rattle.rules.specs.Text.Tokens.{Info, Token, kind_no, Name}
 use Rattle.rules.specs.Grammar.Trees.{Declaration}
-use Rattle.rules.specs.Limits.{longestChain}
-use Rattle.rules.specs.Declarations.{Word, declaredOf, number_of, body_of, bodyNumber}
-use Rattle.rules.specs.Faults.Whole.{mainName}
-use Rattle.bounds.specs.Cited.Counts.{endless, countDown}
+use Rattle.rules.specs.Limits.{longest_chain}
+use Rattle.rules.specs.Declarations.{Word, declared_of, number_of, body_of, body_number}
+use Rattle.rules.specs.Faults.Whole.{main_name}
+use Rattle.bounds.specs.Cited.Counts.{endless, count_down}
 use Rattle.bounds.specs.WalkLaws.{cut_low, count_none}
-use Rattle.records.specs.Holds.{kindByte}
+use Rattle.records.specs.Holds.{kind_byte}
 use Rattle.records.specs.Words.{word_at}
-use Rattle.table.specs.Declarations.{declarationList, all-declared}
+use Rattle.table.specs.Declarations.{declaration_list, all_declared}
 use Rattle.table.specs.Lookups.{nth}
 use Rattle.table.specs.Views.{MainAt}
-use Rattle.table.specs.Laws.Views.{name-token}
+use Rattle.table.specs.Laws.Views.{name_token}
 use Rattle.links.specs.Mains.{MainIn}
-use Rattle.links.specs.Laws.Mains.{Searching, view-at}
+use Rattle.links.specs.Laws.Mains.{Searching, view_at}
 use Rattle.reading.specs.Reading.{Reading, table_of}
 use Rattle.reading.specs.Laws.Names.{number_bound}
-use Rattle.reading.specs.Laws.Meanings.{table-size}
+use Rattle.reading.specs.Laws.Meanings.{table_size_lem}
 use Rattle.counting.specs.Holding.{enough}
-use Rattle.reading.specs.Indexes.{numberOr, index_of}
-use Rattle.walking.specs.Walking.{tableSize}
-use Rattle.bounding.specs.Filling.{Ready, countIn, ShortFrom, Blank, Fillable, Fills}
+use Rattle.reading.specs.Indexes.{number_or, index_of}
+use Rattle.walking.specs.Walking.{table_size}
+use Rattle.bounding.specs.Filling.{Ready, count_in, ShortFrom, Blank, Fillable, Fills}
 use Rattle.bounding.specs.Mains.{MainNamed, Longest}
-use Rattle.bounding.specs.Laws.Knowing.{no-chains}
+use Rattle.bounding.specs.Laws.Knowing.{no_chains}
 
 -- the first declaration with MAIN before its name has MAIN's name
-main-named : (list : List Declaration) (k : ℕ) (x : Declaration) (i : Info)
-    → ((j : ℕ) (y : Declaration) → get_elem? list j ≡ some y → j < k → (declaredOf y).mainly ≡ none) → get_elem? list k ≡ some x → (declaredOf x).mainly ≡ some i
-    → (declaredOf x).name.word ≡ mainName (map declaredOf list)
-unfolding mainName
-main-named [] k x i p h e = absurd (none-ne-some x h)
-main-named (y ∷ list) zero x i p h e =
+main_named : (list : List Declaration) (k : ℕ) (x : Declaration) (i : Info)
+    → ((j : ℕ) (y : Declaration) → get_elem? list j ≡ some y → j < k → (declared_of y).mainly ≡ none) → get_elem? list k ≡ some x → (declared_of x).mainly ≡ some i
+    → (declared_of x).name.word ≡ main_name (map declared_of list)
+unfolding main_name
+main_named [] k x i p h e = absurd (none-ne-some x h)
+main_named (y ∷ list) zero x i p h e =
     let q : y ≡ x = some-injective y x h in
-    let its : (declaredOf y).mainly ≡ some i = ap (λ (z : Declaration). (declaredOf z).mainly) q ∙ e in
-    ap (λ (z : Declaration). (declaredOf z).name.word) (sym q)
-    ∙ sym (ap (λ (o : Option Info). elim o [ none ↦ mainName (map declaredOf list) | some i ↦ (declaredOf y).name.word ]) its)
-main-named (y ∷ list) (suc k) x i p h e =
-    main-named list k x i (λ j z g l. p (suc j) z g (omega arith)) h e
-    ∙ sym (ap (λ (o : Option Info). elim o [ none ↦ mainName (map declaredOf list) | some i ↦ (declaredOf y).name.word ]) (p 0 y refl (omega arith)))
+    let its : (declared_of y).mainly ≡ some i = ap (λ (z : Declaration). (declared_of z).mainly) q ∙ e in
+    ap (λ (z : Declaration). (declared_of z).name.word) (sym q)
+    ∙ sym (ap (λ (o : Option Info). elim o [ none ↦ main_name (map declared_of list) | some i ↦ (declared_of y).name.word ]) its)
+main_named (y ∷ list) (suc k) x i p h e =
+    main_named list k x i (λ j z g l. p (suc j) z g (omega arith)) h e
+    ∙ sym (ap (λ (o : Option Info). elim o [ none ↦ main_name (map declared_of list) | some i ↦ (declared_of y).name.word ]) (p 0 y refl (omega arith)))
 
 module _ {records decls : List ℕ} {m k : ℕ} (s : Searching records decls m k) (more : k < m) {name : ℕ} (e : name ≡ cell 2 decls k) {r : ℕ}
-    (says : (v : MainIn records decls m) → MainAt v.tokens r (declaredOf (view-at s more e v).declaration).mainly) where
-  pub main-here : (r ≡ 0 → ⊥) → (v : MainIn records decls m) → MainNamed v name
-  main-here n v = by (declaredOf (view-at s more e v).declaration).mainly refl (says v)
+    (says : (v : MainIn records decls m) → MainAt v.tokens r (declared_of (view_at s more e v).declaration).mainly) where
+  pub main_here : (r ≡ 0 → ⊥) → (v : MainIn records decls m) → MainNamed v name
+  main_here n v = by (declared_of (view_at s more e v).declaration).mainly refl (says v)
     where
-      by : (o : Option Info) → (declaredOf (view-at s more e v).declaration).mainly ≡ o → MainAt v.tokens r o → MainNamed v name
+      by : (o : Option Info) → (declared_of (view_at s more e v).declaration).mainly ≡ o → MainAt v.tokens r o → MainNamed v name
       by none f z = absurd (n z)
       by (some i) f z =
-          let here = name-token (view-at s more e v).stands in
-          let x = nth (declarationList v.description) k (omega (arith, v.count)) in
+          let here = name_token (view_at s more e v).stands in
+          let x = nth (declaration_list v.description) k (omega (arith, v.count)) in
           record {
             within = here.0;
-            kind = (v.holds.entry name here.0).kind ∙ ap (λ (t : Token). kindNo t.kind) here.1;
+            kind = (v.holds.entry name here.0).kind ∙ ap (λ (t : Token). kind_no t.kind) here.1;
             named =
                 ap (λ (t : Token). t.info.word) here.1
-                ∙ (main-named (declarationList v.description) k x.declaration i (s.passed v) x.found f ∙ ap mainName (sym (all-declared v.description)));
+                ∙ (main_named (declaration_list v.description) k x.declaration i (s.passed v) x.found f ∙ ap main_name (sym (all_declared v.description)));
           }
 
 -- a description as the search for MAIN reads it
-abbrev pub main-in : {records decls : List ℕ} {m n : ℕ} → Ready records decls m n → MainIn records decls m
-main-in x =
+abbrev pub main_in : {records decls : List ℕ} {m n : ℕ} → Ready records decls m n → MainIn records decls m
+main_in x =
     let v = x.reading in
     record {
       text = v.text;
@@ -78,44 +78,44 @@ main-in x =
     }
 
 -- the table is blank
-pub to_fill : {records decls table new room : List ℕ} {m n : ℕ} → Ready records decls m n → tableSize ≤ length table → enough ≤ length room → Blank table new
+pub to_fill : {records decls table new room : List ℕ} {m n : ℕ} → Ready records decls m n → table_size ≤ length table → enough ≤ length room → Blank table new
     → Fillable records decls new room m n
-unfolding body_of bodyNumber
+unfolding body_of body_number
 to_fill {records} {decls} {new = new} {m = m} {n} x h s b = record {
   ready = x;
   right = λ v. record { counts = λ w a. by v w a (number_of (table_of v.reading) w) refl };
   last = λ z. let e = b.last in omega arith;
-  table-room = omega (arith, b.size);
+  table_room = omega (arith, b.size);
   space = s;
 }
   where
-    by : (v : Ready records decls m n) (w : Word) → (countIn v new w ≡ 0 → ⊥) → (o : Option ℕ) → number_of (table_of v.reading) w ≡ o
-        → cell 8 new (numberOr o) ≡ countDown (table_of v.reading) longestChain w
-    by v w a none e = b.last ∙ count_none (table_of v.reading) 15 w (ap (bodyNumber (table_of v.reading)) e)
+    by : (v : Ready records decls m n) (w : Word) → (count_in v new w ≡ 0 → ⊥) → (o : Option ℕ) → number_of (table_of v.reading) w ≡ o
+        → cell 8 new (number_or o) ≡ count_down (table_of v.reading) longest_chain w
+    by v w a none e = b.last ∙ count_none (table_of v.reading) 15 w (ap (body_number (table_of v.reading)) e)
     by v w a (some j) e =
         let small = number_bound (table_of v.reading) j w e in
-        absurd (a (ap (λ o. cell 8 new (numberOr o)) e ∙ b.clear j (omega (arith, table-size v.reading, v.reading.ready.few))))
+        absurd (a (ap (λ o. cell 8 new (number_or o)) e ∙ b.clear j (omega (arith, table_size_lem v.reading, v.reading.ready.few))))
 
 -- MAIN is filled in
 module _ {records decls table room : List ℕ} {m n name : ℕ} (x : Fillable records decls table room m n) (found : (v : MainIn records decls m) → MainNamed v name) where
-  pub main-within : name < n
-  main-within = omega (arith, (found (main-in x.ready)).within, x.ready.reading.count)
+  pub main_within : name < n
+  main_within = omega (arith, (found (main_in x.ready)).within, x.ready.reading.count)
 
-  pub main-kind : kindByte records name ≡ kindNo Name
-  main-kind = (found (main-in x.ready)).kind
+  pub main_kind : kind_byte records name ≡ kind_no Name
+  main_kind = (found (main_in x.ready)).kind
 
-  pub main-short : (v : Ready records decls m n) → ShortFrom v name 16
-  main-short v = no-chains (table_of v.reading) v.whole (word_at v.reading.tokens name)
+  pub main_short : (v : Ready records decls m n) → ShortFrom v name 16
+  main_short v = no_chains (table_of v.reading) v.whole (word_at v.reading.tokens name)
 
   module _ {new : List ℕ} {k c : ℕ} (f : Fills records decls table new m n name)
-      (index : (decls : List ℕ) (n : ℕ) (v : Reading records decls m n) → name < n → kindByte records name ≡ kindNo Name → k ≡ index_of (table_of v) (word_at v.tokens name))
+      (index : (decls : List ℕ) (n : ℕ) (v : Reading records decls m n) → name < n → kind_byte records name ≡ kind_no Name → k ≡ index_of (table_of v) (word_at v.tokens name))
       (at : c ≡ cell 8 new k) where
-    counted : (v : Ready records decls m n) → c ≡ countDown (table_of v.reading) longestChain (mainName (table_of v.reading))
+    counted : (v : Ready records decls m n) → c ≡ count_down (table_of v.reading) longest_chain (main_name (table_of v.reading))
     counted v =
         let w = word_at v.reading.tokens name in
         at
-        ∙ (ap (cell 8 new) (index decls n v.reading main-within main-kind)
-        ∙ ((f.grows.right v).counts w (f.done v).there ∙ ap (countDown (table_of v.reading) longestChain) (found (main-in v)).named))
+        ∙ (ap (cell 8 new) (index decls n v.reading main_within main_kind)
+        ∙ ((f.grows.right v).counts w (f.done v).there ∙ ap (count_down (table_of v.reading) longest_chain) (found (main_in v)).named))
 
-    pub the-longest : Longest records decls m n c
-    the-longest = record { low = subst (λ q. q ≤ endless) (sym (counted x.ready)) (cut_low _ _); is = counted }
+    pub the_longest : Longest records decls m n c
+    the_longest = record { low = subst (λ q. q ≤ endless) (sym (counted x.ready)) (cut_low _ _); is = counted }

@@ -12,8 +12,8 @@ returns : tie.Need-returns
 unfolding put_at
 returns c = refl
 
-pub put16-spec : {M : Type 1} → statement M
-put16-spec =
+pub put16_spec : {M : Type 1} → statement M
+put16_spec =
     tie.close
     (tie.spec
     (λ c. search rules)

@@ -12,8 +12,8 @@ returns : tie.Need-returns
 unfolding put_at
 returns c = simp add_assoc
 
-pub put64-spec : {M : Type 1} → statement M
-put64-spec =
+pub put64_spec : {M : Type 1} → statement M
+put64_spec =
     tie.close
     (tie.spec
     (λ c. search rules)

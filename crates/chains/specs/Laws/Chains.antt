@@ -5,36 +5,36 @@ use Rattle.std.proofs.Common.{ap₂, ◌∙◌, zero-add, suc-add, arith, eq-eqb
 use Rattle.std.proofs.Math.Bool.{or-false, and-true, and-false}
 use Rattle.std.proofs.Math.Option.{Option, none, some}
 use Rattle.std.proofs.Math.Decide.{dec_lt}
-use Rattle.rules.specs.Text.Tokens.{Name, kindNo}
-use Rattle.rules.specs.Declarations.{Word, Table, number_of, bodyNumber, body_of}
-use Rattle.rules.specs.Steps.Runs.{bodyAct, actOr}
-use Rattle.rules.specs.Whole.Sets.{callsIn, anyName, chainOver}
-use Rattle.records.specs.Holds.{kindByte, insideCell}
+use Rattle.rules.specs.Text.Tokens.{Name, kind_no}
+use Rattle.rules.specs.Declarations.{Word, Table, number_of, body_number, body_of}
+use Rattle.rules.specs.Steps.Runs.{body_act, act_or}
+use Rattle.rules.specs.Whole.Sets.{calls_in, any_name, chain_over}
+use Rattle.records.specs.Holds.{kind_byte, inside_cell}
 use Rattle.records.specs.Words.{word_at}
 use Rattle.reading.specs.Reading.{Reading, table_of}
 use Rattle.reading.specs.Laws.Reading.{kinded}
 use Rattle.reading.specs.Laws.Names.{number_bound}
-use Rattle.reading.specs.Laws.Meanings.{means-number, means-nothing}
+use Rattle.reading.specs.Laws.Meanings.{means_number, means_nothing}
 use Rattle.reading.specs.Events.{heard}
 use Rattle.reading.specs.Calls.{calls_of, NextCall}
-use Rattle.reading.specs.Bodies.{actAt, Body}
-use Rattle.reading.specs.Laws.Bodies.{body-calls, bodiless-calls}
+use Rattle.reading.specs.Bodies.{act_at, Body}
+use Rattle.reading.specs.Laws.Bodies.{body_calls, bodiless_calls}
 use Rattle.reading.specs.Bits.{holds}
-use Rattle.chains.specs.Chains.{inLevel, activatesOne, Levelled, number_in}
+use Rattle.chains.specs.Chains.{in_level, activates_one, Levelled, number_in}
 
-pub in_all : {records decls : List ℕ} {m n : ℕ} (i : ℕ) (w : List ℕ) {all : Bool} → all ≡ true → (v : Reading records decls m n) → true ≡ inLevel
+pub in_all : {records decls : List ℕ} {m n : ℕ} (i : ℕ) (w : List ℕ) {all : Bool} → all ≡ true → (v : Reading records decls m n) → true ≡ in_level
     (table_of v) w all (word_at v.tokens i)
-unfolding inLevel
+unfolding in_level
 in_all i w a v = sym (rw a)
 
-module _ {records decls : List ℕ} {m n i k : ℕ} (w : List ℕ) {all : Bool} (a : all ≡ false) (h : i < n) (e : kindByte records i ≡ kindNo Name) (q : k ≡ insideCell records i) where
-  pub in-none : m ≤ k → (v : Reading records decls m n) → false ≡ inLevel (table_of v) w all (word_at v.tokens i)
-  unfolding inLevel
-  in-none l v = sym (rw (a, means-nothing v i k h e q l))
+module _ {records decls : List ℕ} {m n i k : ℕ} (w : List ℕ) {all : Bool} (a : all ≡ false) (h : i < n) (e : kind_byte records i ≡ kind_no Name) (q : k ≡ inside_cell records i) where
+  pub in_none : m ≤ k → (v : Reading records decls m n) → false ≡ in_level (table_of v) w all (word_at v.tokens i)
+  unfolding in_level
+  in_none l v = sym (rw (a, means_nothing v i k h e q l))
 
-  pub in_some : {r : Bool} → k < m → r ≡ holds w k → (v : Reading records decls m n) → r ≡ inLevel (table_of v) w all (word_at v.tokens i)
-  unfolding inLevel
-  in_some l f v = f ∙ sym (rw (a, means-number v i k h e q l))
+  pub in_some : {r : Bool} → k < m → r ≡ holds w k → (v : Reading records decls m n) → r ≡ in_level (table_of v) w all (word_at v.tokens i)
+  unfolding in_level
+  in_some l f v = f ∙ sym (rw (a, means_number v i k h e q l))
 
 -- a walk along the activations of the action at `from`
 pub record Asking (records decls : List ℕ) (m n from : ℕ) (w : List ℕ) (all : Bool) (at depth mode : ℕ) : Type 0 where
@@ -42,77 +42,77 @@ pub record Asking (records decls : List ℕ) (m n from : ℕ) (w : List ℕ) (al
   pub counted : mode ≤ at + 1
   pub reading : Reading records decls m n
   pub left : (v : Reading records decls m n)
-      → anyName (inLevel (table_of v) w all) (calls_of (heard 0 0 (drop from v.tokens))) ≡ anyName (inLevel (table_of v) w all)
+      → any_name (in_level (table_of v) w all) (calls_of (heard 0 0 (drop from v.tokens))) ≡ any_name (in_level (table_of v) w all)
       (calls_of (heard depth mode (drop at v.tokens)))
 
-module _ {records decls : List ℕ} {m n from : ℕ} {w : List ℕ} {all : Bool} {at depth mode name next deep new-mode : ℕ}
-    (inv : Asking records decls m n from w all at depth mode) (c : NextCall records n at depth mode name next deep new-mode) where
-  pub asked-all : n ≤ name → (v : Reading records decls m n) → false ≡ anyName (inLevel (table_of v) w all) (calls_of (heard 0 0 (drop from v.tokens)))
-  unfolding anyName
-  asked-all h v = sym (inv.left v ∙ ap (anyName (inLevel (table_of v) w all)) (c.nothing h (kinded v)))
+module _ {records decls : List ℕ} {m n from : ℕ} {w : List ℕ} {all : Bool} {at depth mode name next deep new_mode : ℕ}
+    (inv : Asking records decls m n from w all at depth mode) (c : NextCall records n at depth mode name next deep new_mode) where
+  pub asked_all : n ≤ name → (v : Reading records decls m n) → false ≡ any_name (in_level (table_of v) w all) (calls_of (heard 0 0 (drop from v.tokens)))
+  unfolding any_name
+  asked_all h v = sym (inv.left v ∙ ap (any_name (in_level (table_of v) w all)) (c.nothing h (kinded v)))
 
   module _ (h : name < n) where
-    pub called-name : kindByte records name ≡ kindNo Name
-    called-name = (c.found h).is_name
+    pub called_name : kind_byte records name ≡ kind_no Name
+    called_name = (c.found h).is_name
 
-    pub fewer-left : n - next < n - at
-    fewer-left = let f = c.found h in omega (arith, f.low, f.high, f.within)
+    pub fewer_left : n - next < n - at
+    fewer_left = let f = c.found h in omega (arith, f.low, f.high, f.within)
 
-    module _ {r : Bool} (e : (v : Reading records decls m n) → r ≡ inLevel (table_of v) w all (word_at v.tokens name)) where
-      step : (v : Reading records decls m n) → anyName (inLevel (table_of v) w all) (calls_of (heard 0 0 (drop from v.tokens)))
-          ≡ (r || anyName (inLevel (table_of v) w all) (calls_of (heard deep new-mode (drop next v.tokens))))
-      unfolding anyName
+    module _ {r : Bool} (e : (v : Reading records decls m n) → r ≡ in_level (table_of v) w all (word_at v.tokens name)) where
+      step : (v : Reading records decls m n) → any_name (in_level (table_of v) w all) (calls_of (heard 0 0 (drop from v.tokens)))
+          ≡ (r || any_name (in_level (table_of v) w all) (calls_of (heard deep new_mode (drop next v.tokens))))
+      unfolding any_name
       step v =
-          inv.left v ∙ (ap (anyName (inLevel (table_of v) w all)) ((c.found h).calls (kinded v))
-          ∙ ap (λ (b : Bool). b || anyName (inLevel (table_of v) w all) (calls_of (heard deep new-mode (drop next v.tokens)))) (sym (e v)))
+          inv.left v ∙ (ap (any_name (in_level (table_of v) w all)) ((c.found h).calls (kinded v))
+          ∙ ap (λ (b : Bool). b || any_name (in_level (table_of v) w all) (calls_of (heard deep new_mode (drop next v.tokens)))) (sym (e v)))
 
-      pub asked-one : r ≡ true → (v : Reading records decls m n) → true ≡ anyName (inLevel (table_of v) w all) (calls_of (heard 0 0 (drop from v.tokens)))
-      asked-one t v = sym (step v ∙ rw t)
+      pub asked_one : r ≡ true → (v : Reading records decls m n) → true ≡ any_name (in_level (table_of v) w all) (calls_of (heard 0 0 (drop from v.tokens)))
+      asked_one t v = sym (step v ∙ rw t)
 
-      pub ask-on : r ≡ false → Asking records decls m n from w all next deep new-mode
-      ask-on t = record { shallow = (c.found h).shallow; counted = (c.found h).counted; reading = inv.reading; left = λ v. step v ∙ rw t }
+      pub ask_on : r ≡ false → Asking records decls m n from w all next deep new_mode
+      ask_on t = record { shallow = (c.found h).shallow; counted = (c.found h).counted; reading = inv.reading; left = λ v. step v ∙ rw t }
 
 -- the declaration k, with its body at b
 module _ {records decls : List ℕ} {m n k b : ℕ} (w : List ℕ) (all : Bool) (is : (v : Reading records decls m n) → Body v k b) where
-  pub no_body : b ≡ 0 → (v : Reading records decls m n) → false ≡ activatesOne (table_of v) (inLevel (table_of v) w all) k
-  unfolding activatesOne
-  no_body z v = sym (bodiless-calls (is v) (inLevel (table_of v) w all) z)
+  pub no_body : b ≡ 0 → (v : Reading records decls m n) → false ≡ activates_one (table_of v) (in_level (table_of v) w all) k
+  unfolding activates_one
+  no_body z v = sym (bodiless_calls (is v) (in_level (table_of v) w all) z)
 
-  pub its-body : {r : Bool} → (b ≡ 0 → ⊥) → ((v : Reading records decls m n) → r ≡ anyName (inLevel (table_of v) w all)
+  pub its_body : {r : Bool} → (b ≡ 0 → ⊥) → ((v : Reading records decls m n) → r ≡ any_name (in_level (table_of v) w all)
       (calls_of (heard 0 0 (drop b v.tokens))))
-      → (v : Reading records decls m n) → r ≡ activatesOne (table_of v) (inLevel (table_of v) w all) k
-  unfolding activatesOne
-  its-body z h v = h v ∙ body-calls (is v) (inLevel (table_of v) w all) z
+      → (v : Reading records decls m n) → r ≡ activates_one (table_of v) (in_level (table_of v) w all) k
+  unfolding activates_one
+  its_body z h v = h v ∙ body_calls (is v) (in_level (table_of v) w all) z
 
 -- a set with one more number, or not
 module _ (k : ℕ) {more : Bool} (s : List ℕ) where
-  pub grown-more : (o r : List ℕ) → more ≡ true → ((j : ℕ) → holds o j ≡ eqb j k) → ((j : ℕ) → holds r j ≡ (holds o j || holds s j))
+  pub grown_more : (o r : List ℕ) → more ≡ true → ((j : ℕ) → holds o j ≡ eqb j k) → ((j : ℕ) → holds r j ≡ (holds o j || holds s j))
       → (j : ℕ) → holds r j ≡ ((eqb j k && more) || holds s j)
-  grown-more o r t e h j = h j ∙ (ap (λ (b : Bool). b || holds s j) (e j ∙ sym (and-true (eqb j k))) ∙ ap (λ (b : Bool). (eqb j k && b) || holds s j) (sym t))
+  grown_more o r t e h j = h j ∙ (ap (λ (b : Bool). b || holds s j) (e j ∙ sym (and-true (eqb j k))) ∙ ap (λ (b : Bool). (eqb j k && b) || holds s j) (sym t))
 
-  pub grown-same : more ≡ false → (j : ℕ) → holds s j ≡ ((eqb j k && more) || holds s j)
-  grown-same f j = ap (λ (b : Bool). b || holds s j) (sym (and-false (eqb j k))) ∙ ap (λ (b : Bool). (eqb j k && b) || holds s j) (sym f)
+  pub grown_same : more ≡ false → (j : ℕ) → holds s j ≡ ((eqb j k && more) || holds s j)
+  grown_same f j = ap (λ (b : Bool). b || holds s j) (sym (and-false (eqb j k))) ∙ ap (λ (b : Bool). (eqb j k && b) || holds s j) (sym f)
 
 -- the level of the declarations before k
 pub record Rising (records decls : List ℕ) (m n : ℕ) (w : List ℕ) (all : Bool) (set : List ℕ) (k : ℕ) : Type 0 where
   pub within : k ≤ m
   pub reading : Reading records decls m n
-  pub so_far : (v : Reading records decls m n) (j : ℕ) → holds set j ≡ (ltb j k && activatesOne (table_of v) (inLevel (table_of v) w all) j)
+  pub so_far : (v : Reading records decls m n) (j : ℕ) → holds set j ≡ (ltb j k && activates_one (table_of v) (in_level (table_of v) w all) j)
 
-pub none-rising : {records decls : List ℕ} {m n : ℕ} (w : List ℕ) (all : Bool) (set : List ℕ) → Reading records decls m n → ((k : ℕ) → holds set k ≡ false)
+pub none_rising : {records decls : List ℕ} {m n : ℕ} (w : List ℕ) (all : Bool) (set : List ℕ) → Reading records decls m n → ((k : ℕ) → holds set k ≡ false)
     → Rising records decls m n w all set 0
-none-rising w all set x h = record {
+none_rising w all set x h = record {
   within = omega arith;
   reading = x;
-  so_far = λ v j. h j ∙ sym (ap (λ (b : Bool). b && activatesOne (table_of v) (inLevel (table_of v) w all) j) (le-ltb j 0 (omega arith)));
+  so_far = λ v j. h j ∙ sym (ap (λ (b : Bool). b && activates_one (table_of v) (in_level (table_of v) w all) j) (le-ltb j 0 (omega arith)));
 }
 
 module _ {records decls : List ℕ} {m n : ℕ} {w : List ℕ} {all : Bool} {set : List ℕ} {k : ℕ} (inv : Rising records decls m n w all set k) where
-  pub risen : m ≤ k → (v : Reading records decls m n) (j : ℕ) → holds set j ≡ (ltb j m && activatesOne (table_of v) (inLevel (table_of v) w all) j)
+  pub risen : m ≤ k → (v : Reading records decls m n) (j : ℕ) → holds set j ≡ (ltb j m && activates_one (table_of v) (in_level (table_of v) w all) j)
   risen h v j = let e : k ≡ m = omega (arith, inv.within) in inv.so_far v j ∙ ap
-      (λ (x : ℕ). ltb j x && activatesOne (table_of v) (inLevel (table_of v) w all) j) e
+      (λ (x : ℕ). ltb j x && activates_one (table_of v) (in_level (table_of v) w all) j) e
 
-  pub rise : {r : Bool} (t : List ℕ) → k < m → ((v : Reading records decls m n) → r ≡ activatesOne (table_of v) (inLevel (table_of v) w all) k)
+  pub rise : {r : Bool} (t : List ℕ) → k < m → ((v : Reading records decls m n) → r ≡ activates_one (table_of v) (in_level (table_of v) w all) k)
       → ((j : ℕ) → holds t j ≡ ((eqb j k && r) || holds set j)) → Rising records decls m n w all t (k + 1)
   rise {r} t l e h = record {
     within = omega arith;
@@ -121,50 +121,50 @@ module _ {records decls : List ℕ} {m n : ℕ} {w : List ℕ} {all : Bool} {set
   }
     where
       by : (v : Reading records decls m n) (j : ℕ) → Dec (j < k) → Dec (k < j)
-          → ((eqb j k && r) || (ltb j k && activatesOne (table_of v) (inLevel (table_of v) w all) j))
-          ≡ (ltb j (k + 1) && activatesOne (table_of v) (inLevel (table_of v) w all) j)
+          → ((eqb j k && r) || (ltb j k && activates_one (table_of v) (in_level (table_of v) w all) j))
+          ≡ (ltb j (k + 1) && activates_one (table_of v) (in_level (table_of v) w all) j)
       by v j (yes p) _ = rw (ne_eqb j k (λ q. omega arith), lt-ltb j k p, lt-ltb j (k + 1) (omega arith))
       by v j (no p) (yes q) = rw (ne_eqb j k (λ z. omega arith), le-ltb j k (omega arith), le-ltb j (k + 1) (omega arith))
       by v j (no p) (no q) =
           let z : j ≡ k = omega arith in
           rw (z, eq-eqb k k refl, le-ltb k k (omega arith), lt-ltb k (k + 1) (omega arith)) (or-false r ∙ e v)
 
-any_same : (p q : Word → Bool) (ns : List Word) → ((n : Word) → p n ≡ q n) → anyName p ns ≡ anyName q ns
-unfolding anyName
+any_same : (p q : Word → Bool) (ns : List Word) → ((n : Word) → p n ≡ q n) → any_name p ns ≡ any_name q ns
+unfolding any_name
 any_same p q [] h = refl
 any_same p q (n ∷ ns) h = ap₂ ◌||◌ (h n) (any_same p q ns h)
 
 pub level_all : (ds : Table) (w : List ℕ) → Levelled ds w true 0
-unfolding chainOver inLevel
+unfolding chain_over in_level
 level_all ds w = record { chains = λ n. refl }
 
-pub level-more : (ds : Table) (m k : ℕ) (w r : List ℕ) (all : Bool) → length ds ≡ m → Levelled ds w all k
-    → ((j : ℕ) → holds r j ≡ (ltb j m && activatesOne ds (inLevel ds w all) j)) → Levelled ds r false (suc k)
-unfolding chainOver bodyAct body_of bodyNumber inLevel activatesOne callsIn anyName
-level-more ds m k w r all size x h = record { chains = λ n. by (number_of ds n) (λ j e. omega (arith, number_bound ds j n e)) }
+pub level_more : (ds : Table) (m k : ℕ) (w r : List ℕ) (all : Bool) → length ds ≡ m → Levelled ds w all k
+    → ((j : ℕ) → holds r j ≡ (ltb j m && activates_one ds (in_level ds w all) j)) → Levelled ds r false (suc k)
+unfolding chain_over body_act body_of body_number in_level activates_one calls_in any_name
+level_more ds m k w r all size x h = record { chains = λ n. by (number_of ds n) (λ j e. omega (arith, number_bound ds j n e)) }
   where
-    by : (q : Option ℕ) → ((j : ℕ) → q ≡ some j → j < m) → anyName (chainOver ds k) (callsIn (actOr (bodyNumber ds q))) ≡ number_in r q
+    by : (q : Option ℕ) → ((j : ℕ) → q ≡ some j → j < m) → any_name (chain_over ds k) (calls_in (act_or (body_number ds q))) ≡ number_in r q
     by none small = refl
     by (some j) small =
-        any_same (chainOver ds k) (inLevel ds w all) (callsIn (actAt ds j)) x.chains
-        ∙ sym (h j ∙ ap (λ (b : Bool). b && activatesOne ds (inLevel ds w all) j) (lt-ltb j m (small j refl)))
+        any_same (chain_over ds k) (in_level ds w all) (calls_in (act_at ds j)) x.chains
+        ∙ sym (h j ∙ ap (λ (b : Bool). b && activates_one ds (in_level ds w all) j) (lt-ltb j m (small j refl)))
 
 -- where no chain is over k bodies long, none is over more
-none_any : (p : Word → Bool) (ns : List Word) → ((n : Word) → p n ≡ false) → anyName p ns ≡ false
-unfolding anyName
+none_any : (p : Word → Bool) (ns : List Word) → ((n : Word) → p n ≡ false) → any_name p ns ≡ false
+unfolding any_name
 none_any p [] h = refl
 none_any p (n ∷ ns) h = ap₂ ◌||◌ (h n) (none_any p ns h)
 
-vanished : (ds : Table) (k i : ℕ) → ((n : Word) → chainOver ds k n ≡ false) → (n : Word) → chainOver ds (i + k) n ≡ false
-unfolding chainOver
-vanished ds k zero h n = ap (λ (x : ℕ). chainOver ds x n) (zero-add k) ∙ h n
-vanished ds k (suc i) h n = ap (λ (x : ℕ). chainOver ds x n) (suc-add i k) ∙ none_any (chainOver ds (i + k)) (callsIn (bodyAct ds n)) (vanished ds k i h)
+vanished : (ds : Table) (k i : ℕ) → ((n : Word) → chain_over ds k n ≡ false) → (n : Word) → chain_over ds (i + k) n ≡ false
+unfolding chain_over
+vanished ds k zero h n = ap (λ (x : ℕ). chain_over ds x n) (zero-add k) ∙ h n
+vanished ds k (suc i) h n = ap (λ (x : ℕ). chain_over ds x n) (suc-add i k) ∙ none_any (chain_over ds (i + k)) (calls_in (body_act ds n)) (vanished ds k i h)
 
-pub level-none : (ds : Table) (k l : ℕ) (w : List ℕ) → k ≤ l → Levelled ds w false k → ((j : ℕ) → holds w j ≡ false) → Levelled ds w false l
-unfolding inLevel
-level-none ds k l w h x e = record {
+pub level_none : (ds : Table) (k l : ℕ) (w : List ℕ) → k ≤ l → Levelled ds w false k → ((j : ℕ) → holds w j ≡ false) → Levelled ds w false l
+unfolding in_level
+level_none ds k l w h x e = record {
   chains = λ n.
-      ap (λ (y : ℕ). chainOver ds y n) (let q : l ≡ (l - k) + k = omega arith in q)
+      ap (λ (y : ℕ). chain_over ds y n) (let q : l ≡ (l - k) + k = omega arith in q)
       ∙ (vanished ds k (l - k) (λ z. x.chains z ∙ by (number_of ds z)) n ∙ sym (by (number_of ds n)));
 }
   where

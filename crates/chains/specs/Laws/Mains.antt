@@ -7,119 +7,119 @@ use Rattle.std.proofs.Math.Option.{Option, none, some}
 use Rattle.std.proofs.Math.ListN.{length}
 use Rattle.cells.specs.Cells.{cell}
 use Rattle.rules.specs.Text.Tokens.{Info, Token}
-use Rattle.rules.specs.Declarations.{Declared, Table, declaredOf}
+use Rattle.rules.specs.Declarations.{Declared, Table, declared_of}
 use Rattle.rules.specs.Faults.Fault.{fault, when}
 use Rattle.rules.specs.Faults.Whole.{mains}
-use Rattle.records.specs.Holds.{placeCell}
+use Rattle.records.specs.Holds.{place_cell}
 use Rattle.table.specs.Views.{View, MainAt}
-use Rattle.keys.specs.Keys.{noKey, numberKey, leastNumberKey}
-use Rattle.keys.specs.Laws.Keys.{least-append, least-bounded, least-none}
+use Rattle.keys.specs.Keys.{no_key, number_key, least_number_key}
+use Rattle.keys.specs.Laws.Keys.{least_append, least_bounded, least_none}
 use Rattle.reading.specs.Reading.{Reading, table_of}
 use Rattle.reading.specs.Meanings.{declares}
-use Rattle.reading.specs.Laws.Meanings.{view, table-size}
-use Rattle.chains.specs.Laws.Least.{when-key, next-declared, name-there}
-use Rattle.chains.specs.Mains.{Mainly, secondMain}
+use Rattle.reading.specs.Laws.Meanings.{view, table_size_lem}
+use Rattle.chains.specs.Laws.Least.{when_key, next_declared, name_there}
+use Rattle.chains.specs.Mains.{Mainly, second_main}
 
-pub main-there : {records decls : List ℕ} {m n k p r : ℕ} → Reading records decls m n → k < m → p ≡ cell 2 decls k
-    → ((values : List ℕ) (w : View records values p) → MainAt w.tokens r (declaredOf w.declaration).mainly) → Mainly records decls m n k r
-main-there {records} {decls} {m} {n} {k} {p} {r} x l at f = record {
-  within = by (declaredOf (declares x k l).declaration).mainly (there x l);
+pub main_there : {records decls : List ℕ} {m n k p r : ℕ} → Reading records decls m n → k < m → p ≡ cell 2 decls k
+    → ((values : List ℕ) (w : View records values p) → MainAt w.tokens r (declared_of w.declaration).mainly) → Mainly records decls m n k r
+main_there {records} {decls} {m} {n} {k} {p} {r} x l at f = record {
+  within = by (declared_of (declares x k l).declaration).mainly (there x l);
   is = there;
 }
   where
-    there : (v : Reading records decls m n) (h : k < m) → MainAt v.tokens r (declaredOf (declares v k h).declaration).mainly
-    there v h = subst (λ (p : ℕ). (values : List ℕ) (w : View records values p) → MainAt w.tokens r (declaredOf w.declaration).mainly) at f v.values
+    there : (v : Reading records decls m n) (h : k < m) → MainAt v.tokens r (declared_of (declares v k h).declaration).mainly
+    there v h = subst (λ (p : ℕ). (values : List ℕ) (w : View records values p) → MainAt w.tokens r (declared_of w.declaration).mainly) at f v.values
         (view v k h)
 
     by : (o : Option Info) → MainAt x.tokens r o → r < n
-    by none z = omega (arith, (name-there l at x).0, x.count, z)
+    by none z = omega (arith, (name_there l at x).0, x.count, z)
     by (some i) z = omega (arith, z.1.0, x.count)
 
 module _ {records decls : List ℕ} {m n at : ℕ} (seen : Bool) where
-  pub second_none : at ≡ 0 → (v : Reading records decls m n) (x : Option Info) → MainAt v.tokens at x → noKey ≡ leastNumberKey (secondMain seen x)
-  second_none z v none h = sym (least-none numberKey)
+  pub second_none : at ≡ 0 → (v : Reading records decls m n) (x : Option Info) → MainAt v.tokens at x → no_key ≡ least_number_key (second_main seen x)
+  second_none z v none h = sym (least_none number_key)
   second_none z v (some i) h = absurd (omega (arith, h.0))
 
-  module _ {p : ℕ} (within : at < n) (q : p ≡ placeCell records at) where
-    pub second-small : Reading records decls m n → p ≤ 32768
-    second-small v = let y = v.ready.holds.entry at (omega (arith, v.count)) in omega (arith, y.place, y.inside, v.ready.holds.short)
+  module _ {p : ℕ} (within : at < n) (q : p ≡ place_cell records at) where
+    pub second_small : Reading records decls m n → p ≤ 32768
+    second_small v = let y = v.ready.holds.entry at (omega (arith, v.count)) in omega (arith, y.place, y.inside, v.ready.holds.short)
 
-    pub second-again : {key : ℕ} → (at ≡ 0 → ⊥) → seen ≡ true → key ≡ numberKey (fault 50 p) → (v : Reading records decls m n) (x : Option Info) → MainAt
+    pub second_again : {key : ℕ} → (at ≡ 0 → ⊥) → seen ≡ true → key ≡ number_key (fault 50 p) → (v : Reading records decls m n) (x : Option Info) → MainAt
         v.tokens at x
-        → key ≡ leastNumberKey (secondMain seen x)
-    second-again z e f v none h = absurd (z h)
-    second-again z e f v (some i) h =
-        f ∙ (sym (when-key true 50 p (omega arith) (second-small v))
-        ∙ ap₂ (λ (b : Bool) (y : ℕ). leastNumberKey (when b 50 y)) (sym e)
+        → key ≡ least_number_key (second_main seen x)
+    second_again z e f v none h = absurd (z h)
+    second_again z e f v (some i) h =
+        f ∙ (sym (when_key true 50 p (omega arith) (second_small v))
+        ∙ ap₂ (λ (b : Bool) (y : ℕ). least_number_key (when b 50 y)) (sym e)
         (q ∙ ((v.ready.holds.entry at (omega (arith, v.count))).place ∙ ap (λ (t : Token). t.info.place) h.1.1)))
 
-pub second-first : {records decls : List ℕ} {m n : ℕ} (seen : Bool) (at : ℕ) → seen ≡ false → (v : Reading records decls m n) (x : Option Info) → MainAt
+pub second_first : {records decls : List ℕ} {m n : ℕ} (seen : Bool) (at : ℕ) → seen ≡ false → (v : Reading records decls m n) (x : Option Info) → MainAt
     v.tokens at x
-    → noKey ≡ leastNumberKey (secondMain seen x)
-second-first seen at e v none h = sym (least-none numberKey)
-second-first seen at e v (some i) h = sym (ap (λ (b : Bool). leastNumberKey (when b 50 i.place)) e ∙ least-none numberKey)
+    → no_key ≡ least_number_key (second_main seen x)
+second_first seen at e v none h = sym (least_none number_key)
+second_first seen at e v (some i) h = sym (ap (λ (b : Bool). least_number_key (when b 50 i.place)) e ∙ least_none number_key)
 
 -- whether MAIN is seen at last
-pub met-unseen : {seen : Bool} (at : ℕ) → seen ≡ false → not (eqb at 0) ≡ (seen || not (eqb at 0))
-met-unseen at e = sym (rw e)
+pub met_unseen : {seen : Bool} (at : ℕ) → seen ≡ false → not (eqb at 0) ≡ (seen || not (eqb at 0))
+met_unseen at e = sym (rw e)
 
-pub main-present : {seen : Bool} → seen ≡ true → noKey ≡ leastNumberKey (when (not seen) 50 0)
-main-present e = sym (rw e (least-none numberKey))
+pub main_present : {seen : Bool} → seen ≡ true → no_key ≡ least_number_key (when (not seen) 50 0)
+main_present e = sym (rw e (least_none number_key))
 
-pub main-missing : {seen : Bool} {key : ℕ} → seen ≡ false → key ≡ numberKey (fault 50 0) → key ≡ leastNumberKey (when (not seen) 50 0)
-main-missing e f = f ∙ sym (rw e (when-key true 50 0 (omega arith) (omega arith)))
+pub main_missing : {seen : Bool} {key : ℕ} → seen ≡ false → key ≡ number_key (fault 50 0) → key ≡ least_number_key (when (not seen) 50 0)
+main_missing e f = f ∙ sym (rw e (when_key true 50 0 (omega arith) (omega arith)))
 
 -- the declarations before k are read
 pub record Seeing (records decls : List ℕ) (m n key : ℕ) (seen : Bool) (k : ℕ) : Type 0 where
   pub within : k ≤ m
-  pub small : key ≤ noKey
+  pub small : key ≤ no_key
   pub reading : Reading records decls m n
-  pub so_far : (v : Reading records decls m n) → min key (leastNumberKey (mains seen (drop k (table_of v)))) ≡ leastNumberKey (mains false (table_of v))
+  pub so_far : (v : Reading records decls m n) → min key (least_number_key (mains seen (drop k (table_of v)))) ≡ least_number_key (mains false (table_of v))
 
-pub none_seen : {records decls : List ℕ} {m n : ℕ} → Reading records decls m n → Seeing records decls m n noKey false 0
-none_seen x = record { within = omega arith; small = omega arith; reading = x; so_far = λ v. omega (arith, least-bounded numberKey (mains false (table_of v))) }
+pub none_seen : {records decls : List ℕ} {m n : ℕ} → Reading records decls m n → Seeing records decls m n no_key false 0
+none_seen x = record { within = omega arith; small = omega arith; reading = x; so_far = λ v. omega (arith, least_bounded number_key (mains false (table_of v))) }
 
-met-none : (seen : Bool) (at : ℕ) → at ≡ 0 → (seen || not (eqb at 0)) ≡ seen
-met-none seen at z = ap (λ (b : Bool). seen || not b) (eq-eqb at 0 z) ∙ or-false seen
+met_none : (seen : Bool) (at : ℕ) → at ≡ 0 → (seen || not (eqb at 0)) ≡ seen
+met_none seen at z = ap (λ (b : Bool). seen || not b) (eq-eqb at 0 z) ∙ or-false seen
 
 met_some : (seen : Bool) (at : ℕ) → 0 < at → (seen || not (eqb at 0)) ≡ true
 met_some seen at z = ap (λ (b : Bool). seen || not b) (ne_eqb at 0 (λ e. omega arith)) ∙ or-true seen
 
 one_more : (seen : Bool) (at : ℕ) (d : Declared) (ds : Table) (ts : List Token) → MainAt ts at d.mainly
-    → leastNumberKey (mains seen (d ∷ ds)) ≡ min (leastNumberKey (secondMain seen d.mainly)) (leastNumberKey (mains (seen || not (eqb at 0)) ds))
+    → least_number_key (mains seen (d ∷ ds)) ≡ min (least_number_key (second_main seen d.mainly)) (least_number_key (mains (seen || not (eqb at 0)) ds))
 unfolding mains
 one_more seen at d ds ts h = by d.mainly h
   where
-    by : (x : Option Info) → MainAt ts at x → leastNumberKey (elim x [ none ↦ mains seen ds | some i ↦ when seen 50 i.place ++ mains true ds ])
-        ≡ min (leastNumberKey (secondMain seen x)) (leastNumberKey (mains (seen || not (eqb at 0)) ds))
+    by : (x : Option Info) → MainAt ts at x → least_number_key (elim x [ none ↦ mains seen ds | some i ↦ when seen 50 i.place ++ mains true ds ])
+        ≡ min (least_number_key (second_main seen x)) (least_number_key (mains (seen || not (eqb at 0)) ds))
     by none z =
-        let e : leastNumberKey (mains (seen || not (eqb at 0)) ds) ≡ leastNumberKey (mains seen ds) = ap (λ (b : Bool). leastNumberKey (mains b ds)) (met-none seen at z) in
-        omega (arith, least-none numberKey, least-bounded numberKey (mains seen ds))
+        let e : least_number_key (mains (seen || not (eqb at 0)) ds) ≡ least_number_key (mains seen ds) = ap (λ (b : Bool). least_number_key (mains b ds)) (met_none seen at z) in
+        omega (arith, least_none number_key, least_bounded number_key (mains seen ds))
     by (some i) z =
-        least-append numberKey (when seen 50 i.place) (mains true ds)
-        ∙ ap (λ (b : Bool). min (leastNumberKey (when seen 50 i.place)) (leastNumberKey (mains b ds))) (sym (met_some seen at z.0))
+        least_append number_key (when seen 50 i.place) (mains true ds)
+        ∙ ap (λ (b : Bool). min (least_number_key (when seen 50 i.place)) (least_number_key (mains b ds))) (sym (met_some seen at z.0))
 
 module _ {records decls : List ℕ} {m n key : ℕ} {seen : Bool} {k : ℕ} (inv : Seeing records decls m n key seen k) where
-  pub see-more : {at r next : ℕ} {s : Bool} → k < m → Mainly records decls m n k at
-      → ((v : Reading records decls m n) (x : Option Info) → MainAt v.tokens at x → r ≡ leastNumberKey (secondMain seen x))
+  pub see_more : {at r next : ℕ} {s : Bool} → k < m → Mainly records decls m n k at
+      → ((v : Reading records decls m n) (x : Option Info) → MainAt v.tokens at x → r ≡ least_number_key (second_main seen x))
       → next ≡ min key r → s ≡ (seen || not (eqb at 0)) → Seeing records decls m n next s (k + 1)
-  see-more {at} {r} {next} {s} h x f q e = record {
+  see_more {at} {r} {next} {s} h x f q e = record {
     within = omega arith;
     small = omega (arith, inv.small);
     reading = inv.reading;
     so_far = λ v.
-        let d = declaredOf (declares v k h).declaration in
+        let d = declared_of (declares v k h).declaration in
         let rest = drop (k + 1) (table_of v) in
         let z = x.is v h in
-        let l : leastNumberKey (mains seen (drop k (table_of v))) ≡ min r (leastNumberKey (mains s rest)) =
-        ap (λ (l : Table). leastNumberKey (mains seen l)) (next-declared v k h) ∙ (one_more seen at d rest v.tokens z
-        ∙ ap₂ (λ (y : ℕ) (b : Bool). min y (leastNumberKey (mains b rest))) (sym (f v d.mainly z)) (sym e)) in
+        let l : least_number_key (mains seen (drop k (table_of v))) ≡ min r (least_number_key (mains s rest)) =
+        ap (λ (l : Table). least_number_key (mains seen l)) (next_declared v k h) ∙ (one_more seen at d rest v.tokens z
+        ∙ ap₂ (λ (y : ℕ) (b : Bool). min y (least_number_key (mains b rest))) (sym (f v d.mainly z)) (sym e)) in
         omega (arith, inv.so_far v);
   }
 
-  pub all_seen : {r last : ℕ} → m ≤ k → last ≡ leastNumberKey (when (not seen) 50 0) → r ≡ min key last → (v : Reading records decls m n) → r ≡ leastNumberKey
+  pub all_seen : {r last : ℕ} → m ≤ k → last ≡ least_number_key (when (not seen) 50 0) → r ≡ min key last → (v : Reading records decls m n) → r ≡ least_number_key
       (mains false (table_of v))
   unfolding mains
   all_seen h e q v =
-      let past : length (table_of v) ≤ k = omega (arith, table-size v) in
-      q ∙ (ap (min key) (e ∙ sym (ap (λ (l : Table). leastNumberKey (mains seen l)) (drop_of_length-le (table_of v) past))) ∙ inv.so_far v)
+      let past : length (table_of v) ≤ k = omega (arith, table_size_lem v) in
+      q ∙ (ap (min key) (e ∙ sym (ap (λ (l : Table). least_number_key (mains seen l)) (drop_of_length-le (table_of v) past))) ∙ inv.so_far v)

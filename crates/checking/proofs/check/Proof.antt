@@ -2,22 +2,22 @@
 -- Assumes nothing.
 use borrow.Author.Rules.{rules}
 use Rattle.lent.specs.Laws.Measured.{fits}
-use Rattle.lent.specs.Laws.Settled.{settled-from}
-use Rattle.checking.specs.Laws.Checked.{answers-call, unread-call}
+use Rattle.lent.specs.Laws.Settled.{settled_from}
+use Rattle.checking.specs.Laws.Checked.{answers_call, unread_call}
 use Rattle.checking.proofs.check.Statement.{statement}
 use Rattle.checking.proofs.check.Tie as tie
 
 returns : tie.Need-returns
-returns c = unread-call c.before.unread.ensures c.if1.true
+returns c = unread_call c.before.unread.ensures c.if1.true
 
-checked-requires : tie.Need-checked-requires
-checked-requires c κs =
+checked_requires : tie.Need-checked-requires
+checked_requires c κs =
     let t = c.before.before.before in
     let f = fits t.before.unread.ensures t.if1.false in
-    (f.1, (f.0.work-a, (f.0.work-b, f.0.work-c)))
+    (f.1, (f.0.work_a, (f.0.work_b, f.0.work_c)))
 
-settle-requires : tie.Need-settle-requires
-settle-requires c κs =
+settle_requires : tie.Need-settle-requires
+settle_requires c κs =
     let t = c.before.before.before.before.before.before.before.before.before.before.before.before.before.before in
     (fits t.before.unread.ensures t.if1.false).0.answer
 
@@ -27,10 +27,10 @@ returns-2 c =
     let k = s.before.before.before.before.before.before.before.before.before.before.before in
     let t = k.before.before.before.before in
     let f = fits t.before.unread.ensures t.if1.false in
-    answers-call f.0 f.1 k.checked.ensures (settled-from s.settle.ensures (search rules) (search rules) (search rules))
+    answers_call f.0 f.1 k.checked.ensures (settled_from s.settle.ensures (search rules) (search rules) (search rules))
 
-pub check-spec : {M : Type 1} → statement M
-check-spec =
+pub check_spec : {M : Type 1} → statement M
+check_spec =
     tie.close
     (tie.spec
     (λ c κs. search rules)
@@ -39,8 +39,8 @@ check-spec =
     (λ c. search rules)
     (λ c. search rules)
     returns
-    checked-requires
-    settle-requires
+    checked_requires
+    settle_requires
     (λ c. search rules)
     (λ c. search rules)
     (λ c. search rules)

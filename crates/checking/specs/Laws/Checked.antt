@@ -2,33 +2,33 @@
 -- Assumes nothing.
 use Rattle.std.specs.Prelude.{ℕ, ◌≤◌, ◌≡◌, refl, List, length}
 use Rattle.std.proofs.Common.{sym, ap, ◌∙◌, arith}
-use Rattle.rules.specs.Limits.{longestText}
-use Rattle.rules.specs.Answers.{Verdict as Answered, accepted, refused, verdictNumbers}
+use Rattle.rules.specs.Limits.{longest_text}
+use Rattle.rules.specs.Answers.{Verdict as Answered, accepted, refused, verdict_numbers}
 use Rattle.rules.specs.Calls.Memory.{Memory, Enough, settled}
-use Rattle.rules.specs.Calls.Check.{CheckCall, answer, verdictNumber}
+use Rattle.rules.specs.Calls.Check.{CheckCall, answer, verdict_number}
 use Rattle.rules.specs.Calls.Check as call
-use Rattle.lent.specs.Numbers.{numbersOf}
-use Rattle.lent.specs.Measured.{Unread, short-memory, long-text, none}
+use Rattle.lent.specs.Numbers.{numbers_of}
+use Rattle.lent.specs.Measured.{Unread, short_memory, long_text, none}
 use Rattle.lent.specs.Settled.{Settled}
 use Rattle.lent.specs.Laws.Settled.{settled_same}
 use Rattle.lent.specs.declared.answers.Answer.{Answer}
 use Rattle.reader.specs.Judged.{Judges, accepts, refuses}
 use Rattle.reader.specs.declared.judging.Verdict.{Verdict}
 use Rattle.reader.specs.declared.judging.Verdict.TheVariants.{Accepted, Refused}
-use Rattle.checking.specs.Checked.{verdictOf, Near, Told}
+use Rattle.checking.specs.Checked.{verdict_of, Near, Told}
 
 -- the numbers of a verdict, by its case
-pub numbers-by : (text : List ℕ) {v w : Verdict} {ns : List ℕ} → ns ≡ verdictNumbers text (verdictOf w) → v ≡ w → ns ≡ verdictNumbers text (verdictOf v)
-numbers-by text e q = e ∙ sym (ap (λ x. verdictNumbers text (verdictOf x)) q)
+pub numbers_by : (text : List ℕ) {v w : Verdict} {ns : List ℕ} → ns ≡ verdict_numbers text (verdict_of w) → v ≡ w → ns ≡ verdict_numbers text (verdict_of v)
+numbers_by text e q = e ∙ sym (ap (λ x. verdict_numbers text (verdict_of x)) q)
 
-pub refused-near : {v : Verdict} {m p : ℕ} → Near v → v ≡ Refused m p → p ≤ longestText
-refused-near h e = rw e at h
+pub refused_near : {v : Verdict} {m p : ℕ} → Near v → v ≡ Refused m p → p ≤ longest_text
+refused_near h e = rw e at h
 
-pub accepted-near : {v : Verdict} {m w n : ℕ} → Near v → v ≡ Accepted m w n → (m ≤ 65536) × (w ≤ 65536)
-accepted-near h e = rw e at h
+pub accepted_near : {v : Verdict} {m w n : ℕ} → Near v → v ≡ Accepted m w n → (m ≤ 65536) × (w ≤ 65536)
+accepted_near h e = rw e at h
 
 -- from the reader's verdict
-pub told : {text records values decls : List ℕ} {v : Verdict} {a : Answer} → Judges text records values decls v → numbersOf a ≡ verdictNumbers text (verdictOf v) → Told text a
+pub told : {text records values decls : List ℕ} {v : Verdict} {a : Answer} → Judges text records values decls v → numbers_of a ≡ verdict_numbers text (verdict_of v) → Told text a
 told (accepts h) e = record { verdict = _; checks = h.verdict; is = e }
 told (refuses h) e = record { verdict = _; checks = h.checks; is = e }
 
@@ -37,18 +37,18 @@ near (accepts h) = (omega (arith, h.lawful.declares.ready.few), omega (arith, h.
 near (refuses h) = h.near
 
 -- the number of an answer is the second of its numbers
-pub number_is : (text : List ℕ) (v : Answered) (a : Answer) → numbersOf a ≡ verdictNumbers text v → a.number ≡ verdictNumber v
+pub number_is : (text : List ℕ) (v : Answered) (a : Answer) → numbers_of a ≡ verdict_numbers text v → a.number ≡ verdict_number v
 number_is text (accepted m w) a e = cc
 number_is text (refused m p) a e = cc
 
 -- the whole call
-pub answers-call : {text : List ℕ} {before after : Memory} {found : Answer} → Enough before → length text ≤ longestText → Told text found → Settled before after found
+pub answers_call : {text : List ℕ} {before after : Memory} {found : Answer} → Enough before → length text ≤ longest_text → Told text found → Settled before after found
     → CheckCall text before after found.number
-answers-call {text} {before} {after} {found} enough short t s =
+answers_call {text} {before} {after} {found} enough short t s =
     answer t.verdict enough short t.checks (number_is text t.verdict found t.is) (settled_same s ∙ ap (λ ns. settled ns before) t.is)
 
 -- a call that reads no text
-pub unread-call : {text : List ℕ} {number : ℕ} {m : Memory} → Unread text m number → (number ≡ 0 → ⊥) → CheckCall text m m number
-unread-call (short-memory h) n = call.short-memory h refl refl
-unread-call (long-text m h) n = call.long-text m h refl refl
-unread-call (none m h) n = absurd (n refl)
+pub unread_call : {text : List ℕ} {number : ℕ} {m : Memory} → Unread text m number → (number ≡ 0 → ⊥) → CheckCall text m m number
+unread_call (short_memory h) n = call.short_memory h refl refl
+unread_call (long_text m h) n = call.long_text m h refl refl
+unread_call (none m h) n = absurd (n refl)

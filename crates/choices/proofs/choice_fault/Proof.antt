@@ -6,19 +6,19 @@ use mathlib.Core.Path.{◌≡◌, sym, ap, ◌∙◌}
 use mathlib.Core.Bool.{Bool, true, false}
 use Prim.Native.Nat.{ℕ, ◌≤◌}
 use Rattle.rules.specs.Faults.Fault.{fault, when}
-use Rattle.keys.specs.Laws.Keys.{fault-key, no-fault-key}
-use Rattle.keys.specs.Keys.{key, noKey, leastKey}
+use Rattle.keys.specs.Laws.Keys.{fault_key, no_fault_key}
+use Rattle.keys.specs.Keys.{key, no_key, least_key}
 use Rattle.choices.proofs.choice_fault.Statement.{statement}
 use Rattle.choices.proofs.choice_fault.Tie as tie
 
-faulty : (b : Bool) (p q r : ℕ) → b ≡ true → p ≡ q → q ≤ 32768 → r ≡ key (fault 45 p) → r ≡ leastKey (when b 45 q)
-faulty b p q r t e l f = f ∙ ap (λ (x : ℕ). key (fault 45 x)) e ∙ sym (ap (λ (x : Bool). leastKey (when x 45 q)) t ∙ fault-key 45 q (omega arith) l)
+faulty : (b : Bool) (p q r : ℕ) → b ≡ true → p ≡ q → q ≤ 32768 → r ≡ key (fault 45 p) → r ≡ least_key (when b 45 q)
+faulty b p q r t e l f = f ∙ ap (λ (x : ℕ). key (fault 45 x)) e ∙ sym (ap (λ (x : Bool). least_key (when x 45 q)) t ∙ fault_key 45 q (omega arith) l)
 
-lawful : (b : Bool) (q : ℕ) → b ≡ false → noKey ≡ leastKey (when b 45 q)
-lawful b q f = sym (ap (λ (x : Bool). leastKey (when x 45 q)) f ∙ no-fault-key 45 q)
+lawful : (b : Bool) (q : ℕ) → b ≡ false → no_key ≡ least_key (when b 45 q)
+lawful b q f = sym (ap (λ (x : Bool). least_key (when x 45 q)) f ∙ no_fault_key 45 q)
 
-pub choice-fault-spec : {M : Type 1} → statement M
-choice-fault-spec =
+pub choice_fault_spec : {M : Type 1} → statement M
+choice_fault_spec =
     tie.close
     (tie.spec
     (λ c κs. search rules)

@@ -11,18 +11,18 @@ use Rattle.rules.specs.Faults.Bodies.{past}
 use Rattle.choices.proofs.counted_fault.Statement.{statement}
 use Rattle.choices.proofs.counted_fault.Tie as tie
 
-own-highest : (k n : ℕ) → n ≤ 64 → k < 2 ^ 64 → (n ≤ 64) × (highest (between k k) < 2 ^ 64)
+own_highest : (k n : ℕ) → n ≤ 64 → k < 2 ^ 64 → (n ≤ 64) × (highest (between k k) < 2 ^ 64)
 unfolding highest
-own-highest k n h l = (h, l)
+own_highest k n h l = (h, l)
 
 alone : (k n : ℕ) → leb (2 ^ n) (highest (between k k)) ≡ past n (between k k ∷ [])
 unfolding past
 alone k n = sym (or-false (leb (2 ^ n) (highest (between k k))))
 
-pub counted-fault-spec : {M : Type 1} → statement M
-counted-fault-spec =
+pub counted_fault_spec : {M : Type 1} → statement M
+counted_fault_spec =
     tie.close
     (tie.spec
-    (λ c κs. own-highest _ _ c.before.requires.2 c.before.ranges.number.fits)
+    (λ c κs. own_highest _ _ c.before.requires.2 c.before.ranges.number.fits)
     (λ c κs. search rules)
     (λ c. rw (← alone _ _, ← c.before.past.ensures) c.choice-fault.ensures))

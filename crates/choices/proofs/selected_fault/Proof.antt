@@ -4,8 +4,8 @@ use borrow.Author.Rules.{rules}
 use Rattle.choices.proofs.selected_fault.Statement.{statement}
 use Rattle.choices.proofs.selected_fault.Tie as tie
 
-pub selected-fault-spec : {M : Type 1} → statement M
-selected-fault-spec =
+pub selected_fault_spec : {M : Type 1} → statement M
+selected_fault_spec =
     tie.close
     (tie.spec
     (λ c κs. search rules)

@@ -12,8 +12,8 @@ invariant-loop file from at₀ at = (from ≤ at) × (at ≤ length file)
 abbrev decreases-loop : tie.decreases-loop
 decreases-loop file from at₀ at = length file - at
 
-pub behind-digits-spec : {M : Type 1} → statement M
-behind-digits-spec =
+pub behind_digits_spec : {M : Type 1} → statement M
+behind_digits_spec =
     tie.close
     (tie.spec
     invariant-loop

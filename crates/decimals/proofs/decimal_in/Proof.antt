@@ -13,8 +13,8 @@ invariant-loop digits value₀ i₀ value i = i ≤ length digits
 abbrev decreases-loop : tie.decreases-loop
 decreases-loop digits value₀ i₀ value i = length digits - i
 
-pub decimal-in-spec : {M : Type 1} → statement M
-decimal-in-spec =
+pub decimal_in_spec : {M : Type 1} → statement M
+decimal_in_spec =
     tie.close
     (tie.spec
     invariant-loop

@@ -1,12 +1,12 @@
 -- `declare::declare` meets its contract: what was spelled, found, resolved and judged is the answer.
 -- Assumes nothing.
 use borrow.Author.Rules.{rules}
-use Rattle.declare.proofs.Telling.{tabled, described, to-mean, listed, refused, ready}
+use Rattle.declare.proofs.Telling.{tabled, described, to_mean, listed, refused, ready}
 use Rattle.declare.proofs.declare.Statement.{statement}
 use Rattle.declare.proofs.declare.Tie as tie
 
-pub declare-spec : {M : Type 1} → statement M
-declare-spec =
+pub declare_spec : {M : Type 1} → statement M
+declare_spec =
     tie.close
     (tie.spec
     (λ c κs. (tabled c.before.before.before.before.before.before.requires.0, c.before.before.before.before.before.before.requires.1))
@@ -15,7 +15,7 @@ declare-spec =
     ((_, _, _, described t.spell.ensures.0 t.spell.ensures.1 t.before.before.before.before.before.before.before.requires.0), search rules))
     (λ c κs.
     let t = c.before.before.before.before.before.before.before.before.before.before.before in
-    to-mean t.spell.ensures.0 t.spell.ensures.1 c.before.before.before.before.find.ensures t.before.before.before.before.before.before.before.requires.0)
+    to_mean t.spell.ensures.0 t.spell.ensures.1 c.before.before.before.before.find.ensures t.before.before.before.before.before.before.before.requires.0)
     (λ c κs.
     let t = c.before.before.before.before.before.before.before.before.before.before.before.before.before.before.before.before in
     let g = c.before.before.before.before.give-meanings.ensures in

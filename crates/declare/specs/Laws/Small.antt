@@ -3,25 +3,25 @@
 use Rattle.std.specs.Prelude.{ℕ, ◌<◌, ◌≡◌, false, List}
 use Rattle.cells.specs.Cells.{cell}
 use Rattle.rules.specs.Grammar.Trees.{Tokens, Description}
-use Rattle.rules.specs.Declarations.{declaredOf, outerName, declarations}
-use Rattle.rules.specs.Faults.Declared.{largeBits, largeWords}
+use Rattle.rules.specs.Declarations.{declared_of, outer_name, declarations}
+use Rattle.rules.specs.Faults.Declared.{large_bits, large_words}
 use Rattle.table.specs.Ready.{Ready}
-use Rattle.table.specs.Kth.{kth, kth-found}
-use Rattle.table.specs.Laws.Kth.{kth-view}
-use Rattle.declare.specs.Laws.Lawful.{both_false, lawful-large}
+use Rattle.table.specs.Kth.{kth, kth_found}
+use Rattle.table.specs.Laws.Kth.{kth_view}
+use Rattle.declare.specs.Laws.Lawful.{both_false, lawful_large}
 use Rattle.declare.specs.Listed.{SmallView}
 
 module _ {text records values decls : List ℕ} {ts : Tokens} {d : Description} {m k : ℕ} (r : Ready text records values decls ts d m) (l : k < m) where
-  few : (largeBits (declaredOf (kth r l).declaration).bits ≡ false) × (largeWords (declaredOf (kth r l).declaration).words ≡ false)
+  few : (large_bits (declared_of (kth r l).declaration).bits ≡ false) × (large_words (declared_of (kth r l).declaration).words ≡ false)
   few =
-      let x = declaredOf (kth r l).declaration in
-      both_false (largeBits x.bits) (largeWords x.words) (lawful-large (outerName d).word (declarations d) r.lawful k x (kth-found r l))
+      let x = declared_of (kth r l).declaration in
+      both_false (large_bits x.bits) (large_words x.words) (lawful_large (outer_name d).word (declarations d) r.lawful k x (kth_found r l))
 
-  pub few_bits : largeBits (declaredOf (kth r l).declaration).bits ≡ false
+  pub few_bits : large_bits (declared_of (kth r l).declaration).bits ≡ false
   few_bits = few.0
 
-  pub few_words : largeWords (declaredOf (kth r l).declaration).words ≡ false
+  pub few_words : large_words (declared_of (kth r l).declaration).words ≡ false
   few_words = few.1
 
-  pub small-there : {p : ℕ} → p ≡ cell 2 decls k → SmallView records values p
-  small-there e = record { view = kth-view r l e; small = few_words }
+  pub small_there : {p : ℕ} → p ≡ cell 2 decls k → SmallView records values p
+  small_there e = record { view = kth_view r l e; small = few_words }

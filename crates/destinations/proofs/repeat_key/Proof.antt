@@ -8,7 +8,7 @@ use mathlib.Core.Bool.{Bool, true, false, not}
 use mathlib.Core.List.{List}
 use Prim.Native.Nat.{ℕ, ◌≤◌}
 use Rattle.rules.specs.Faults.Fault.{fault, when}
-use Rattle.keys.specs.Keys.{key, noKey, leastBy, leastKey}
+use Rattle.keys.specs.Keys.{key, no_key, least_by, least_key}
 use Rattle.destinations.specs.declared.owners.Storage.{Storage}
 use Rattle.destinations.specs.declared.owners.Storage.TheVariants.{Carrier, Nothing}
 use Rattle.destinations.specs.Carriers.{holds}
@@ -17,21 +17,21 @@ use Rattle.destinations.proofs.repeat_key.Statement.{statement}
 use Rattle.destinations.proofs.repeat_key.Tie as tie
 
 module _ (w : List ℕ) (p : ℕ) {t : Storage} where
-  nothing : t ≡ Nothing → noKey ≡ leastKey (when (repeats w t) 46 p)
-  unfolding leastBy
+  nothing : t ≡ Nothing → no_key ≡ least_key (when (repeats w t) 46 p)
+  unfolding least_by
   nothing told = rw told
 
   module _ (k : ℕ) (told : t ≡ Carrier k) {b : Bool} (e : b ≡ holds w k) where
-    new : not b ≡ true → noKey ≡ leastKey (when (repeats w t) 46 p)
-    unfolding leastBy
+    new : not b ≡ true → no_key ≡ least_key (when (repeats w t) 46 p)
+    unfolding least_by
     new h = rw (told, sym e ∙ not-true b h)
 
-    again : not b ≡ false → (q r : ℕ) → q ≡ p → p ≤ 32768 → r ≡ key (fault 46 q) → r ≡ leastKey (when (repeats w t) 46 p)
-    unfolding leastBy
+    again : not b ≡ false → (q r : ℕ) → q ≡ p → p ≤ 32768 → r ≡ key (fault 46 q) → r ≡ least_key (when (repeats w t) 46 p)
+    unfolding least_by
     again h q r eq l er = rw (told, sym e ∙ not-false b h) (omega arith)
 
-pub repeat-key-spec : {M : Type 1} → statement M
-repeat-key-spec =
+pub repeat_key_spec : {M : Type 1} → statement M
+repeat_key_spec =
     tie.close
     (tie.spec
     (λ c. search rules)

@@ -14,8 +14,8 @@ use Rattle.destinations.proofs.with_storage.Tie as tie
 carrier : (w : List ℕ) {t : Storage} (k : ℕ) {r : List ℕ} → t ≡ Carrier k → r ≡ added w k → r ≡ stored w t
 carrier w k told e = rw told e
 
-pub with-storage-spec : {M : Type 1} → statement M
-with-storage-spec =
+pub with_storage_spec : {M : Type 1} → statement M
+with_storage_spec =
     tie.close
     (tie.spec
     (λ c. search rules)

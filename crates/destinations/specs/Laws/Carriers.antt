@@ -16,11 +16,11 @@ use Rattle.destinations.specs.Carriers.{holds, added}
 
 -- the bits of a power of two
 module _ (r : ℕ) where
-  power-bit : 2 ^ r / 2 ^ r % 2 ≡ 1
-  power-bit = rw (div_self (pow_pos r))
+  power_bit : 2 ^ r / 2 ^ r % 2 ≡ 1
+  power_bit = rw (div_self (pow_pos r))
 
-  other-bit : (s : ℕ) → (r ≡ s → ⊥) → 2 ^ r / 2 ^ s % 2 ≡ 0
-  other-bit s n = go (dec_lt r s)
+  other_bit : (s : ℕ) → (r ≡ s → ⊥) → 2 ^ r / 2 ^ s % 2 ≡ 0
+  other_bit s n = go (dec_lt r s)
     where
       go : Dec (r < s) → 2 ^ r / 2 ^ s % 2 ≡ 0
       go (yes h) = rw (div-eq_of_lt (pow-lt h))
@@ -32,32 +32,32 @@ module _ (r : ℕ) where
 low : (z q m : ℕ) → z ≡ q * 2 + m → m < 2 → z % 2 ≡ m
 low z q m e h = omega arith
 
-or-bit : (a b k : ℕ) → bit_or a b / 2 ^ k % 2 ≡ max (a / 2 ^ k % 2) (b / 2 ^ k % 2)
-or-bit a b k = rw or_shr (low _ _ _ (or_step (a / 2 ^ k) (b / 2 ^ k)) (omega arith))
+or_bit : (a b k : ℕ) → bit_or a b / 2 ^ k % 2 ≡ max (a / 2 ^ k % 2) (b / 2 ^ k % 2)
+or_bit a b k = rw or_shr (low _ _ _ (or_step (a / 2 ^ k) (b / 2 ^ k)) (omega arith))
 
-nothing-there : (k : ℕ) → ◌≡◌ {A = ℕ} (get_or (replicate 4 0) k 0) 0
-nothing-there zero = refl
-nothing-there (suc zero) = refl
-nothing-there (suc (suc zero)) = refl
-nothing-there (suc (suc (suc zero))) = refl
-nothing-there (suc (suc (suc (suc k)))) = refl
+nothing_there : (k : ℕ) → ◌≡◌ {A = ℕ} (get_or (replicate 4 0) k 0) 0
+nothing_there zero = refl
+nothing_there (suc zero) = refl
+nothing_there (suc (suc zero)) = refl
+nothing_there (suc (suc (suc zero))) = refl
+nothing_there (suc (suc (suc (suc k)))) = refl
 
-pub none-held : (i : ℕ) → holds (replicate 4 0) i ≡ false
+pub none_held : (i : ℕ) → holds (replicate 4 0) i ≡ false
 unfolding holds
-none-held i = rw (nothing-there (i / 64), zero-div)
+none_held i = rw (nothing_there (i / 64), zero-div)
 
 module _ (w : List ℕ) (i : ℕ) (long : length w ≡ 4) (small : i < 256) where
-  pub added-long : length (added w i) ≡ 4
+  pub added_long : length (added w i) ≡ 4
   unfolding added
-  added-long = length-set w (i / 64) _ ∙ long
+  added_long = length-set w (i / 64) _ ∙ long
 
   here : get_or (added w i) (i / 64) 0 ≡ bit_or (get_or w (i / 64) 0) (2 ^ (i % 64))
   unfolding added
   here = get_or-set_same w (i / 64) _ 0 (omega arith)
 
-  pub added-held : (j : ℕ) → holds (added w i) j ≡ eqb j i || holds w j
+  pub added_held : (j : ℕ) → holds (added w i) j ≡ eqb j i || holds w j
   unfolding holds added
-  added-held j = go (dec_lt j i) (dec_lt i j)
+  added_held j = go (dec_lt j i) (dec_lt i j)
     where
       -- another bit of the same word, or another word
       other : (j ≡ i → ⊥) → Dec (j / 64 < i / 64) → Dec (i / 64 < j / 64) → holds (added w i) j ≡ holds w j
@@ -66,7 +66,7 @@ module _ (w : List ℕ) (i : ℕ) (long : length w ≡ 4) (small : i < 256) wher
       other n (no a) (no b) =
           let e : j / 64 ≡ i / 64 = omega arith in
           let same : bit_or (get_or w (i / 64) 0) (2 ^ (i % 64)) / 2 ^ (j % 64) % 2 ≡ get_or w (i / 64) 0 / 2 ^ (j % 64) % 2
-          = omega (arith, or-bit (get_or w (i / 64) 0) (2 ^ (i % 64)) (j % 64), other-bit (i % 64) (j % 64) (λ z. n (omega arith))) in
+          = omega (arith, or_bit (get_or w (i / 64) 0) (2 ^ (i % 64)) (j % 64), other_bit (i % 64) (j % 64) (λ z. n (omega arith))) in
           ap (λ k. eqb (get_or (added w i) k 0 / 2 ^ (j % 64) % 2) 1) e
           ∙ ap (λ x. eqb (x / 2 ^ (j % 64) % 2) 1) here
           ∙ ap (λ x. eqb x 1) same
@@ -78,7 +78,7 @@ module _ (w : List ℕ) (i : ℕ) (long : length w ≡ 4) (small : i < 256) wher
       go (no a) (no b) =
           let e : j ≡ i = omega arith in
           let one : bit_or (get_or w (i / 64) 0) (2 ^ (i % 64)) / 2 ^ (i % 64) % 2 ≡ 1
-          = omega (arith, or-bit (get_or w (i / 64) 0) (2 ^ (i % 64)) (i % 64), power-bit (i % 64)) in
+          = omega (arith, or_bit (get_or w (i / 64) 0) (2 ^ (i % 64)) (i % 64), power_bit (i % 64)) in
           rw (eq-eqb j i e, e)
           (ap (λ x. eqb (x / 2 ^ (i % 64) % 2) 1) here
           ∙ ap (λ x. eqb x 1) one)

@@ -1,12 +1,12 @@
 -- `entries::put_entry` meets its contract: the entry is written cell by cell.
 -- Assumes nothing.
 use borrow.Author.Rules.{rules}
-use Rattle.entries.specs.Laws.Entries.{cells-put-entry}
+use Rattle.entries.specs.Laws.Entries.{cells_put_entry}
 use Rattle.entries.proofs.put_entry.Statement.{statement}
 use Rattle.entries.proofs.put_entry.Tie as tie
 
-pub put-entry-spec : {M : Type 1} → statement M
-put-entry-spec =
+pub put_entry_spec : {M : Type 1} → statement M
+put_entry_spec =
     tie.close
     (tie.spec
     (λ c. search rules)
@@ -18,4 +18,4 @@ put-entry-spec =
     (λ c. search rules)
     (λ c κs. search rules)
     (λ c. search rules)
-    (λ c. search (rules, cells-put-entry)))
+    (λ c. search (rules, cells_put_entry)))

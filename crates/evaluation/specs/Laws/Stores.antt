@@ -7,63 +7,63 @@ use mathlib.Core.List.{List, [], ◌∷◌, ◌++◌}
 use Rattle.std.proofs.Math.Nat.{mod-mod}
 use Rattle.std.proofs.Math.ListN.{length}
 use Rattle.cells.specs.Cells as bytes
-use Rattle.cells.specs.Cells.{cells, putCell}
-use Rattle.cells.specs.Laws.{le-put-same, le-put-below, length-put, cells-get, cells-put}
-use Rattle.rules.specs.Values.{field, withField, total, cut}
-use Rattle.rules.specs.Limits.{mostBits}
-use Rattle.rules.specs.Declarations.{totalWords}
-use Rattle.rules.specs.Steps.Evaluation.{Carriers, Field, writeField, storeAll}
-use Rattle.values.specs.Laws.Cuts.{pieces, cut-pieces}
-use Rattle.operands.specs.Cells.{cellFirst, cellLow, cellBits}
+use Rattle.cells.specs.Cells.{cells, put_cell}
+use Rattle.cells.specs.Laws.{le_put_same, le_put_below, length_put, cells_get, cells_put}
+use Rattle.rules.specs.Values.{field, with_field, total, cut}
+use Rattle.rules.specs.Limits.{most_bits}
+use Rattle.rules.specs.Declarations.{total_words}
+use Rattle.rules.specs.Steps.Evaluation.{Carriers, Field, write_field, store_all}
+use Rattle.values.specs.Laws.Cuts.{pieces, cut_pieces}
+use Rattle.operands.specs.Cells.{cell_first, cell_low, cell_bits}
 use Rattle.operands.specs.Worths.{Within}
 use Rattle.evaluation.specs.Stores.{Kept, Packs, Put, sizes, StoresAt, AllWithin, StoresAnswer}
 
 -- a put behind them leaves them, and adds one
 module _ (b : List ℕ) (n x : ℕ) where
-  kept_put : (k : ℕ) (fs : List Field) → k + length fs ≤ n → Kept b k fs → Kept (putCell 8 b n x) k fs
+  kept_put : (k : ℕ) (fs : List Field) → k + length fs ≤ n → Kept b k fs → Kept (put_cell 8 b n x) k fs
   kept_put k [] h q = tt
   kept_put k (f ∷ fs) h q =
-      (subst (λ c. Packs c f) (sym (le-put-below 8 8 b (8 * n) x (8 * k) (omega arith))) q.0, kept_put (k + 1) fs (omega arith) q.1)
+      (subst (λ c. Packs c f) (sym (le_put_below 8 8 b (8 * n) x (8 * k) (omega arith))) q.0, kept_put (k + 1) fs (omega arith) q.1)
 
-kept-end : (b : List ℕ) (k : ℕ) (fs : List Field) (f : Field) → Packs (bytes.cell 8 b (k + length fs)) f → Kept b k fs → Kept b k (fs ++ (f ∷ []))
-kept-end b k [] f p q = let e : k + 0 ≡ k = omega arith in (subst (λ i. Packs (bytes.cell 8 b i) f) e p, tt)
-kept-end b k (g ∷ fs) f p q =
+kept_end : (b : List ℕ) (k : ℕ) (fs : List Field) (f : Field) → Packs (bytes.cell 8 b (k + length fs)) f → Kept b k fs → Kept b k (fs ++ (f ∷ []))
+kept_end b k [] f p q = let e : k + 0 ≡ k = omega arith in (subst (λ i. Packs (bytes.cell 8 b i) f) e p, tt)
+kept_end b k (g ∷ fs) f p q =
     let e : k + suc (length fs) ≡ k + 1 + length fs = omega arith in
-    (q.0, kept-end b (k + 1) fs f (subst (λ i. Packs (bytes.cell 8 b i) f) e p) q.1)
+    (q.0, kept_end b (k + 1) fs f (subst (λ i. Packs (bytes.cell 8 b i) f) e p) q.1)
 
 pub kept_more : (b : List ℕ) (fs : List Field) (f : Field) (n x : ℕ) → n ≡ length fs → 8 * n + 8 ≤ length b → x < 2 ^ 64 → Packs x f → Kept b 0 fs
-    → Kept (putCell 8 b n x) 0 (fs ++ (f ∷ []))
+    → Kept (put_cell 8 b n x) 0 (fs ++ (f ∷ []))
 kept_more b fs f n x e room fits p q =
     let i : 0 + length fs ≡ n = omega arith in
-    let same : bytes.cell 8 (putCell 8 b n x) n ≡ x = le-put-same 8 b (8 * n) x (omega arith) fits in
-    kept-end (putCell 8 b n x) 0 fs f (rw (i, same) p) (kept_put b n x 0 fs (omega arith) q)
+    let same : bytes.cell 8 (put_cell 8 b n x) n ≡ x = le_put_same 8 b (8 * n) x (omega arith) fits in
+    kept_end (put_cell 8 b n x) 0 fs f (rw (i, same) p) (kept_put b n x 0 fs (omega arith) q)
 
-pub put-by : {before after : List ℕ} {word low size x old new : ℕ} → old ≡ bytes.cell 8 before word → new ≡ withField low size old x
-    → after ≡ putCell 8 before word new → new < 2 ^ 64 → Put before after word low size x
-put-by {before} {after} {word} {low} {size} {x} e f g h =
-    let same = f ∙ ap (λ w. withField low size w x) e in
-    record { is = g ∙ ap (putCell 8 before word) same; fits = subst (λ y. y < 2 ^ 64) same h }
+pub put_by : {before after : List ℕ} {word low size x old new : ℕ} → old ≡ bytes.cell 8 before word → new ≡ with_field low size old x
+    → after ≡ put_cell 8 before word new → new < 2 ^ 64 → Put before after word low size x
+put_by {before} {after} {word} {low} {size} {x} e f g h =
+    let same = f ∙ ap (λ w. with_field low size w x) e in
+    record { is = g ∙ ap (put_cell 8 before word) same; fits = subst (λ y. y < 2 ^ 64) same h }
 
 module _ (n : ℕ) (before after : List ℕ) (f : Field) (x : ℕ) (p : Put before after f.word f.low f.size x) where
-  pub put-length : length after ≡ length before
-  put-length = ap length p.is ∙ length-put 8 before (8 * f.word) (withField f.low f.size (bytes.cell 8 before f.word) x)
+  pub put_length : length after ≡ length before
+  put_length = ap length p.is ∙ length_put 8 before (8 * f.word) (with_field f.low f.size (bytes.cell 8 before f.word) x)
 
-  pub put-writes : f.word < n → 8 * n ≤ length before → cells 8 n after ≡ writeField (cells 8 n before) f x
-  put-writes h room =
+  pub put_writes : f.word < n → 8 * n ≤ length before → cells 8 n after ≡ write_field (cells 8 n before) f x
+  put_writes h room =
       ap (cells 8 n) p.is
-      ∙ cells-put 8 n before f.word (withField f.low f.size (bytes.cell 8 before f.word) x) h room p.fits
-      ∙ ap (λ w. set (cells 8 n before) f.word (withField f.low f.size w x)) (sym (cells-get 8 n before f.word h))
+      ∙ cells_put 8 n before f.word (with_field f.low f.size (bytes.cell 8 before f.word) x) h room p.fits
+      ∙ ap (λ w. set (cells 8 n before) f.word (with_field f.low f.size w x)) (sym (cells_get 8 n before f.word h))
 
 -- a single field takes the lowest bits of the value as it is
-single-low : (low size w x : ℕ) → withField low size w (field 0 size x) ≡ withField low size w x
-unfolding withField field
-single-low low size w x =
+single_low : (low size w x : ℕ) → with_field low size w (field 0 size x) ≡ with_field low size w x
+unfolding with_field field
+single_low low size w x =
     let e : x / 2 ^ 0 ≡ x = omega arith in
     ap (λ y. w / 2 ^ (low + size) * 2 ^ (low + size) + y * 2 ^ low + w % 2 ^ low) (ap (λ y. y % 2 ^ size % 2 ^ size) e ∙ mod-mod x (2 ^ size))
 
-pub single-store : (s : Carriers) (f : Field) (x : ℕ) → storeAll s (f ∷ []) (cut (sizes (f ∷ [])) x) ≡ writeField s f x
-unfolding storeAll cut total
-single-store s f x = ap (set s f.word) (single-low f.low f.size (get_or s f.word 0) x)
+pub single_store : (s : Carriers) (f : Field) (x : ℕ) → store_all s (f ∷ []) (cut (sizes (f ∷ [])) x) ≡ write_field s f x
+unfolding store_all cut total
+single_store s f x = ap (set s f.word) (single_low f.low f.size (get_or s f.word 0) x)
 
 -- on the way: k are stored, and `rest` bits are left
 pub record Storing {carriers scratch : List ℕ} {count bits : ℕ} (v : StoresAt carriers scratch count bits) (x : ℕ) (now : List ℕ) (k rest : ℕ) : Type 0 where
@@ -71,11 +71,11 @@ pub record Storing {carriers scratch : List ℕ} {count bits : ℕ} (v : StoresA
   pub counts : k + length left ≡ count
   pub kept : Kept scratch k left
   pub within : AllWithin v.table left
-  pub left-bits : rest ≡ total (sizes left)
-  pub short : rest ≤ mostBits
+  pub left_bits : rest ≡ total (sizes left)
+  pub short : rest ≤ most_bits
   pub long : length now ≡ length carriers
-  pub same : storeAll (cells 8 (totalWords v.table) now) left (pieces (sizes left) rest x)
-      ≡ storeAll (cells 8 (totalWords v.table) carriers) v.fields (cut (sizes v.fields) x)
+  pub same : store_all (cells 8 (total_words v.table) now) left (pieces (sizes left) rest x)
+      ≡ store_all (cells 8 (total_words v.table) carriers) v.fields (cut (sizes v.fields) x)
 
 module _ {carriers scratch : List ℕ} {count bits : ℕ} (v : StoresAt carriers scratch count bits) (x : ℕ) where
   unfoldable pub storing : Storing v x carriers 0 bits
@@ -84,20 +84,20 @@ module _ {carriers scratch : List ℕ} {count bits : ℕ} (v : StoresAt carriers
     counts = omega (arith, v.counts);
     kept = v.kept;
     within = v.within;
-    left-bits = v.total-bits;
+    left_bits = v.total_bits;
     short = v.short;
     long = refl;
-    same = ap (storeAll (cells 8 (totalWords v.table) carriers) v.fields) (ap (λ n. pieces (sizes v.fields) n x) v.total-bits ∙ cut-pieces (sizes v.fields) x);
+    same = ap (store_all (cells 8 (total_words v.table) carriers) v.fields) (ap (λ n. pieces (sizes v.fields) n x) v.total_bits ∙ cut_pieces (sizes v.fields) x);
   }
 
   module _ {now : List ℕ} {k rest : ℕ} (s : Storing v x now k rest) where
-    pub stored-all : count ≤ k → StoresAnswer v x now
-    unfolding storeAll pieces
-    stored-all h = go s.left s.counts s.same
+    pub stored_all : count ≤ k → StoresAnswer v x now
+    unfolding store_all pieces
+    stored_all h = go s.left s.counts s.same
       where
         go : (fs : List Field) → k + length fs ≡ count
-            → storeAll (cells 8 (totalWords v.table) now) fs (pieces (sizes fs) rest x)
-            ≡ storeAll (cells 8 (totalWords v.table) carriers) v.fields (cut (sizes v.fields) x)
+            → store_all (cells 8 (total_words v.table) now) fs (pieces (sizes fs) rest x)
+            ≡ store_all (cells 8 (total_words v.table) carriers) v.fields (cut (sizes v.fields) x)
             → StoresAnswer v x now
         go [] c e = (e, s.long)
         go (f ∷ fs) c e = absurd (omega arith)
@@ -128,39 +128,39 @@ module _ {carriers scratch : List ℕ} {count bits : ℕ} (v : StoresAt carriers
 
       pub left_split : rest ≡ n.field_next.size + total (sizes n.more)
       unfolding total
-      left_split = s.left-bits ∙ ap (λ fs. total (sizes fs)) n.are
+      left_split = s.left_bits ∙ ap (λ fs. total (sizes fs)) n.are
 
-      pub part-fits : (0 < cellBits c) × (cellBits c ≤ rest) × (rest ≤ mostBits)
-      part-fits = (omega (arith, packed.size, n.inside.some), omega (arith, packed.size, left_split), s.short)
+      pub part_fits : (0 < cell_bits c) × (cell_bits c ≤ rest) × (rest ≤ most_bits)
+      part_fits = (omega (arith, packed.size, n.inside.some), omega (arith, packed.size, left_split), s.short)
 
-      pub store-fits : (8 * cellFirst c + 8 ≤ length now) × ((cellLow c < mostBits) × (cellLow c + cellBits c ≤ mostBits))
-      store-fits = (
+      pub store_fits : (8 * cell_first c + 8 ≤ length now) × ((cell_low c < most_bits) × (cell_low c + cell_bits c ≤ most_bits))
+      store_fits = (
         omega (arith, packed.word, n.inside.word, v.words, s.long),
         (omega (arith, packed.low, n.inside.some, n.inside.fits), omega (arith, packed.low, packed.size, n.inside.fits)),
       )
 
-      module _ {after : List ℕ} (p : Put now after (cellFirst c) (cellLow c) (cellBits c) (field (rest - cellBits c) (cellBits c) x)) where
+      module _ {after : List ℕ} (p : Put now after (cell_first c) (cell_low c) (cell_bits c) (field (rest - cell_bits c) (cell_bits c) x)) where
         abbrev piece : ℕ
         piece = field (rest - n.field_next.size) n.field_next.size x
 
         pub put_next : Put now after n.field_next.word n.field_next.low n.field_next.size piece
         put_next = rw (sym packed.word, sym packed.low, sym packed.size) p
 
-        pub turn-writes : cells 8 (totalWords v.table) after ≡ writeField (cells 8 (totalWords v.table) now) n.field_next piece
-        turn-writes = put-writes (totalWords v.table) now after n.field_next piece put_next n.inside.word (omega (arith, v.words, s.long))
+        pub turn_writes : cells 8 (total_words v.table) after ≡ write_field (cells 8 (total_words v.table) now) n.field_next piece
+        turn_writes = put_writes (total_words v.table) now after n.field_next piece put_next n.inside.word (omega (arith, v.words, s.long))
 
-        unfoldable pub stored-turn : Storing v x after (k + 1) (rest - cellBits c)
-        unfolding storeAll pieces
-        stored-turn = record {
+        unfoldable pub stored_turn : Storing v x after (k + 1) (rest - cell_bits c)
+        unfolding store_all pieces
+        stored_turn = record {
           left = n.more;
           counts = omega (arith, s.counts, ap length n.are);
           kept = n.kept;
           within = n.within;
-          left-bits = omega (arith, packed.size, left_split);
+          left_bits = omega (arith, packed.size, left_split);
           short = omega (arith, s.short);
-          long = put-length (totalWords v.table) now after n.field_next piece put_next ∙ s.long;
+          long = put_length (total_words v.table) now after n.field_next piece put_next ∙ s.long;
           same =
-              ap₂ (λ t z. storeAll t n.more (pieces (sizes n.more) z x)) turn-writes (ap (λ z. rest - z) packed.size)
-              ∙ ap (λ fs. storeAll (cells 8 (totalWords v.table) now) fs (pieces (sizes fs) rest x)) (sym n.are)
+              ap₂ (λ t z. store_all t n.more (pieces (sizes n.more) z x)) turn_writes (ap (λ z. rest - z) packed.size)
+              ∙ ap (λ fs. store_all (cells 8 (total_words v.table) now) fs (pieces (sizes fs) rest x)) (sym n.are)
               ∙ s.same;
         }

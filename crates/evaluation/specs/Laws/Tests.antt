@@ -1,20 +1,20 @@
 -- Laws of the test of an IF or a DECODE.
 -- Assumes nothing.
 use Rattle.std.specs.Prelude.{ℕ, ◌+◌, ◌<◌, List}
-use Rattle.rules.specs.Limits.{deepest, mostTokens}
+use Rattle.rules.specs.Limits.{deepest, most_tokens}
 use Rattle.operands.specs.declared.expressions.Evaluated.{Evaluated}
 use Rattle.operands.specs.Scene.{ExpressionAt}
 use Rattle.operands.specs.Laws.Scene.{ExpressionTold}
-use Rattle.evaluation.specs.Laws.Standing.{expression-at, expression-stood, expression-small}
+use Rattle.evaluation.specs.Laws.Standing.{expression_at, expression_stood, expression_small}
 use Rattle.evaluation.specs.Tests.{TestAt, TestAnswer}
 
 module _ {records values carriers : List ℕ} {n : ℕ} (v : TestAt records values carriers n) where
-  pub test-small : n + 1 < mostTokens
-  test-small = expression-small v.scene (n + 1) v.behind v.expression v.stands
+  pub test_small : n + 1 < most_tokens
+  test_small = expression_small v.scene (n + 1) v.behind v.expression v.stands
 
   pub test_at : ExpressionAt records values carriers (n + 1) deepest
-  test_at = expression-at v.scene (n + 1) v.behind v.expression v.stands
+  test_at = expression_at v.scene (n + 1) v.behind v.expression v.stands
 
-  pub test-answer : (r : Evaluated) → ExpressionTold records values carriers (n + 1) deepest r → TestAnswer v r
+  pub test_answer : (r : Evaluated) → ExpressionTold records values carriers (n + 1) deepest r → TestAnswer v r
   unfolding test_at
-  test-answer r f = expression-stood v.scene (n + 1) v.behind v.expression v.stands r (f test_at)
+  test_answer r f = expression_stood v.scene (n + 1) v.behind v.expression v.stands r (f test_at)

@@ -6,9 +6,9 @@ use Rattle.grammar.proofs.Entries.{ruled}
 use Rattle.grammar.proofs.recognise.Statement.{statement}
 use Rattle.grammar.proofs.recognise.Tie as tie
 
-walk-requires : tie.Need-walk-requires
+walk_requires : tie.Need-walk-requires
 unfolding lookup
-walk-requires c κs = (ruled _ tt, c.before.before.requires)
+walk_requires c κs = (ruled _ tt, c.before.before.requires)
 
-pub recognise-spec : {M : Type 1} → statement M
-recognise-spec = tie.close (tie.spec walk-requires (λ c. search rules))
+pub recognise_spec : {M : Type 1} → statement M
+recognise_spec = tie.close (tie.spec walk_requires (λ c. search rules))

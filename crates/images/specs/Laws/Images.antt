@@ -9,201 +9,201 @@ use Rattle.std.proofs.Math.Decide.{dec_lt}
 use Rattle.std.proofs.lemmas.List.{take-append-le, drop-append-le, take-set-le, drop-set-add}
 use Rattle.std.proofs.Math.Seq.{take-set-lt}
 use Rattle.rules.specs.Faults.Fault.{Fault, fault}
-use Rattle.rules.specs.Images.{payloadSize, headSize, blockSize, block_of, blocks_from, blocksFor, imageSize, image_of, blockFault, orFault, blocksFault, imageFault, heldFrom, heldIn}
+use Rattle.rules.specs.Images.{payload_size, head_size, block_size, block_of, blocks_from, blocks_for, image_size_of, image_of, block_fault, or_fault, blocks_fault, image_fault, held_from, held_in}
 use Rattle.blocks.specs.Laws.Sums.{Bytes}
-use Rattle.blocks.specs.Laws.Blocks.{bytes_take, bytes_drop, length-block, payload-of-block, block-sound, sound-block, payload-within, block-changed, sound-checked}
+use Rattle.blocks.specs.Laws.Blocks.{bytes_take, bytes_drop, length_block, payload_of_block, block_sound, sound_block, payload_within, block_changed, sound_checked}
 
 -- the blocks have room for the bytes
-pub blocks-enough : (size : ℕ) → size ≤ payloadSize * blocksFor size
-unfolding blocksFor
-blocks-enough size = omega arith
+pub blocks_enough : (size : ℕ) → size ≤ payload_size * blocks_for size
+unfolding blocks_for
+blocks_enough size = omega arith
 
-short-part : (bytes : List ℕ) → length (take payloadSize bytes) ≤ payloadSize
-short-part bytes = omega (arith, length-take payloadSize bytes)
+short_part : (bytes : List ℕ) → length (take payload_size bytes) ≤ payload_size
+short_part bytes = omega (arith, length-take payload_size bytes)
 
-pub length-blocks : (n k : ℕ) (bytes : List ℕ) → length (blocks_from n k bytes) ≡ blockSize * k
+pub length_blocks : (n k : ℕ) (bytes : List ℕ) → length (blocks_from n k bytes) ≡ block_size * k
 unfolding blocks_from
-length-blocks n zero bytes = refl
-length-blocks n (suc k) bytes =
-    length-append (block_of n (take payloadSize bytes)) (blocks_from (n + 1) k (drop payloadSize bytes))
-    ∙ ap₂ ◌+◌ (length-block n (take payloadSize bytes) (short-part bytes)) (length-blocks (n + 1) k (drop payloadSize bytes)) ∙ omega arith
+length_blocks n zero bytes = refl
+length_blocks n (suc k) bytes =
+    length-append (block_of n (take payload_size bytes)) (blocks_from (n + 1) k (drop payload_size bytes))
+    ∙ ap₂ ◌+◌ (length_block n (take payload_size bytes) (short_part bytes)) (length_blocks (n + 1) k (drop payload_size bytes)) ∙ omega arith
 
-pub length-image : (carriers : List ℕ) → length (image_of carriers) ≡ imageSize (length carriers)
+pub length_image : (carriers : List ℕ) → length (image_of carriers) ≡ image_size_of (length carriers)
 unfolding image_of
-length-image carriers = length-blocks 0 (blocksFor (length carriers)) carriers
+length_image carriers = length_blocks 0 (blocks_for (length carriers)) carriers
 
 -- the first of some blocks
 module _ (n : ℕ) (bytes more : List ℕ) where
   abbrev part : List ℕ
-  part = take payloadSize bytes
+  part = take payload_size bytes
 
-  first_block : take blockSize (block_of n part ++ more) ≡ block_of n part
-  first_block = take_at (block_of n part) more blockSize (length-block n part (short-part bytes))
+  first_block : take block_size (block_of n part ++ more) ≡ block_of n part
+  first_block = take_at (block_of n part) more block_size (length_block n part (short_part bytes))
 
-  behind-block : drop blockSize (block_of n part ++ more) ≡ more
-  behind-block = drop_at (block_of n part) more blockSize (length-block n part (short-part bytes))
+  behind_block : drop block_size (block_of n part ++ more) ≡ more
+  behind_block = drop_at (block_of n part) more block_size (length_block n part (short_part bytes))
 
-  first-held : take (min payloadSize (length bytes)) (drop headSize (block_of n part ++ more)) ≡ part
-  first-held =
-      let long = length-block n part (short-part bytes) in
-      let e : take (length part) (drop headSize (block_of n part ++ more)) ≡ part =
-      ap (take (length part)) (drop-append-le headSize (block_of n part) more (omega arith))
-      ∙ take-append-le (length part) (drop headSize (block_of n part)) more (omega (arith, length-drop headSize (block_of n part), short-part bytes))
-      ∙ payload-of-block n part (short-part bytes) in
-      ap (λ u. take u (drop headSize (block_of n part ++ more))) (sym (length-take payloadSize bytes)) ∙ e
+  first_held : take (min payload_size (length bytes)) (drop head_size (block_of n part ++ more)) ≡ part
+  first_held =
+      let long = length_block n part (short_part bytes) in
+      let e : take (length part) (drop head_size (block_of n part ++ more)) ≡ part =
+      ap (take (length part)) (drop-append-le head_size (block_of n part) more (omega arith))
+      ∙ take-append-le (length part) (drop head_size (block_of n part)) more (omega (arith, length-drop head_size (block_of n part), short_part bytes))
+      ∙ payload_of_block n part (short_part bytes) in
+      ap (λ u. take u (drop head_size (block_of n part ++ more))) (sym (length-take payload_size bytes)) ∙ e
 
 -- the image of bytes is not refused, and holds them
-pub blocks-sound : (n k : ℕ) (bytes : List ℕ) → length bytes ≤ payloadSize * k → n + k ≤ 256 → Bytes bytes
-    → blocksFault n k (length bytes) (blocks_from n k bytes) ≡ none
-unfolding blocksFault blocks_from
-blocks-sound n zero bytes fits small each = refl
-blocks-sound n (suc k) bytes fits small each =
-    let p = take payloadSize bytes in
-    let more = blocks_from (n + 1) k (drop payloadSize bytes) in
-    let first : blockFault n (min payloadSize (length bytes)) (take blockSize (block_of n p ++ more)) ≡ none =
-    ap₂ (blockFault n) (sym (length-take payloadSize bytes)) (first_block n bytes more)
-    ∙ block-sound n p (short-part bytes) (omega arith) (bytes_take payloadSize bytes each) in
-    let rest : blocksFault (n + 1) k (length bytes - payloadSize) (drop blockSize (block_of n p ++ more)) ≡ none =
-    ap₂ (blocksFault (n + 1) k) (sym (length-drop payloadSize bytes)) (behind-block n bytes more)
-    ∙ blocks-sound (n + 1) k (drop payloadSize bytes) (omega (arith, length-drop payloadSize bytes)) (omega arith) (bytes_drop payloadSize bytes each) in
-    ap₂ (λ f r. orFault f (blockSize * n) r) first rest
+pub blocks_sound : (n k : ℕ) (bytes : List ℕ) → length bytes ≤ payload_size * k → n + k ≤ 256 → Bytes bytes
+    → blocks_fault n k (length bytes) (blocks_from n k bytes) ≡ none
+unfolding blocks_fault blocks_from
+blocks_sound n zero bytes fits small each = refl
+blocks_sound n (suc k) bytes fits small each =
+    let p = take payload_size bytes in
+    let more = blocks_from (n + 1) k (drop payload_size bytes) in
+    let first : block_fault n (min payload_size (length bytes)) (take block_size (block_of n p ++ more)) ≡ none =
+    ap₂ (block_fault n) (sym (length-take payload_size bytes)) (first_block n bytes more)
+    ∙ block_sound n p (short_part bytes) (omega arith) (bytes_take payload_size bytes each) in
+    let rest : blocks_fault (n + 1) k (length bytes - payload_size) (drop block_size (block_of n p ++ more)) ≡ none =
+    ap₂ (blocks_fault (n + 1) k) (sym (length-drop payload_size bytes)) (behind_block n bytes more)
+    ∙ blocks_sound (n + 1) k (drop payload_size bytes) (omega (arith, length-drop payload_size bytes)) (omega arith) (bytes_drop payload_size bytes each) in
+    ap₂ (λ f r. or_fault f (block_size * n) r) first rest
 
-pub blocks-hold : (n k : ℕ) (bytes : List ℕ) → length bytes ≤ payloadSize * k → heldFrom k (length bytes) (blocks_from n k bytes) ≡ bytes
-unfolding heldFrom blocks_from
-blocks-hold n zero [] fits = refl
-blocks-hold n zero (b ∷ bytes) fits = absurd (omega arith)
-blocks-hold n (suc k) bytes fits =
-    let more = blocks_from (n + 1) k (drop payloadSize bytes) in
-    let rest : heldFrom k (length bytes - payloadSize) (drop blockSize (block_of n (take payloadSize bytes) ++ more)) ≡ drop payloadSize bytes =
-    ap₂ (heldFrom k) (sym (length-drop payloadSize bytes)) (behind-block n bytes more)
-    ∙ blocks-hold (n + 1) k (drop payloadSize bytes) (omega (arith, length-drop payloadSize bytes)) in
-    ap₂ ◌++◌ (first-held n bytes more) rest ∙ take-append-drop payloadSize bytes
+pub blocks_hold : (n k : ℕ) (bytes : List ℕ) → length bytes ≤ payload_size * k → held_from k (length bytes) (blocks_from n k bytes) ≡ bytes
+unfolding held_from blocks_from
+blocks_hold n zero [] fits = refl
+blocks_hold n zero (b ∷ bytes) fits = absurd (omega arith)
+blocks_hold n (suc k) bytes fits =
+    let more = blocks_from (n + 1) k (drop payload_size bytes) in
+    let rest : held_from k (length bytes - payload_size) (drop block_size (block_of n (take payload_size bytes) ++ more)) ≡ drop payload_size bytes =
+    ap₂ (held_from k) (sym (length-drop payload_size bytes)) (behind_block n bytes more)
+    ∙ blocks_hold (n + 1) k (drop payload_size bytes) (omega (arith, length-drop payload_size bytes)) in
+    ap₂ ◌++◌ (first_held n bytes more) rest ∙ take-append-drop payload_size bytes
 
 -- how much an image holds
-held_none : (k : ℕ) (image : List ℕ) → heldFrom k 0 image ≡ []
-unfolding heldFrom
+held_none : (k : ℕ) (image : List ℕ) → held_from k 0 image ≡ []
+unfolding held_from
 held_none zero image = refl
-held_none (suc k) image = held_none k (drop blockSize image)
+held_none (suc k) image = held_none k (drop block_size image)
 
-pub length-held : (k size : ℕ) (image : List ℕ) → size ≤ payloadSize * k → blockSize * k ≤ length image → length (heldFrom k size image) ≡ size
-unfolding heldFrom
-length-held zero size image fits long = omega arith
-length-held (suc k) size image fits long =
-    let part = take (min payloadSize size) (drop headSize image) in
-    let rest = length-held k (size - payloadSize) (drop blockSize image) (omega arith) (omega (arith, length-drop blockSize image)) in
-    omega (arith, length-append part (heldFrom k (size - payloadSize) (drop blockSize image)), rest, length-take (min payloadSize size) (drop headSize image), length-drop headSize image)
+pub length_held : (k size : ℕ) (image : List ℕ) → size ≤ payload_size * k → block_size * k ≤ length image → length (held_from k size image) ≡ size
+unfolding held_from
+length_held zero size image fits long = omega arith
+length_held (suc k) size image fits long =
+    let part = take (min payload_size size) (drop head_size image) in
+    let rest = length_held k (size - payload_size) (drop block_size image) (omega arith) (omega (arith, length-drop block_size image)) in
+    omega (arith, length-append part (held_from k (size - payload_size) (drop block_size image)), rest, length-take (min payload_size size) (drop head_size image), length-drop head_size image)
 
 -- the payload of the first block, and what is behind it
-module _ (k size : ℕ) (rest part : List ℕ) (long : length part ≡ min payloadSize size) where
+module _ (k size : ℕ) (rest part : List ℕ) (long : length part ≡ min payload_size size) where
   abbrev behind : List ℕ
-  behind = heldFrom k (size - payloadSize) rest
+  behind = held_from k (size - payload_size) rest
 
-  part-first : (take payloadSize (part ++ behind) ≡ part) × (drop payloadSize (part ++ behind) ≡ behind)
-  part-first = by (dec_lt size payloadSize)
+  part_first : (take payload_size (part ++ behind) ≡ part) × (drop payload_size (part ++ behind) ≡ behind)
+  part_first = by (dec_lt size payload_size)
     where
-      by : Dec (size < payloadSize) → (take payloadSize (part ++ behind) ≡ part) × (drop payloadSize (part ++ behind) ≡ behind)
-      by (no full) = (take_at part behind payloadSize (omega arith), drop_at part behind payloadSize (omega arith))
+      by : Dec (size < payload_size) → (take payload_size (part ++ behind) ≡ part) × (drop payload_size (part ++ behind) ≡ behind)
+      by (no full) = (take_at part behind payload_size (omega arith), drop_at part behind payload_size (omega arith))
       by (yes short) =
-          let over : size - payloadSize ≡ 0 = omega arith in
-          let empty : behind ≡ [] = ap (λ s. heldFrom k s rest) over ∙ held_none k rest in
+          let over : size - payload_size ≡ 0 = omega arith in
+          let empty : behind ≡ [] = ap (λ s. held_from k s rest) over ∙ held_none k rest in
           let whole : part ++ behind ≡ part = ap (λ l. part ++ l) empty ∙ append-nil part in (
-            ap (take payloadSize) whole ∙ take_all payloadSize part (omega arith),
-            ap (drop payloadSize) whole ∙ drop_of_length-le part {i = payloadSize} (omega arith) ∙ sym empty,
+            ap (take payload_size) whole ∙ take_all payload_size part (omega arith),
+            ap (drop payload_size) whole ∙ drop_of_length-le part {i = payload_size} (omega arith) ∙ sym empty,
           )
 
-both-none : (a : Option ℕ) (place : ℕ) (r : Option Fault) → orFault a place r ≡ none → (a ≡ none) × (r ≡ none)
-both-none none place r e = (refl, e)
-both-none (some m) place r e = let z : ◌≡◌ {A = ℕ} 0 1 = cc in absurd (omega arith)
+both_none : (a : Option ℕ) (place : ℕ) (r : Option Fault) → or_fault a place r ≡ none → (a ≡ none) × (r ≡ none)
+both_none none place r e = (refl, e)
+both_none (some m) place r e = let z : ◌≡◌ {A = ℕ} 0 1 = cc in absurd (omega arith)
 
 -- an image that is not refused is that of what it holds
-pub sound-blocks : (n k size : ℕ) (image : List ℕ) → length image ≡ blockSize * k → size ≤ payloadSize * k → Bytes image
-    → blocksFault n k size image ≡ none → image ≡ blocks_from n k (heldFrom k size image)
-unfolding blocksFault blocks_from heldFrom
-sound-blocks n zero size [] l fits each e = refl
-sound-blocks n zero size (b ∷ image) l fits each e = absurd (omega arith)
-sound-blocks n (suc k) size image l fits each e =
-    let used = min payloadSize size in
-    let block = take blockSize image in
-    let rest = drop blockSize image in
-    let p = take used (drop headSize image) in
-    let long : length p ≡ used = length-take-le used (drop headSize image) (omega (arith, length-drop headSize image)) in
-    let both = both-none (blockFault n used block) (blockSize * n) (blocksFault (n + 1) k (size - payloadSize) rest) e in
+pub sound_blocks : (n k size : ℕ) (image : List ℕ) → length image ≡ block_size * k → size ≤ payload_size * k → Bytes image
+    → blocks_fault n k size image ≡ none → image ≡ blocks_from n k (held_from k size image)
+unfolding blocks_fault blocks_from held_from
+sound_blocks n zero size [] l fits each e = refl
+sound_blocks n zero size (b ∷ image) l fits each e = absurd (omega arith)
+sound_blocks n (suc k) size image l fits each e =
+    let used = min payload_size size in
+    let block = take block_size image in
+    let rest = drop block_size image in
+    let p = take used (drop head_size image) in
+    let long : length p ≡ used = length-take-le used (drop head_size image) (omega (arith, length-drop head_size image)) in
+    let both = both_none (block_fault n used block) (block_size * n) (blocks_fault (n + 1) k (size - payload_size) rest) e in
     let first : block ≡ block_of n p =
-    sound-block n used block (length-take-le blockSize image (omega arith)) (omega arith) (bytes_take blockSize image each) both.0
-    ∙ ap (block_of n) (payload-within blockSize used image (omega arith) (omega arith)) in
-    let more : rest ≡ blocks_from (n + 1) k (heldFrom k (size - payloadSize) rest) =
-    sound-blocks (n + 1) k (size - payloadSize) rest (omega (arith, length-drop blockSize image)) (omega arith) (bytes_drop blockSize image each) both.1 in
-    let apart = part-first k size rest p long in
-    sym (take-append-drop blockSize image)
+    sound_block n used block (length-take-le block_size image (omega arith)) (omega arith) (bytes_take block_size image each) both.0
+    ∙ ap (block_of n) (payload_within block_size used image (omega arith) (omega arith)) in
+    let more : rest ≡ blocks_from (n + 1) k (held_from k (size - payload_size) rest) =
+    sound_blocks (n + 1) k (size - payload_size) rest (omega (arith, length-drop block_size image)) (omega arith) (bytes_drop block_size image each) both.1 in
+    let apart = part_first k size rest p long in
+    sym (take-append-drop block_size image)
     ∙ ap₂ ◌++◌ (first ∙ ap (block_of n) (sym apart.0)) (more ∙ ap (blocks_from (n + 1) k) (sym apart.1))
 
 -- one changed byte
-pub blocks-changed : (n k size : ℕ) (image : List ℕ) (j v : ℕ) → length image ≡ blockSize * k → Bytes image → blocksFault n k size image ≡ none
-    → j < blockSize * k → v < 256 → (v ≡ get_or image j 0 → ⊥) → blocksFault n k size (set image j v) ≡ some (fault 63 (blockSize * (n + j / blockSize)))
-unfolding blocksFault
-blocks-changed n zero size image j v l each e h small new = absurd (omega arith)
-blocks-changed n (suc k) size image j v l each e h small new =
-    let both = both-none (blockFault n (min payloadSize size) (take blockSize image)) (blockSize * n) (blocksFault (n + 1) k (size - payloadSize) (drop blockSize image)) e in
-    by both.0 (dec_lt j blockSize) (λ i at. blocks-changed (n + 1) k (size - payloadSize) (drop blockSize image) i v (omega (arith, length-drop blockSize image))
-    (bytes_drop blockSize image each) both.1 (omega arith) small (λ x. new (x ∙ get_or-drop blockSize image i 0 ∙ ap (λ y. get_or image y 0) (sym at))))
+pub blocks_changed : (n k size : ℕ) (image : List ℕ) (j v : ℕ) → length image ≡ block_size * k → Bytes image → blocks_fault n k size image ≡ none
+    → j < block_size * k → v < 256 → (v ≡ get_or image j 0 → ⊥) → blocks_fault n k size (set image j v) ≡ some (fault 63 (block_size * (n + j / block_size)))
+unfolding blocks_fault
+blocks_changed n zero size image j v l each e h small new = absurd (omega arith)
+blocks_changed n (suc k) size image j v l each e h small new =
+    let both = both_none (block_fault n (min payload_size size) (take block_size image)) (block_size * n) (blocks_fault (n + 1) k (size - payload_size) (drop block_size image)) e in
+    by both.0 (dec_lt j block_size) (λ i at. blocks_changed (n + 1) k (size - payload_size) (drop block_size image) i v (omega (arith, length-drop block_size image))
+    (bytes_drop block_size image each) both.1 (omega arith) small (λ x. new (x ∙ get_or-drop block_size image i 0 ∙ ap (λ y. get_or image y 0) (sym at))))
   where
     used : ℕ
-    used = min payloadSize size
+    used = min payload_size size
 
-    by : blockFault n used (take blockSize image) ≡ none → Dec (j < blockSize)
-        → ((i : ℕ) → j ≡ blockSize + i → blocksFault (n + 1) k (size - payloadSize) (set (drop blockSize image) i v) ≡ some (fault 63 (blockSize * (n + 1 + i / blockSize))))
-        → orFault (blockFault n used (take blockSize (set image j v))) (blockSize * n) (blocksFault (n + 1) k (size - payloadSize) (drop blockSize (set image j v)))
-        ≡ some (fault 63 (blockSize * (n + j / blockSize)))
+    by : block_fault n used (take block_size image) ≡ none → Dec (j < block_size)
+        → ((i : ℕ) → j ≡ block_size + i → blocks_fault (n + 1) k (size - payload_size) (set (drop block_size image) i v) ≡ some (fault 63 (block_size * (n + 1 + i / block_size))))
+        → or_fault (block_fault n used (take block_size (set image j v))) (block_size * n) (blocks_fault (n + 1) k (size - payload_size) (drop block_size (set image j v)))
+        ≡ some (fault 63 (block_size * (n + j / block_size)))
     by sound (yes lt) rest =
-        let place : n ≡ n + j / blockSize = omega arith in
-        let here : blockFault n used (take blockSize (set image j v)) ≡ some 63 =
-        ap (blockFault n used) (take-set-lt blockSize image j v lt)
-        ∙ block-changed (take blockSize image) j v (length-take-le blockSize image (omega arith)) (bytes_take blockSize image each) small
-        (λ x. new (x ∙ get_or-take blockSize image j 0 lt)) (sound-checked n used (take blockSize image) sound) lt n used in
-        ap (λ f. orFault f (blockSize * n) (blocksFault (n + 1) k (size - payloadSize) (drop blockSize (set image j v)))) here
-        ∙ ap (λ b. some (fault 63 (blockSize * b))) place
+        let place : n ≡ n + j / block_size = omega arith in
+        let here : block_fault n used (take block_size (set image j v)) ≡ some 63 =
+        ap (block_fault n used) (take-set-lt block_size image j v lt)
+        ∙ block_changed (take block_size image) j v (length-take-le block_size image (omega arith)) (bytes_take block_size image each) small
+        (λ x. new (x ∙ get_or-take block_size image j 0 lt)) (sound_checked n used (take block_size image) sound) lt n used in
+        ap (λ f. or_fault f (block_size * n) (blocks_fault (n + 1) k (size - payload_size) (drop block_size (set image j v)))) here
+        ∙ ap (λ b. some (fault 63 (block_size * b))) place
     by sound (no ge) rest =
-        let i = j - blockSize in
-        let at : j ≡ blockSize + i = omega arith in
-        let place : n + 1 + i / blockSize ≡ n + j / blockSize = omega arith in
-        let behind : drop blockSize (set image j v) ≡ set (drop blockSize image) i v = ap (λ x. drop blockSize (set image x v)) at ∙ drop-set-add blockSize image i v in
-        ap₂ (λ f r. orFault f (blockSize * n) r) (ap (blockFault n used) (take-set-le blockSize image j v (omega arith)) ∙ sound)
-        (ap (blocksFault (n + 1) k (size - payloadSize)) behind ∙ rest i at)
-        ∙ ap (λ b. some (fault 63 (blockSize * b))) place
+        let i = j - block_size in
+        let at : j ≡ block_size + i = omega arith in
+        let place : n + 1 + i / block_size ≡ n + j / block_size = omega arith in
+        let behind : drop block_size (set image j v) ≡ set (drop block_size image) i v = ap (λ x. drop block_size (set image x v)) at ∙ drop-set-add block_size image i v in
+        ap₂ (λ f r. or_fault f (block_size * n) r) (ap (block_fault n used) (take-set-le block_size image j v (omega arith)) ∙ sound)
+        (ap (blocks_fault (n + 1) k (size - payload_size)) behind ∙ rest i at)
+        ∙ ap (λ b. some (fault 63 (block_size * b))) place
 
 -- a block that is refused is one of them
-pub blocks-near : (n k size : ℕ) (image : List ℕ) (f : Fault) → blocksFault n k size image ≡ some f → f.place < blockSize * (n + k)
-unfolding blocksFault
-blocks-near n zero size image f e = let z : ◌≡◌ {A = ℕ} 0 1 = cc in absurd (omega arith)
-blocks-near n (suc k) size image f e =
-    by (blockFault n (min payloadSize size) (take blockSize image)) e (λ e'. blocks-near (n + 1) k (size - payloadSize) (drop blockSize image) f e')
+pub blocks_near : (n k size : ℕ) (image : List ℕ) (f : Fault) → blocks_fault n k size image ≡ some f → f.place < block_size * (n + k)
+unfolding blocks_fault
+blocks_near n zero size image f e = let z : ◌≡◌ {A = ℕ} 0 1 = cc in absurd (omega arith)
+blocks_near n (suc k) size image f e =
+    by (block_fault n (min payload_size size) (take block_size image)) e (λ e'. blocks_near (n + 1) k (size - payload_size) (drop block_size image) f e')
   where
-    by : (b : Option ℕ) → orFault b (blockSize * n) (blocksFault (n + 1) k (size - payloadSize) (drop blockSize image)) ≡ some f
-        → (blocksFault (n + 1) k (size - payloadSize) (drop blockSize image) ≡ some f → f.place < blockSize * (n + 1 + k)) → f.place < blockSize * (n + suc k)
+    by : (b : Option ℕ) → or_fault b (block_size * n) (blocks_fault (n + 1) k (size - payload_size) (drop block_size image)) ≡ some f
+        → (blocks_fault (n + 1) k (size - payload_size) (drop block_size image) ≡ some f → f.place < block_size * (n + 1 + k)) → f.place < block_size * (n + suc k)
     by none e' rest = let r = rest e' in omega arith
-    by (some m) e' rest = let p : blockSize * n ≡ f.place = cc in omega arith
+    by (some m) e' rest = let p : block_size * n ≡ f.place = cc in omega arith
 
 -- the whole image
-pub image-sound : (carriers : List ℕ) → Bytes carriers → blocksFor (length carriers) ≤ 256 → imageFault (length carriers) (image_of carriers) ≡ none
+pub image_sound : (carriers : List ℕ) → Bytes carriers → blocks_for (length carriers) ≤ 256 → image_fault (length carriers) (image_of carriers) ≡ none
 unfolding image_of
-image-sound carriers each few = blocks-sound 0 (blocksFor (length carriers)) carriers (blocks-enough (length carriers)) (omega arith) each
+image_sound carriers each few = blocks_sound 0 (blocks_for (length carriers)) carriers (blocks_enough (length carriers)) (omega arith) each
 
-pub image_holds : (carriers : List ℕ) → heldIn (length carriers) (image_of carriers) ≡ carriers
+pub image_holds : (carriers : List ℕ) → held_in (length carriers) (image_of carriers) ≡ carriers
 unfolding image_of
-image_holds carriers = blocks-hold 0 (blocksFor (length carriers)) carriers (blocks-enough (length carriers))
+image_holds carriers = blocks_hold 0 (blocks_for (length carriers)) carriers (blocks_enough (length carriers))
 
-module _ (size : ℕ) (image : List ℕ) (l : length image ≡ imageSize size) where
-  pub length-held-in : length (heldIn size image) ≡ size
-  length-held-in = length-held (blocksFor size) size image (blocks-enough size) (omega arith)
+module _ (size : ℕ) (image : List ℕ) (l : length image ≡ image_size_of size) where
+  pub length_held_in : length (held_in size image) ≡ size
+  length_held_in = length_held (blocks_for size) size image (blocks_enough size) (omega arith)
 
-  pub image-of-held : Bytes image → imageFault size image ≡ none → image_of (heldIn size image) ≡ image
+  pub image_of_held : Bytes image → image_fault size image ≡ none → image_of (held_in size image) ≡ image
   unfolding image_of
-  image-of-held each e =
-      ap (λ s. blocks_from 0 (blocksFor s) (heldIn size image)) length-held-in
-      ∙ sym (sound-blocks 0 (blocksFor size) size image l (blocks-enough size) each e)
+  image_of_held each e =
+      ap (λ s. blocks_from 0 (blocks_for s) (held_in size image)) length_held_in
+      ∙ sym (sound_blocks 0 (blocks_for size) size image l (blocks_enough size) each e)
 
-  pub image-changed : (j v : ℕ) → Bytes image → imageFault size image ≡ none → j < length image → v < 256 → (v ≡ get_or image j 0 → ⊥)
-      → imageFault size (set image j v) ≡ some (fault 63 (blockSize * (j / blockSize)))
-  image-changed j v each e h small new =
-      let at : 0 + j / blockSize ≡ j / blockSize = omega arith in
-      blocks-changed 0 (blocksFor size) size image j v l each e (omega arith) small new ∙ ap (λ b. some (fault 63 (blockSize * b))) at
+  pub image_changed : (j v : ℕ) → Bytes image → image_fault size image ≡ none → j < length image → v < 256 → (v ≡ get_or image j 0 → ⊥)
+      → image_fault size (set image j v) ≡ some (fault 63 (block_size * (j / block_size)))
+  image_changed j v each e h small new =
+      let at : 0 + j / block_size ≡ j / block_size = omega arith in
+      blocks_changed 0 (blocks_for size) size image j v l each e (omega arith) small new ∙ ap (λ b. some (fault 63 (block_size * b))) at

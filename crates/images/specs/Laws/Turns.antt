@@ -12,31 +12,31 @@ use Rattle.std.proofs.Math.ListN.{drop}
 use Rattle.std.proofs.Math.Seq.{take-length, paste}
 use Rattle.std.proofs.lemmas.List.Edits.{take-paste, length-paste}
 use Rattle.rules.specs.Faults.Fault.{Fault, fault}
-use Rattle.rules.specs.Images.{payloadSize, headSize, checkedSize, blockSize, block_of, blocks_from, blocksFor, imageSize, image_of, isChecked, isFormed, faultBy, blockFault, orFault, blocksFault, imageFault, heldFrom, heldIn}
-use Rattle.blocks.specs.Laws.Blocks.{length-block}
+use Rattle.rules.specs.Images.{payload_size, head_size, checked_size, block_size, block_of, blocks_from, blocks_for, image_size_of, image_of, is_checked, is_formed, fault_by, block_fault, or_fault, blocks_fault, image_fault, held_from, held_in}
+use Rattle.blocks.specs.Laws.Blocks.{length_block}
 
 -- so many blocks of an image, i of them passed
 pub record Passed (size blocks : ℕ) (image : List ℕ) (i : ℕ) : Type 0 where
   pub within : i ≤ blocks
-  pub counted : blocks ≡ blocksFor size
+  pub counted : blocks ≡ blocks_for size
   pub few : blocks ≤ 66
-  pub long : length image ≡ blockSize * blocks
-  pub needed : i < blocks → payloadSize * i < size
-  pub enough : size ≤ payloadSize * blocks
+  pub long : length image ≡ block_size * blocks
+  pub needed : i < blocks → payload_size * i < size
+  pub enough : size ≤ payload_size * blocks
 
-passed : (size blocks : ℕ) (image : List ℕ) (i : ℕ) → size ≤ 32768 → length image ≡ imageSize size → blocks ≡ blocksFor size → i ≤ blocks → Passed size blocks image i
-unfolding blocksFor
+passed : (size blocks : ℕ) (image : List ℕ) (i : ℕ) → size ≤ 32768 → length image ≡ image_size_of size → blocks ≡ blocks_for size → i ≤ blocks → Passed size blocks image i
+unfolding blocks_for
 passed size blocks image i small l e h = record {
   within = h;
   counted = e;
   few = omega arith;
-  long = l ∙ ap (λ k. blockSize * k) (sym e);
+  long = l ∙ ap (λ k. block_size * k) (sym e);
   needed = λ lt. omega arith;
   enough = omega arith;
 }
 
 next : {size blocks : ℕ} {image : List ℕ} {i : ℕ} → Passed size blocks image i → i < blocks → Passed size blocks image (i + 1)
-unfolding blocksFor
+unfolding blocks_for
 next v h = record {
   within = omega arith;
   counted = v.counted;
@@ -50,92 +50,92 @@ next v h = record {
 abbrev pub middle : ℕ → ℕ → List ℕ → List ℕ
 middle a n l = take (a + n - a) (drop a l)
 
-middle-is : (a n : ℕ) (l : List ℕ) → middle a n l ≡ take n (drop a l)
-middle-is a n l = let e : a + n - a ≡ n = omega arith in ap (λ k. take k (drop a l)) e
+middle_is : (a n : ℕ) (l : List ℕ) → middle a n l ≡ take n (drop a l)
+middle_is a n l = let e : a + n - a ≡ n = omega arith in ap (λ k. take k (drop a l)) e
 
 -- the block i
 abbrev pub block_at : List ℕ → ℕ → List ℕ
-block_at image i = middle (blockSize * i) blockSize image
+block_at image i = middle (block_size * i) block_size image
 
-abbrev pub usedAt : ℕ → ℕ → ℕ
-usedAt size i = min payloadSize (size - payloadSize * i)
+abbrev pub used_at : ℕ → ℕ → ℕ
+used_at size i = min payload_size (size - payload_size * i)
 
 -- i blocks are judged
 pub record Judging (size blocks : ℕ) (image : List ℕ) (i : ℕ) : Type 0 where
   pub passes : Passed size blocks image i
-  pub is : blocksFault i (blocks - i) (size - payloadSize * i) (drop (blockSize * i) image) ≡ imageFault size image
+  pub is : blocks_fault i (blocks - i) (size - payload_size * i) (drop (block_size * i) image) ≡ image_fault size image
 
-pub none-judged : {size blocks : ℕ} {image : List ℕ} → (size ≤ 32768) × (length image ≡ imageSize size) → blocks ≡ blocksFor size → Judging size blocks image 0
-none-judged {size} {blocks} {image} h e =
-    let k : blocks - 0 ≡ blocksFor size = omega arith in
-    let s : size - payloadSize * 0 ≡ size = omega arith in
-    record { passes = passed size blocks image 0 h.0 h.1 e (omega arith); is = ap₂ (λ x y. blocksFault 0 x y image) k s }
+pub none_judged : {size blocks : ℕ} {image : List ℕ} → (size ≤ 32768) × (length image ≡ image_size_of size) → blocks ≡ blocks_for size → Judging size blocks image 0
+none_judged {size} {blocks} {image} h e =
+    let k : blocks - 0 ≡ blocks_for size = omega arith in
+    let s : size - payload_size * 0 ≡ size = omega arith in
+    record { passes = passed size blocks image 0 h.0 h.1 e (omega arith); is = ap₂ (λ x y. blocks_fault 0 x y image) k s }
 
-turn-fault : {size blocks : ℕ} {image : List ℕ} {i : ℕ} → Judging size blocks image i → i < blocks
-    → orFault (blockFault i (usedAt size i) (block_at image i)) (blockSize * i)
-    (blocksFault (i + 1) (blocks - (i + 1)) (size - payloadSize * (i + 1)) (drop (blockSize * (i + 1)) image)) ≡ imageFault size image
-unfolding blocksFault
-turn-fault {size} {blocks} {image} {i} v h =
+turn_fault : {size blocks : ℕ} {image : List ℕ} {i : ℕ} → Judging size blocks image i → i < blocks
+    → or_fault (block_fault i (used_at size i) (block_at image i)) (block_size * i)
+    (blocks_fault (i + 1) (blocks - (i + 1)) (size - payload_size * (i + 1)) (drop (block_size * (i + 1)) image)) ≡ image_fault size image
+unfolding blocks_fault
+turn_fault {size} {blocks} {image} {i} v h =
     let left : blocks - i ≡ suc (blocks - (i + 1)) = omega arith in
-    let less : size - payloadSize * (i + 1) ≡ size - payloadSize * i - payloadSize = omega arith in
-    let more : blockSize * i + blockSize ≡ blockSize * (i + 1) = omega arith in
-    ap (λ b. orFault (blockFault i (usedAt size i) b) (blockSize * i) (blocksFault (i + 1) (blocks - (i + 1)) (size - payloadSize * (i + 1)) (drop (blockSize * (i + 1)) image)))
-    (middle-is (blockSize * i) blockSize image)
-    ∙ ap₂ (λ x y. orFault (blockFault i (usedAt size i) (take blockSize (drop (blockSize * i) image))) (blockSize * i) (blocksFault (i + 1) (blocks - (i + 1)) x y)) less
-    (ap (λ k. drop k image) (sym more) ∙ sym (drop-drop blockSize (blockSize * i) image))
-    ∙ sym (ap (λ k. blocksFault i k (size - payloadSize * i) (drop (blockSize * i) image)) left) ∙ v.is
+    let less : size - payload_size * (i + 1) ≡ size - payload_size * i - payload_size = omega arith in
+    let more : block_size * i + block_size ≡ block_size * (i + 1) = omega arith in
+    ap (λ b. or_fault (block_fault i (used_at size i) b) (block_size * i) (blocks_fault (i + 1) (blocks - (i + 1)) (size - payload_size * (i + 1)) (drop (block_size * (i + 1)) image)))
+    (middle_is (block_size * i) block_size image)
+    ∙ ap₂ (λ x y. or_fault (block_fault i (used_at size i) (take block_size (drop (block_size * i) image))) (block_size * i) (blocks_fault (i + 1) (blocks - (i + 1)) x y)) less
+    (ap (λ k. drop k image) (sym more) ∙ sym (drop-drop block_size (block_size * i) image))
+    ∙ sym (ap (λ k. blocks_fault i k (size - payload_size * i) (drop (block_size * i) image)) left) ∙ v.is
 
 module _ {size blocks : ℕ} {image : List ℕ} {i : ℕ} (v : Judging size blocks image i) (h : i < blocks) where
   abbrev rest : Option Fault
-  rest = blocksFault (i + 1) (blocks - (i + 1)) (size - payloadSize * (i + 1)) (drop (blockSize * (i + 1)) image)
+  rest = blocks_fault (i + 1) (blocks - (i + 1)) (size - payload_size * (i + 1)) (drop (block_size * (i + 1)) image)
 
-  pub unchecked : isChecked (block_at image i) ≡ false → some (fault 63 (blockSize * i)) ≡ imageFault size image
+  pub unchecked : is_checked (block_at image i) ≡ false → some (fault 63 (block_size * i)) ≡ image_fault size image
   unchecked e =
-      sym (ap (λ t. orFault (faultBy t (isFormed i (usedAt size i) (take checkedSize (block_at image i)))) (blockSize * i) rest) e) ∙ turn-fault v h
+      sym (ap (λ t. or_fault (fault_by t (is_formed i (used_at size i) (take checked_size (block_at image i)))) (block_size * i) rest) e) ∙ turn_fault v h
 
-  pub unformed : isChecked (block_at image i) ≡ true → (used : ℕ) → used ≡ usedAt size i → isFormed i used (take checkedSize (block_at image i)) ≡ false
-      → some (fault 64 (blockSize * i)) ≡ imageFault size image
-  unformed e used u f₀ = let f = rw u at f₀ in sym (ap₂ (λ t u. orFault (faultBy t u) (blockSize * i) rest) e f) ∙ turn-fault v h
+  pub unformed : is_checked (block_at image i) ≡ true → (used : ℕ) → used ≡ used_at size i → is_formed i used (take checked_size (block_at image i)) ≡ false
+      → some (fault 64 (block_size * i)) ≡ image_fault size image
+  unformed e used u f₀ = let f = rw u at f₀ in sym (ap₂ (λ t u. or_fault (fault_by t u) (block_size * i) rest) e f) ∙ turn_fault v h
 
-  pub more-judged : isChecked (block_at image i) ≡ true → (used : ℕ) → used ≡ usedAt size i → isFormed i used (take checkedSize (block_at image i)) ≡ true
+  pub more_judged : is_checked (block_at image i) ≡ true → (used : ℕ) → used ≡ used_at size i → is_formed i used (take checked_size (block_at image i)) ≡ true
       → Judging size blocks image (i + 1)
-  more-judged e used u f₀ = let f = rw u at f₀ in record { passes = next v.passes h; is = sym (ap₂ (λ t u. orFault (faultBy t u) (blockSize * i) rest) e f) ∙ turn-fault v h }
+  more_judged e used u f₀ = let f = rw u at f₀ in record { passes = next v.passes h; is = sym (ap₂ (λ t u. or_fault (fault_by t u) (block_size * i) rest) e f) ∙ turn_fault v h }
 
-pub all-judged : {size blocks : ℕ} {image : List ℕ} {i : ℕ} → Judging size blocks image i → blocks ≤ i → none ≡ imageFault size image
-unfolding blocksFault
-all-judged {size} {blocks} {image} {i} v h =
+pub all_judged : {size blocks : ℕ} {image : List ℕ} {i : ℕ} → Judging size blocks image i → blocks ≤ i → none ≡ image_fault size image
+unfolding blocks_fault
+all_judged {size} {blocks} {image} {i} v h =
     let over : blocks - i ≡ 0 = omega arith in
-    sym (ap (λ k. blocksFault i k (size - payloadSize * i) (drop (blockSize * i) image)) over) ∙ v.is
+    sym (ap (λ k. blocks_fault i k (size - payload_size * i) (drop (block_size * i) image)) over) ∙ v.is
 
 -- i blocks are read
 pub record Reading (size blocks : ℕ) (image now : List ℕ) (i : ℕ) : Type 0 where
   pub passes : Passed size blocks image i
   pub sized : length now ≡ size
-  pub is : take (payloadSize * i) now ++ heldFrom (blocks - i) (size - payloadSize * i) (drop (blockSize * i) image) ≡ heldIn size image
+  pub is : take (payload_size * i) now ++ held_from (blocks - i) (size - payload_size * i) (drop (block_size * i) image) ≡ held_in size image
 
-pub none_read : {size blocks : ℕ} {image before : List ℕ} → (length before ≤ 32768) × (length image ≡ imageSize (length before)) → size ≡ length before → blocks ≡ blocksFor size
+pub none_read : {size blocks : ℕ} {image before : List ℕ} → (length before ≤ 32768) × (length image ≡ image_size_of (length before)) → size ≡ length before → blocks ≡ blocks_for size
     → Reading size blocks image before 0
 none_read {size} {blocks} {image} {before} h s e =
-    let k : blocks - 0 ≡ blocksFor size = omega arith in
-    let z : size - payloadSize * 0 ≡ size = omega arith in
+    let k : blocks - 0 ≡ blocks_for size = omega arith in
+    let z : size - payload_size * 0 ≡ size = omega arith in
     record {
-      passes = passed size blocks image 0 (omega (arith, h.0)) (h.1 ∙ ap imageSize (sym s)) e (omega arith);
+      passes = passed size blocks image 0 (omega (arith, h.0)) (h.1 ∙ ap image_size_of (sym s)) e (omega arith);
       sized = sym s;
-      is = ap₂ (λ x y. heldFrom x y image) k z;
+      is = ap₂ (λ x y. held_from x y image) k z;
     }
 
 -- the payload of block i
-abbrev payloadAt : ℕ → List ℕ → ℕ → List ℕ
-payloadAt size image i = take (usedAt size i) (drop (blockSize * i + headSize) image)
+abbrev payload_at : ℕ → List ℕ → ℕ → List ℕ
+payload_at size image i = take (used_at size i) (drop (block_size * i + head_size) image)
 
-length-payload : {size blocks : ℕ} {image : List ℕ} {i : ℕ} → Passed size blocks image i → i < blocks → length (payloadAt size image i) ≡ usedAt size i
-length-payload {size} {blocks} {image} {i} v h =
-    length-take-le (usedAt size i) (drop (blockSize * i + headSize) image) (omega (arith, v.long, length-drop (blockSize * i + headSize) image))
+length_payload : {size blocks : ℕ} {image : List ℕ} {i : ℕ} → Passed size blocks image i → i < blocks → length (payload_at size image i) ≡ used_at size i
+length_payload {size} {blocks} {image} {i} v h =
+    length-take-le (used_at size i) (drop (block_size * i + head_size) image) (omega (arith, v.long, length-drop (block_size * i + head_size) image))
 
 -- what is pasted last
-paste-last : (before part : List ℕ) (at room : ℕ) → at + length part ≤ length before → length part ≤ room → (length part < room → at + length part ≡ length before)
+paste_last : (before part : List ℕ) (at room : ℕ) → at + length part ≤ length before → length part ≤ room → (length part < room → at + length part ≡ length before)
     → take (at + room) (paste before at part (length part)) ≡ take at before ++ part
-paste-last before part at room fits short last = by (dec_lt (length part) room)
+paste_last before part at room fits short last = by (dec_lt (length part) room)
   where
     by : Dec (length part < room) → take (at + room) (paste before at part (length part)) ≡ take at before ++ part
     by (no full) =
@@ -149,67 +149,67 @@ paste-last before part at room fits short last = by (dec_lt (length part) room)
         ap (take (at + room)) whole
         ∙ take_all (at + room) (take at before ++ part) (omega (arith, length-append (take at before) part, length-take at before))
 
-turn-read : {size blocks : ℕ} {image now : List ℕ} {i : ℕ} → Reading size blocks image now i → i < blocks
-    → Reading size blocks image (paste now (payloadSize * i) (payloadAt size image i) (length (payloadAt size image i))) (i + 1)
-unfolding heldFrom
-turn-read {size} {blocks} {image} {now} {i} v h =
-    let part = payloadAt size image i in
-    let at = payloadSize * i in
+turn_read : {size blocks : ℕ} {image now : List ℕ} {i : ℕ} → Reading size blocks image now i → i < blocks
+    → Reading size blocks image (paste now (payload_size * i) (payload_at size image i) (length (payload_at size image i))) (i + 1)
+unfolding held_from
+turn_read {size} {blocks} {image} {now} {i} v h =
+    let part = payload_at size image i in
+    let at = payload_size * i in
     let p = v.passes in
-    let long : length part ≡ usedAt size i = length-payload p h in
+    let long : length part ≡ used_at size i = length_payload p h in
     let needed = p.needed h in
     let left : blocks - i ≡ suc (blocks - (i + 1)) = omega arith in
-    let less : size - payloadSize * (i + 1) ≡ size - at - payloadSize = omega arith in
-    let more : blockSize * i + blockSize ≡ blockSize * (i + 1) = omega arith in
-    let next-at : payloadSize * (i + 1) ≡ at + payloadSize = omega arith in
-    let rest = heldFrom (blocks - (i + 1)) (size - payloadSize * (i + 1)) (drop (blockSize * (i + 1)) image) in
-    let turn : heldFrom (blocks - i) (size - at) (drop (blockSize * i) image) ≡ part ++ rest =
-    ap (λ k. heldFrom k (size - at) (drop (blockSize * i) image)) left
-    ∙ ap₂ (λ x y. take (usedAt size i) x ++ y) (drop-drop headSize (blockSize * i) image)
-    (ap₂ (heldFrom (blocks - (i + 1))) (sym less) (drop-drop blockSize (blockSize * i) image ∙ ap (λ k. drop k image) more)) in
+    let less : size - payload_size * (i + 1) ≡ size - at - payload_size = omega arith in
+    let more : block_size * i + block_size ≡ block_size * (i + 1) = omega arith in
+    let next_at : payload_size * (i + 1) ≡ at + payload_size = omega arith in
+    let rest = held_from (blocks - (i + 1)) (size - payload_size * (i + 1)) (drop (block_size * (i + 1)) image) in
+    let turn : held_from (blocks - i) (size - at) (drop (block_size * i) image) ≡ part ++ rest =
+    ap (λ k. held_from k (size - at) (drop (block_size * i) image)) left
+    ∙ ap₂ (λ x y. take (used_at size i) x ++ y) (drop-drop head_size (block_size * i) image)
+    (ap₂ (held_from (blocks - (i + 1))) (sym less) (drop-drop block_size (block_size * i) image ∙ ap (λ k. drop k image) more)) in
     record {
       passes = next p h;
-      sized = length-pasted now part at (omega (arith, long, v.sized)) ∙ v.sized;
-      is = ap (λ x. x ++ rest) (ap (λ k. take k (paste now at part (length part))) next-at
-          ∙ paste-last now part at payloadSize (omega (arith, long, v.sized)) (omega (arith, long)) (λ lt. omega (arith, long, v.sized)))
+      sized = length_pasted now part at (omega (arith, long, v.sized)) ∙ v.sized;
+      is = ap (λ x. x ++ rest) (ap (λ k. take k (paste now at part (length part))) next_at
+          ∙ paste_last now part at payload_size (omega (arith, long, v.sized)) (omega (arith, long)) (λ lt. omega (arith, long, v.sized)))
           ∙ append_assoc (take at now) part rest ∙ ap (λ l. take at now ++ l) (sym turn) ∙ v.is;
     }
   where
-    length-pasted : (before part : List ℕ) (at : ℕ) → at + length part ≤ length before → length (paste before at part (length part)) ≡ length before
-    length-pasted before part at fits = length-paste before at part (length part) fits (omega arith)
+    length_pasted : (before part : List ℕ) (at : ℕ) → at + length part ≤ length before → length (paste before at part (length part)) ≡ length before
+    length_pasted before part at fits = length-paste before at part (length part) fits (omega arith)
 
-module _ {size blocks : ℕ} {image now : List ℕ} {i : ℕ} (v : Reading size blocks image now i) (h : i < blocks) (used : ℕ) (u : used ≡ usedAt size i) where
-  payload-part : middle (blockSize * i + headSize) used image ≡ payloadAt size image i
-  payload-part = middle-is (blockSize * i + headSize) used image ∙ ap (λ k. take k (drop (blockSize * i + headSize) image)) u
+module _ {size blocks : ℕ} {image now : List ℕ} {i : ℕ} (v : Reading size blocks image now i) (h : i < blocks) (used : ℕ) (u : used ≡ used_at size i) where
+  payload_part : middle (block_size * i + head_size) used image ≡ payload_at size image i
+  payload_part = middle_is (block_size * i + head_size) used image ∙ ap (λ k. take k (drop (block_size * i + head_size) image)) u
 
-  pub payload-room : payloadSize * i + length (middle (blockSize * i + headSize) used image) ≤ length now
-  payload-room = omega (arith, ap length payload-part, length-payload v.passes h, v.passes.needed h, v.sized)
+  pub payload_room : payload_size * i + length (middle (block_size * i + head_size) used image) ≤ length now
+  payload_room = omega (arith, ap length payload_part, length_payload v.passes h, v.passes.needed h, v.sized)
 
-  pub more-read : (after : List ℕ) → after ≡ paste now (payloadSize * i) (middle (blockSize * i + headSize) used image) (length (middle (blockSize * i + headSize) used image))
+  pub more_read : (after : List ℕ) → after ≡ paste now (payload_size * i) (middle (block_size * i + head_size) used image) (length (middle (block_size * i + head_size) used image))
       → Reading size blocks image after (i + 1)
-  more-read after e = let e' = rw payload-part at e in rw e' (turn-read v h)
+  more_read after e = let e' = rw payload_part at e in rw e' (turn_read v h)
 
-pub all_read : {size blocks : ℕ} {image now : List ℕ} {i : ℕ} → Reading size blocks image now i → blocks ≤ i → now ≡ heldIn size image
-unfolding heldFrom
+pub all_read : {size blocks : ℕ} {image now : List ℕ} {i : ℕ} → Reading size blocks image now i → blocks ≤ i → now ≡ held_in size image
+unfolding held_from
 all_read {size} {blocks} {image} {now} {i} v h =
     let over : blocks - i ≡ 0 = omega arith in
-    sym (take_all (payloadSize * i) now (omega (arith, v.sized, v.passes.enough, v.passes.within)))
-    ∙ sym (append-nil (take (payloadSize * i) now))
-    ∙ sym (ap (λ k. take (payloadSize * i) now ++ heldFrom k (size - payloadSize * i) (drop (blockSize * i) image)) over) ∙ v.is
+    sym (take_all (payload_size * i) now (omega (arith, v.sized, v.passes.enough, v.passes.within)))
+    ∙ sym (append-nil (take (payload_size * i) now))
+    ∙ sym (ap (λ k. take (payload_size * i) now ++ held_from k (size - payload_size * i) (drop (block_size * i) image)) over) ∙ v.is
 
 -- i blocks are written
 pub record Writing (size blocks : ℕ) (carriers now : List ℕ) (i : ℕ) : Type 0 where
   pub passes : Passed size blocks now i
   pub sized : length carriers ≡ size
-  pub is : take (blockSize * i) now ++ blocks_from i (blocks - i) (drop (payloadSize * i) carriers) ≡ image_of carriers
+  pub is : take (block_size * i) now ++ blocks_from i (blocks - i) (drop (payload_size * i) carriers) ≡ image_of carriers
 
-pub none_written : {size blocks : ℕ} {carriers before : List ℕ} → (length carriers ≤ 32768) × (length before ≡ imageSize (length carriers)) → size ≡ length carriers
-    → blocks ≡ blocksFor size → Writing size blocks carriers before 0
+pub none_written : {size blocks : ℕ} {carriers before : List ℕ} → (length carriers ≤ 32768) × (length before ≡ image_size_of (length carriers)) → size ≡ length carriers
+    → blocks ≡ blocks_for size → Writing size blocks carriers before 0
 unfolding image_of
 none_written {size} {blocks} {carriers} {before} h s e =
-    let k : blocks - 0 ≡ blocksFor (length carriers) = (omega arith) ∙ e ∙ ap blocksFor s in
+    let k : blocks - 0 ≡ blocks_for (length carriers) = (omega arith) ∙ e ∙ ap blocks_for s in
     record {
-      passes = passed size blocks before 0 (omega (arith, h.0)) (h.1 ∙ ap imageSize (sym s)) e (omega arith);
+      passes = passed size blocks before 0 (omega (arith, h.0)) (h.1 ∙ ap image_size_of (sym s)) e (omega arith);
       sized = sym s;
       is = ap (λ x. blocks_from 0 x carriers) k;
     }
@@ -221,65 +221,65 @@ take_min n l = by (dec_lt n (length l))
     by (yes lt) = let e : min n (length l) ≡ n = omega arith in ap (λ k. take k l) e
     by (no ge) = let e : min n (length l) ≡ length l = omega arith in ap (λ k. take k l) e ∙ take_all (length l) l (omega arith) ∙ sym (take_all n l (omega arith))
 
-module _ {size blocks : ℕ} {carriers now : List ℕ} {i : ℕ} (v : Writing size blocks carriers now i) (h : i < blocks) (used : ℕ) (u : used ≡ usedAt size i) where
+module _ {size blocks : ℕ} {carriers now : List ℕ} {i : ℕ} (v : Writing size blocks carriers now i) (h : i < blocks) (used : ℕ) (u : used ≡ used_at size i) where
   abbrev at : ℕ
-  at = blockSize * i
+  at = block_size * i
 
   abbrev part : List ℕ
-  part = middle (payloadSize * i) used carriers
+  part = middle (payload_size * i) used carriers
 
-  pub part-is : part ≡ take payloadSize (drop (payloadSize * i) carriers)
-  part-is =
-      let e : used ≡ min payloadSize (length (drop (payloadSize * i) carriers)) = omega (arith, length-drop (payloadSize * i) carriers, v.sized) in
-      middle-is (payloadSize * i) used carriers ∙ ap (λ k. take k (drop (payloadSize * i) carriers)) e ∙ take_min payloadSize (drop (payloadSize * i) carriers)
+  pub part_is : part ≡ take payload_size (drop (payload_size * i) carriers)
+  part_is =
+      let e : used ≡ min payload_size (length (drop (payload_size * i) carriers)) = omega (arith, length-drop (payload_size * i) carriers, v.sized) in
+      middle_is (payload_size * i) used carriers ∙ ap (λ k. take k (drop (payload_size * i) carriers)) e ∙ take_min payload_size (drop (payload_size * i) carriers)
 
-  pub part-short : length part ≤ payloadSize
-  part-short = omega (arith, ap length part-is, length-take payloadSize (drop (payloadSize * i) carriers))
+  pub part_short : length part ≤ payload_size
+  part_short = omega (arith, ap length part_is, length-take payload_size (drop (payload_size * i) carriers))
 
-  pub block-whole : length (middle at blockSize now) ≡ blockSize
-  block-whole = ap length (middle-is at blockSize now) ∙ length-take-le blockSize (drop at now) (omega (arith, length-drop at now, v.passes.long))
+  pub block_whole : length (middle at block_size now) ≡ block_size
+  block_whole = ap length (middle_is at block_size now) ∙ length-take-le block_size (drop at now) (omega (arith, length-drop at now, v.passes.long))
 
-  turn-written : blocks_from i (blocks - i) (drop (payloadSize * i) carriers) ≡ block_of i part ++ blocks_from (i + 1) (blocks - (i + 1)) (drop (payloadSize * (i + 1)) carriers)
+  turn_written : blocks_from i (blocks - i) (drop (payload_size * i) carriers) ≡ block_of i part ++ blocks_from (i + 1) (blocks - (i + 1)) (drop (payload_size * (i + 1)) carriers)
   unfolding blocks_from
-  turn-written =
+  turn_written =
       let left : blocks - i ≡ suc (blocks - (i + 1)) = omega arith in
-      let more : payloadSize * i + payloadSize ≡ payloadSize * (i + 1) = omega arith in
-      ap (λ k. blocks_from i k (drop (payloadSize * i) carriers)) left
-      ∙ ap₂ (λ x y. block_of i x ++ blocks_from (i + 1) (blocks - (i + 1)) y) (sym part-is)
-      (drop-drop payloadSize (payloadSize * i) carriers ∙ ap (λ k. drop k carriers) more)
+      let more : payload_size * i + payload_size ≡ payload_size * (i + 1) = omega arith in
+      ap (λ k. blocks_from i k (drop (payload_size * i) carriers)) left
+      ∙ ap₂ (λ x y. block_of i x ++ blocks_from (i + 1) (blocks - (i + 1)) y) (sym part_is)
+      (drop-drop payload_size (payload_size * i) carriers ∙ ap (λ k. drop k carriers) more)
 
   module _ (new : List ℕ) (e : new ≡ block_of i part) where
     abbrev after : List ℕ
-    after = put_mid at (at + blockSize - at) now new
+    after = put_mid at (at + block_size - at) now new
 
-    long : length new ≡ blockSize
-    long = ap length e ∙ length-block i part part-short
+    long : length new ≡ block_size
+    long = ap length e ∙ length_block i part part_short
 
     same : length after ≡ length now
-    same = same_len_mid at (at + blockSize - at) now new (long ∙ sym block-whole)
+    same = same_len_mid at (at + block_size - at) now new (long ∙ sym block_whole)
 
-    front : take (blockSize * (i + 1)) after ≡ take at now ++ new
+    front : take (block_size * (i + 1)) after ≡ take at now ++ new
     front =
-        let f : length (take at now ++ new) ≡ blockSize * (i + 1) =
+        let f : length (take at now ++ new) ≡ block_size * (i + 1) =
         omega (arith, length-append (take at now) new, length-take at now, long, v.passes.long) in
-        ap (take (blockSize * (i + 1))) (sym (append_assoc (take at now) new (post_of at (at + blockSize - at) now)))
-        ∙ take_at (take at now ++ new) (post_of at (at + blockSize - at) now) (blockSize * (i + 1)) f
+        ap (take (block_size * (i + 1))) (sym (append_assoc (take at now) new (post_of at (at + block_size - at) now)))
+        ∙ take_at (take at now ++ new) (post_of at (at + block_size - at) now) (block_size * (i + 1)) f
 
-    pub more-written : Writing size blocks carriers after (i + 1)
-    more-written =
+    pub more_written : Writing size blocks carriers after (i + 1)
+    more_written =
         let p = next v.passes h in
-        let rest = blocks_from (i + 1) (blocks - (i + 1)) (drop (payloadSize * (i + 1)) carriers) in
+        let rest = blocks_from (i + 1) (blocks - (i + 1)) (drop (payload_size * (i + 1)) carriers) in
         record {
           passes = record { within = p.within; counted = p.counted; few = p.few; long = same ∙ p.long; needed = p.needed; enough = p.enough };
           sized = v.sized;
           is = ap (λ l. l ++ rest) (front ∙ ap (λ b. take at now ++ b) e) ∙ append_assoc (take at now) (block_of i part) rest
-              ∙ ap (λ l. take at now ++ l) (sym turn-written) ∙ v.is;
+              ∙ ap (λ l. take at now ++ l) (sym turn_written) ∙ v.is;
         }
 
-pub all-written : {size blocks : ℕ} {carriers now : List ℕ} {i : ℕ} → Writing size blocks carriers now i → blocks ≤ i → now ≡ image_of carriers
+pub all_written : {size blocks : ℕ} {carriers now : List ℕ} {i : ℕ} → Writing size blocks carriers now i → blocks ≤ i → now ≡ image_of carriers
 unfolding blocks_from
-all-written {size} {blocks} {carriers} {now} {i} v h =
+all_written {size} {blocks} {carriers} {now} {i} v h =
     let over : blocks - i ≡ 0 = omega arith in
-    sym (take_all (blockSize * i) now (omega (arith, v.passes.long, v.passes.within)))
-    ∙ sym (append-nil (take (blockSize * i) now))
-    ∙ sym (ap (λ k. take (blockSize * i) now ++ blocks_from i k (drop (payloadSize * i) carriers)) over) ∙ v.is
+    sym (take_all (block_size * i) now (omega (arith, v.passes.long, v.passes.within)))
+    ∙ sym (append-nil (take (block_size * i) now))
+    ∙ sym (ap (λ k. take (block_size * i) now ++ blocks_from i k (drop (payload_size * i) carriers)) over) ∙ v.is

@@ -5,51 +5,51 @@ use Rattle.std.proofs.Math.Path.{◌≡◌, ap, ap₂}
 use Rattle.std.proofs.Common.{sym, ◌∙◌, subst, arith, eq-eqb, ne_eqb}
 use Rattle.std.proofs.Math.Bool.{true, false}
 use Rattle.std.proofs.Math.Option.{Option, none, some}
-use Rattle.rules.specs.Declarations.{Table, totalWords}
+use Rattle.rules.specs.Declarations.{Table, total_words}
 use Rattle.rules.specs.Steps.Runs.{run}
 use Rattle.rules.specs.Faults.Fault.{fault}
-use Rattle.rules.specs.Faults.Whole.{mainName}
-use Rattle.rules.specs.Answers.{Result, result_of, startOr61, runOn, wordsFrom, wordLengths, longWord}
-use Rattle.rules.specs.Answers.{refusal as not-run}
-use Rattle.rules.specs.Images.{imageSize, image_of, blocksFor, imageFault, heldIn}
-use Rattle.rules.specs.Keeping.{Kept, declined, kept, refusedOr, faultUnless, at61, carriersSize, fault60, fault61, fault62, storing, loading, keptIn}
+use Rattle.rules.specs.Faults.Whole.{main_name}
+use Rattle.rules.specs.Answers.{Result, result_of, start_or61, run_on, words_from, word_lengths, long_word}
+use Rattle.rules.specs.Answers.{refusal as not_run}
+use Rattle.rules.specs.Images.{image_size_of, image_of, blocks_for, image_fault, held_in}
+use Rattle.rules.specs.Keeping.{Kept, declined, kept, refused_or, fault_unless, at61, carriers_size, fault60, fault61, fault62, storing, loading, kept_in}
 use Rattle.starts.specs.Starts.{Starts, Begins, Declines}
 use Rattle.laws_accepted.specs.Accepted.Declared.{declares, few_words}
 use Rattle.table.specs.Ready.{Scene, table_of}
 use Rattle.starts.specs.declared.Started.{Started}
-use Rattle.images.specs.Judged.{faultOf}
+use Rattle.images.specs.Judged.{fault_of}
 use Rattle.images.specs.declared.images.Judged.{Judged}
 use Rattle.images.specs.declared.images.Judged.TheVariants.{Fine, Refused as Bad}
-use Rattle.images.specs.Laws.Images.{length-held-in, blocks-near}
-use Rattle.kept.specs.Kept.{Keeping, Written, wrong-length, written, Taken}
+use Rattle.images.specs.Laws.Images.{length_held_in, blocks_near}
+use Rattle.kept.specs.Kept.{Keeping, Written, wrong_length, written, Taken}
 use Rattle.kept.specs.declared.endings.Ending.{Ending}
 use Rattle.kept.specs.declared.endings.Ending.TheVariants.{Refused, Done}
 
 -- a refusal, and bytes that are written
-declined-as : (x : Kept) (target : List ℕ) (m p : ℕ) → x ≡ declined m p → p < 65536 → Keeping x target target (Refused m p)
-declined-as x target m p e near = record { is = sym e; left_is = sym (ap (keptIn target) e); near = near }
+declined_as : (x : Kept) (target : List ℕ) (m p : ℕ) → x ≡ declined m p → p < 65536 → Keeping x target target (Refused m p)
+declined_as x target m p e near = record { is = sym e; left_is = sym (ap (kept_in target) e); near = near }
 
-done-as : (x : Kept) (target left : List ℕ) → x ≡ kept left → Keeping x target left Done
-done-as x target left e = record { is = sym e; left_is = sym (ap (keptIn target) e); near = tt }
+done_as : (x : Kept) (target left : List ℕ) → x ≡ kept left → Keeping x target left Done
+done_as x target left e = record { is = sym e; left_is = sym (ap (kept_in target) e); near = tt }
 
-keeping-same : {x y : Kept} {target left : List ℕ} {r : Ending} → Keeping x target left r → y ≡ x → Keeping y target left r
-keeping-same {target = target} k e = record { is = k.is ∙ sym e; left_is = k.left_is ∙ sym (ap (keptIn target) e); near = k.near }
+keeping_same : {x y : Kept} {target left : List ℕ} {r : Ending} → Keeping x target left r → y ≡ x → Keeping y target left r
+keeping_same {target = target} k e = record { is = k.is ∙ sym e; left_is = k.left_is ∙ sym (ap (kept_in target) e); near = k.near }
 
 -- 60 and 61 as a run has them
 module _ (ds : Table) (carriers : List ℕ) where
   abbrev long : Option ℕ
-  long = longWord 0 (wordLengths ds) (wordsFrom (totalWords ds) carriers)
+  long = long_word 0 (word_lengths ds) (words_from (total_words ds) carriers)
 
   abbrev result : Result
-  result = result_of (run ds (mainName ds) 0 (wordsFrom (totalWords ds) carriers))
+  result = result_of (run ds (main_name ds) 0 (words_from (total_words ds) carriers))
 
-  run-refused : {m p : ℕ} → Declines ds carriers m p → (k : Kept)
-      → (refusedOr (fault60 ds carriers) (refusedOr (fault61 ds carriers) k) ≡ declined m p) × p < 65536
-  unfolding runOn fault60 fault61
-  run-refused {m} {p} d k = by (eqb (length carriers) (8 * totalWords ds)) long (d.refuses 0)
+  run_refused : {m p : ℕ} → Declines ds carriers m p → (k : Kept)
+      → (refused_or (fault60 ds carriers) (refused_or (fault61 ds carriers) k) ≡ declined m p) × p < 65536
+  unfolding run_on fault60 fault61
+  run_refused {m} {p} d k = by (eqb (length carriers) (8 * total_words ds)) long (d.refuses 0)
     where
-      by : (t : Bool) (o : Option ℕ) → elim t [ false ↦ not-run 60 0 | true ↦ startOr61 o result ] ≡ not-run m p
-          → (refusedOr (faultUnless t 60 0) (refusedOr (at61 o) k) ≡ declined m p) × p < 65536
+      by : (t : Bool) (o : Option ℕ) → elim t [ false ↦ not_run 60 0 | true ↦ start_or61 o result ] ≡ not_run m p
+          → (refused_or (fault_unless t 60 0) (refused_or (at61 o) k) ≡ declined m p) × p < 65536
       by false o e =
           let x : 60 ≡ m = cc in
           let y : 0 ≡ p = cc in
@@ -60,115 +60,115 @@ module _ (ds : Table) (carriers : List ℕ) where
           let y : o ≡ p = cc in
           (ap₂ declined x y, omega (arith, d.near))
 
-  run-begun : Begins ds carriers → (fault60 ds carriers ≡ none) × (fault61 ds carriers ≡ none)
-  unfolding runOn fault60 fault61
-  run-begun b = by (eqb (length carriers) (8 * totalWords ds)) long (b.runs 0)
+  run_begun : Begins ds carriers → (fault60 ds carriers ≡ none) × (fault61 ds carriers ≡ none)
+  unfolding run_on fault60 fault61
+  run_begun b = by (eqb (length carriers) (8 * total_words ds)) long (b.runs 0)
     where
-      by : (t : Bool) (o : Option ℕ) → elim t [ false ↦ not-run 60 0 | true ↦ startOr61 o result ] ≡ result
-          → (faultUnless t 60 0 ≡ none) × (at61 o ≡ none)
+      by : (t : Bool) (o : Option ℕ) → elim t [ false ↦ not_run 60 0 | true ↦ start_or61 o result ] ≡ result
+          → (fault_unless t 60 0 ≡ none) × (at61 o ≡ none)
       by false o e = let z : ◌≡◌ {A = ℕ} 0 1 = cc in absurd (omega arith)
       by true none e = (refl, refl)
       by true (some o) e = let z : ◌≡◌ {A = ℕ} 0 1 = cc in absurd (omega arith)
 
-  long-60 : length carriers ≡ carriersSize ds → fault60 ds carriers ≡ none
+  long_60 : length carriers ≡ carriers_size ds → fault60 ds carriers ≡ none
   unfolding fault60
-  long-60 e = ap (λ t. faultUnless t 60 0) (eq-eqb _ _ e)
+  long_60 e = ap (λ t. fault_unless t 60 0) (eq-eqb _ _ e)
 
-  other-60 : (length carriers ≡ carriersSize ds → ⊥) → fault60 ds carriers ≡ some (fault 60 0)
+  other_60 : (length carriers ≡ carriers_size ds → ⊥) → fault60 ds carriers ≡ some (fault 60 0)
   unfolding fault60
-  other-60 h = ap (λ t. faultUnless t 60 0) (ne_eqb _ _ h)
+  other_60 h = ap (λ t. fault_unless t 60 0) (ne_eqb _ _ h)
 
-long-62 : (ds : Table) (image : List ℕ) → length image ≡ imageSize (carriersSize ds) → fault62 ds image ≡ none
+long_62 : (ds : Table) (image : List ℕ) → length image ≡ image_size_of (carriers_size ds) → fault62 ds image ≡ none
 unfolding fault62
-long-62 ds image e = ap (λ t. faultUnless t 62 0) (eq-eqb _ _ e)
+long_62 ds image e = ap (λ t. fault_unless t 62 0) (eq-eqb _ _ e)
 
-other-62 : (ds : Table) (image : List ℕ) → (length image ≡ imageSize (carriersSize ds) → ⊥) → fault62 ds image ≡ some (fault 62 0)
+other_62 : (ds : Table) (image : List ℕ) → (length image ≡ image_size_of (carriers_size ds) → ⊥) → fault62 ds image ≡ some (fault 62 0)
 unfolding fault62
-other-62 ds image h = ap (λ t. faultUnless t 62 0) (ne_eqb _ _ h)
+other_62 ds image h = ap (λ t. fault_unless t 62 0) (ne_eqb _ _ h)
 
-few-blocks : (size : ℕ) → size ≤ 32768 → blocksFor size ≤ 66
-unfolding blocksFor
-few-blocks size h = omega arith
+few_blocks : (size : ℕ) → size ≤ 32768 → blocks_for size ≤ 66
+unfolding blocks_for
+few_blocks size h = omega arith
 
 -- Store
 module _ (ds : Table) (carriers image : List ℕ) where
-  pub store-declined : {m p : ℕ} → Declines ds carriers m p → Keeping (storing carriers image ds) image image (Refused m p)
+  pub store_declined : {m p : ℕ} → Declines ds carriers m p → Keeping (storing carriers image ds) image image (Refused m p)
   unfolding storing
-  store-declined {m} {p} d =
-      let r = run-refused ds carriers d (refusedOr (fault62 ds image) (kept (image_of carriers))) in
-      declined-as _ image m p r.0 r.1
+  store_declined {m} {p} d =
+      let r = run_refused ds carriers d (refused_or (fault62 ds image) (kept (image_of carriers))) in
+      declined_as _ image m p r.0 r.1
 
-  begun : Begins ds carriers → storing carriers image ds ≡ refusedOr (fault62 ds image) (kept (image_of carriers))
+  begun : Begins ds carriers → storing carriers image ds ≡ refused_or (fault62 ds image) (kept (image_of carriers))
   unfolding storing
   begun b =
-      let r = run-begun ds carriers b in
-      ap₂ (λ x y. refusedOr x (refusedOr y (refusedOr (fault62 ds image) (kept (image_of carriers))))) r.0 r.1
+      let r = run_begun ds carriers b in
+      ap₂ (λ x y. refused_or x (refused_or y (refused_or (fault62 ds image) (kept (image_of carriers))))) r.0 r.1
 
-  pub store-begun : {left : List ℕ} {r : Ending} → Begins ds carriers → Written carriers image left r → Keeping (storing carriers image ds) image left r
-  store-begun b (wrong-length h e) =
-      let same = begun b ∙ ap (λ x. refusedOr x (kept (image_of carriers))) (other-62 ds image (λ x. h (x ∙ ap imageSize (sym b.long)))) in
-      subst (λ l. Keeping (storing carriers image ds) image l (Refused 62 0)) (sym e) (declined-as _ image 62 0 same (omega arith))
-  store-begun b (written l e) =
-      let same = begun b ∙ ap (λ x. refusedOr x (kept (image_of carriers))) (long-62 ds image (l ∙ ap imageSize b.long)) in
-      subst (λ l. Keeping (storing carriers image ds) image l Done) (sym e) (done-as _ image (image_of carriers) same)
+  pub store_begun : {left : List ℕ} {r : Ending} → Begins ds carriers → Written carriers image left r → Keeping (storing carriers image ds) image left r
+  store_begun b (wrong_length h e) =
+      let same = begun b ∙ ap (λ x. refused_or x (kept (image_of carriers))) (other_62 ds image (λ x. h (x ∙ ap image_size_of (sym b.long)))) in
+      subst (λ l. Keeping (storing carriers image ds) image l (Refused 62 0)) (sym e) (declined_as _ image 62 0 same (omega arith))
+  store_begun b (written l e) =
+      let same = begun b ∙ ap (λ x. refused_or x (kept (image_of carriers))) (long_62 ds image (l ∙ ap image_size_of b.long)) in
+      subst (λ l. Keeping (storing carriers image ds) image l Done) (sym e) (done_as _ image (image_of carriers) same)
 
 -- Load
 module _ (ds : Table) (image carriers : List ℕ) where
   abbrev held : List ℕ
-  held = heldIn (carriersSize ds) image
+  held = held_in (carriers_size ds) image
 
-  abbrev behind-64 : Kept
-  behind-64 = refusedOr (fault61 ds held) (kept held)
+  abbrev behind_64 : Kept
+  behind_64 = refused_or (fault61 ds held) (kept held)
 
-  abbrev behind-62 : Kept
-  behind-62 = refusedOr (imageFault (carriersSize ds) image) behind-64
+  abbrev behind_62 : Kept
+  behind_62 = refused_or (image_fault (carriers_size ds) image) behind_64
 
-  pub load-60 : (length carriers ≡ carriersSize ds → ⊥) → Keeping (loading image carriers ds) carriers carriers (Refused 60 0)
+  pub load_60 : (length carriers ≡ carriers_size ds → ⊥) → Keeping (loading image carriers ds) carriers carriers (Refused 60 0)
   unfolding loading
-  load-60 h = declined-as _ carriers 60 0 (ap (λ x. refusedOr x (refusedOr (fault62 ds image) behind-62)) (other-60 ds carriers h)) (omega arith)
+  load_60 h = declined_as _ carriers 60 0 (ap (λ x. refused_or x (refused_or (fault62 ds image) behind_62)) (other_60 ds carriers h)) (omega arith)
 
-  pub load-62 : length carriers ≡ carriersSize ds → (length image ≡ imageSize (carriersSize ds) → ⊥) → Keeping (loading image carriers ds) carriers carriers (Refused 62 0)
+  pub load_62 : length carriers ≡ carriers_size ds → (length image ≡ image_size_of (carriers_size ds) → ⊥) → Keeping (loading image carriers ds) carriers carriers (Refused 62 0)
   unfolding loading
-  load-62 l h = declined-as _ carriers 62 0 (ap₂ (λ x y. refusedOr x (refusedOr y behind-62)) (long-60 ds carriers l) (other-62 ds image h)) (omega arith)
+  load_62 l h = declined_as _ carriers 62 0 (ap₂ (λ x y. refused_or x (refused_or y behind_62)) (long_60 ds carriers l) (other_62 ds image h)) (omega arith)
 
-  sized : length carriers ≡ carriersSize ds → length image ≡ imageSize (carriersSize ds) → loading image carriers ds ≡ behind-62
+  sized : length carriers ≡ carriers_size ds → length image ≡ image_size_of (carriers_size ds) → loading image carriers ds ≡ behind_62
   unfolding loading
-  sized l h = ap₂ (λ x y. refusedOr x (refusedOr y behind-62)) (long-60 ds carriers l) (long-62 ds image h)
+  sized l h = ap₂ (λ x y. refused_or x (refused_or y behind_62)) (long_60 ds carriers l) (long_62 ds image h)
 
-  pub load-block : {m p : ℕ} → carriersSize ds ≤ 32768 → length carriers ≡ carriersSize ds → length image ≡ imageSize (carriersSize ds)
-      → some (fault m p) ≡ imageFault (carriersSize ds) image → Keeping (loading image carriers ds) carriers carriers (Refused m p)
-  load-block {m} {p} small l h e =
-      let near = blocks-near 0 (blocksFor (carriersSize ds)) (carriersSize ds) image (fault m p) (sym e) in
-      let few = few-blocks (carriersSize ds) small in
-      declined-as _ carriers m p (sized l h ∙ ap (λ x. refusedOr x behind-64) (sym e)) (omega (arith, near, few))
+  pub load_block : {m p : ℕ} → carriers_size ds ≤ 32768 → length carriers ≡ carriers_size ds → length image ≡ image_size_of (carriers_size ds)
+      → some (fault m p) ≡ image_fault (carriers_size ds) image → Keeping (loading image carriers ds) carriers carriers (Refused m p)
+  load_block {m} {p} small l h e =
+      let near = blocks_near 0 (blocks_for (carriers_size ds)) (carriers_size ds) image (fault m p) (sym e) in
+      let few = few_blocks (carriers_size ds) small in
+      declined_as _ carriers m p (sized l h ∙ ap (λ x. refused_or x behind_64) (sym e)) (omega (arith, near, few))
 
-  pub load-sound : {left : List ℕ} {r : Ending} → length carriers ≡ carriersSize ds → length image ≡ imageSize (carriersSize ds)
-      → none ≡ imageFault (carriersSize ds) image → Taken ds image carriers left r → Keeping (loading image carriers ds) carriers left r
-  load-sound l h e t =
-      keeping-same t.taken (sized l h ∙ ap (λ x. refusedOr x behind-64) (sym e)
-      ∙ ap (λ s. refusedOr (fault61 ds (heldIn s image)) (kept (heldIn s image))) (sym l))
+  pub load_sound : {left : List ℕ} {r : Ending} → length carriers ≡ carriers_size ds → length image ≡ image_size_of (carriers_size ds)
+      → none ≡ image_fault (carriers_size ds) image → Taken ds image carriers left r → Keeping (loading image carriers ds) carriers left r
+  load_sound l h e t =
+      keeping_same t.taken (sized l h ∙ ap (λ x. refused_or x behind_64) (sym e)
+      ∙ ap (λ s. refused_or (fault61 ds (held_in s image)) (kept (held_in s image))) (sym l))
 
-  module _ (l : length carriers ≡ carriersSize ds) (h : length image ≡ imageSize (length carriers)) where
-    pub taken-declined : {m p : ℕ} → Declines ds (heldIn (length carriers) image) m p → Taken ds image carriers carriers (Refused m p)
-    taken-declined {m} {p} d =
-        let words = heldIn (length carriers) image in
-        let r = run-refused ds words d (kept words) in
-        let long = long-60 ds words (length-held-in (length carriers) image h ∙ l) in
-        record { taken = declined-as _ carriers m p (sym (ap (λ x. refusedOr x (refusedOr (fault61 ds words) (kept words))) long) ∙ r.0) r.1 }
+  module _ (l : length carriers ≡ carriers_size ds) (h : length image ≡ image_size_of (length carriers)) where
+    pub taken_declined : {m p : ℕ} → Declines ds (held_in (length carriers) image) m p → Taken ds image carriers carriers (Refused m p)
+    taken_declined {m} {p} d =
+        let words = held_in (length carriers) image in
+        let r = run_refused ds words d (kept words) in
+        let long = long_60 ds words (length_held_in (length carriers) image h ∙ l) in
+        record { taken = declined_as _ carriers m p (sym (ap (λ x. refused_or x (refused_or (fault61 ds words) (kept words))) long) ∙ r.0) r.1 }
 
-    pub taken-done : {left : List ℕ} → Begins ds (heldIn (length carriers) image) → left ≡ heldIn (length carriers) image → Taken ds image carriers left Done
-    taken-done {left} b e =
-        let words = heldIn (length carriers) image in
-        record { taken = done-as _ carriers left (ap (λ x. refusedOr x (kept words)) (run-begun ds words b).1 ∙ ap kept (sym e)) }
+    pub taken_done : {left : List ℕ} → Begins ds (held_in (length carriers) image) → left ≡ held_in (length carriers) image → Taken ds image carriers left Done
+    taken_done {left} b e =
+        let words = held_in (length carriers) image in
+        record { taken = done_as _ carriers left (ap (λ x. refused_or x (kept words)) (run_begun ds words b).1 ∙ ap kept (sym e)) }
 
-pub small-carriers : {records values decls carriers : List ℕ} {m : ℕ} (v : Scene records values decls m) → Begins (table_of v) carriers → length carriers ≤ 32768
-small-carriers v b = omega (arith, b.long, few_words (declares v.description v.ready.lawful))
+pub small_carriers : {records values decls carriers : List ℕ} {m : ℕ} (v : Scene records values decls m) → Begins (table_of v) carriers → length carriers ≤ 32768
+small_carriers v b = omega (arith, b.long, few_words (declares v.description v.ready.lawful))
 
-pub same-held : {ds : Table} (image : List ℕ) {k n : ℕ} {r : Started} → Starts ds (heldIn k image) r → k ≡ n → Starts ds (heldIn n image) r
-same-held {ds} image {r = r} s e = subst (λ k. Starts ds (heldIn k image) r) e s
+pub same_held : {ds : Table} (image : List ℕ) {k n : ℕ} {r : Started} → Starts ds (held_in k image) r → k ≡ n → Starts ds (held_in n image) r
+same_held {ds} image {r = r} s e = subst (λ k. Starts ds (held_in k image) r) e s
 
-pub judged-refused : {r : Judged} (image : List ℕ) {m p k size : ℕ} → faultOf r ≡ imageFault k image → r ≡ Bad m p → k ≡ size → some (fault m p) ≡ imageFault size image
-judged-refused image h e q = sym (ap faultOf e) ∙ h ∙ ap (λ s. imageFault s image) q
+pub judged_refused : {r : Judged} (image : List ℕ) {m p k size : ℕ} → fault_of r ≡ image_fault k image → r ≡ Bad m p → k ≡ size → some (fault m p) ≡ image_fault size image
+judged_refused image h e q = sym (ap fault_of e) ∙ h ∙ ap (λ s. image_fault s image) q
 
-pub judged-fine : {r : Judged} (image : List ℕ) {k size : ℕ} → faultOf r ≡ imageFault k image → r ≡ Fine → k ≡ size → none ≡ imageFault size image
-judged-fine image h e q = sym (ap faultOf e) ∙ h ∙ ap (λ s. imageFault s image) q
+pub judged_fine : {r : Judged} (image : List ℕ) {k size : ℕ} → fault_of r ≡ image_fault k image → r ≡ Fine → k ≡ size → none ≡ image_fault size image
+judged_fine image h e q = sym (ap fault_of e) ∙ h ∙ ap (λ s. image_fault s image) q

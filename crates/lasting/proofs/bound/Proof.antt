@@ -1,22 +1,22 @@
 -- `lasting::bound` meets its contract.
 use borrow.Author.Rules.{rules}
 use Rattle.lent.specs.Laws.Measured.{fits}
-use Rattle.lent.specs.Laws.Settled.{settled-from}
-use Rattle.lasting.specs.Laws.Bounded.{answers-call, unread-call}
+use Rattle.lent.specs.Laws.Settled.{settled_from}
+use Rattle.lasting.specs.Laws.Bounded.{answers_call, unread_call}
 use Rattle.lasting.proofs.bound.Statement.{statement}
 use Rattle.lasting.proofs.bound.Tie as tie
 
 returns : tie.Need-returns
-returns c = unread-call c.before.unread.ensures c.if1.true
+returns c = unread_call c.before.unread.ensures c.if1.true
 
-bounded-requires : tie.Need-bounded-requires
-bounded-requires c κs =
+bounded_requires : tie.Need-bounded-requires
+bounded_requires c κs =
     let t = c.before.before.before in
     let f = fits t.before.unread.ensures t.if1.false in
-    (f.1, (f.0.work-a, (f.0.work-b, f.0.work-c)))
+    (f.1, (f.0.work_a, (f.0.work_b, f.0.work_c)))
 
-settle-requires : tie.Need-settle-requires
-settle-requires c κs =
+settle_requires : tie.Need-settle-requires
+settle_requires c κs =
     let t = c.before.before.before.before.before.before.before.before.before.before.before.before.before.before in
     (fits t.before.unread.ensures t.if1.false).0.answer
 
@@ -26,10 +26,10 @@ returns-2 c =
     let k = s.before.before.before.before.before.before.before.before.before.before.before in
     let t = k.before.before.before.before in
     let f = fits t.before.unread.ensures t.if1.false in
-    answers-call f.0 f.1 k.bounded.ensures (settled-from s.settle.ensures (search rules) (search rules) (search rules))
+    answers_call f.0 f.1 k.bounded.ensures (settled_from s.settle.ensures (search rules) (search rules) (search rules))
 
-pub bound-spec : {M : Type 1} → statement M
-bound-spec =
+pub bound_spec : {M : Type 1} → statement M
+bound_spec =
     tie.close
     (tie.spec
     (λ c κs. search rules)
@@ -38,8 +38,8 @@ bound-spec =
     (λ c. search rules)
     (λ c. search rules)
     returns
-    bounded-requires
-    settle-requires
+    bounded_requires
+    settle_requires
     (λ c. search rules)
     (λ c. search rules)
     (λ c. search rules)

@@ -3,35 +3,35 @@ use Rattle.std.specs.Prelude.{ℕ, ◌<◌, ◌≡◌, refl, List}
 use Rattle.std.proofs.Common.{subst, arith}
 use Rattle.std.proofs.Math.Option.{Option, none, some}
 use Rattle.rules.specs.Grammar.Trees.{Description}
-use Rattle.rules.specs.Declarations.{declarations, outerName}
-use Rattle.rules.specs.Faults.Fault.{Fault, byPlace, byNumber, least}
+use Rattle.rules.specs.Declarations.{declarations, outer_name}
+use Rattle.rules.specs.Faults.Fault.{Fault, by_place_of, by_number_of, least}
 use Rattle.rules.specs.Faults.Declared.{faults30}
 use Rattle.rules.specs.Faults.Bodies.{faults40}
 use Rattle.rules.specs.Faults.Whole.{faults50}
-use Rattle.rules.specs.Answers.{Verdict, accepted, refused, or_else, judgement, Checks, too_long, unreadable, no-description, too-deep, judged}
-use Rattle.laws.specs.Refusals.Scanned.{From10, scanned-from}
-use Rattle.laws.specs.Refusals.Faults.{least-from, from-30, from-40, from-50}
+use Rattle.rules.specs.Answers.{Verdict, accepted, refused, or_else, judgement, Checks, too_long, unreadable, no_description, too_deep, judged}
+use Rattle.laws.specs.Refusals.Scanned.{From10, scanned_from}
+use Rattle.laws.specs.Refusals.Faults.{least_from_lem, from_30, from_40, from_50}
 
 abbrev pub Numbered : Verdict → Type 0
 Numbered (accepted n w) = Unit {0}
 Numbered (refused m p) = 0 < m
 
-or-else-numbered : (o : Option Fault) (v : Verdict) → ((f : Fault) → o ≡ some f → 0 < f.number) → Numbered v → Numbered (or_else o v)
-or-else-numbered none v h k = k
-or-else-numbered (some f) v h k = h f refl
+or_else_numbered : (o : Option Fault) (v : Verdict) → ((f : Fault) → o ≡ some f → 0 < f.number) → Numbered v → Numbered (or_else o v)
+or_else_numbered none v h k = k
+or_else_numbered (some f) v h k = h f refl
 
-judgement-numbered : (d : Description) → Numbered (judgement d)
+judgement_numbered : (d : Description) → Numbered (judgement d)
 unfolding judgement
-judgement-numbered d =
+judgement_numbered d =
     let ds = declarations d in
-    let outer = (outerName d).word in
-    or-else-numbered (least byPlace (faults30 outer ds)) _ (λ f e. omega (arith, least-from 30 byPlace (faults30 outer ds) (from-30 outer ds) e))
-    (or-else-numbered (least byPlace (faults40 outer ds ds)) _ (λ f e. omega (arith, least-from 40 byPlace (faults40 outer ds ds) (from-40 outer ds ds) e))
-    (or-else-numbered (least byNumber (faults50 ds)) _ (λ f e. omega (arith, least-from 50 byNumber (faults50 ds) (from-50 ds) e)) tt))
+    let outer = (outer_name d).word in
+    or_else_numbered (least by_place_of (faults30 outer ds)) _ (λ f e. omega (arith, least_from_lem 30 by_place_of (faults30 outer ds) (from_30 outer ds) e))
+    (or_else_numbered (least by_place_of (faults40 outer ds ds)) _ (λ f e. omega (arith, least_from_lem 40 by_place_of (faults40 outer ds ds) (from_40 outer ds ds) e))
+    (or_else_numbered (least by_number_of (faults50 ds)) _ (λ f e. omega (arith, least_from_lem 50 by_number_of (faults50 ds) (from_50 ds) e)) tt))
 
-pub checks-numbered : {text : List ℕ} {v : Verdict} → Checks text v → Numbered v
-checks-numbered (too_long h) = omega arith
-checks-numbered {text} (unreadable short q) = let h = subst From10 q (scanned-from text) in omega (arith, h)
-checks-numbered (no-description short q r) = omega arith
-checks-numbered (too-deep short q r) = omega arith
-checks-numbered (judged d short q e shallow) = judgement-numbered d
+pub checks_numbered : {text : List ℕ} {v : Verdict} → Checks text v → Numbered v
+checks_numbered (too_long h) = omega arith
+checks_numbered {text} (unreadable short q) = let h = subst From10 q (scanned_from text) in omega (arith, h)
+checks_numbered (no_description short q r) = omega arith
+checks_numbered (too_deep short q r) = omega arith
+checks_numbered (judged d short q e shallow) = judgement_numbered d

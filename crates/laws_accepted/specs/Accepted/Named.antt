@@ -4,38 +4,38 @@ use Rattle.std.proofs.Common.{sym, ◌∙◌, ap, ap₂, subst, arith, eqb-true,
 use Rattle.std.proofs.lemmas.Bool.{false≢true}
 use Rattle.std.proofs.Math.Option.{Option, none, some}
 use Rattle.std.proofs.Math.ListN.{get_elem?}
-use Rattle.rules.specs.Text.Scan.{sameBytes}
+use Rattle.rules.specs.Text.Scan.{same_bytes}
 use Rattle.rules.specs.Grammar.Trees.{Action}
-use Rattle.rules.specs.Declarations.{Word, Declared, Table, numberFrom, number_of, bodyNumber, body_of}
-use Rattle.rules.specs.Faults.Declared.{isKnown}
+use Rattle.rules.specs.Declarations.{Word, Declared, Table, number_from, number_of, body_number, body_of}
+use Rattle.rules.specs.Faults.Declared.{is_known}
 use Rattle.laws_orders.specs.Orders.Tests.{impossible}
 
 pub and_both : (a b : Bool) → (a && b) ≡ true → (a ≡ true) × (b ≡ true)
 and_both true b e = (refl, e)
 and_both false b e = absurd (false≢true e)
 
-pub same-equal : (x y : Word) → sameBytes x y ≡ true → x ≡ y
-unfolding sameBytes
-same-equal [] [] e = refl
-same-equal [] (c ∷ cs) e = absurd (false≢true e)
-same-equal (b ∷ bs) [] e = absurd (false≢true e)
-same-equal (b ∷ bs) (c ∷ cs) e =
-    let h = and_both (eqb b c) (sameBytes bs cs) e in ap₂ (λ (x : ℕ) (xs : Word). x ∷ xs) (eqb-true b c h.0) (same-equal bs cs h.1)
+pub same_equal : (x y : Word) → same_bytes x y ≡ true → x ≡ y
+unfolding same_bytes
+same_equal [] [] e = refl
+same_equal [] (c ∷ cs) e = absurd (false≢true e)
+same_equal (b ∷ bs) [] e = absurd (false≢true e)
+same_equal (b ∷ bs) (c ∷ cs) e =
+    let h = and_both (eqb b c) (same_bytes bs cs) e in ap₂ (λ (x : ℕ) (xs : Word). x ∷ xs) (eqb-true b c h.0) (same_equal bs cs h.1)
 
-pub same-itself : (x : Word) → sameBytes x x ≡ true
-unfolding sameBytes
-same-itself [] = refl
-same-itself (b ∷ bs) = ap₂ ◌&&◌ (eq-eqb b b refl) (same-itself bs)
+pub same_itself : (x : Word) → same_bytes x x ≡ true
+unfolding same_bytes
+same_itself [] = refl
+same_itself (b ∷ bs) = ap₂ ◌&&◌ (eq-eqb b b refl) (same_itself bs)
 
 -- every one of some names is among the known ones
 abbrev pub AllKnown : List Word → List Word → Type 0
 AllKnown ls [] = Unit {0}
-AllKnown ls (k ∷ ks) = (isKnown k ls ≡ true) × AllKnown ls ks
+AllKnown ls (k ∷ ks) = (is_known k ls ≡ true) × AllKnown ls ks
 
-pub none-known : (ks : List Word) → AllKnown [] ks → ks ≡ []
-unfolding isKnown
-none-known [] h = refl
-none-known (k ∷ ks) h = absurd (false≢true h.0)
+pub none_known : (ks : List Word) → AllKnown [] ks → ks ≡ []
+unfolding is_known
+none_known [] h = refl
+none_known (k ∷ ks) h = absurd (false≢true h.0)
 
 -- a declaration that stands in a table under a name
 pub record Found (ds : Table) (n : Word) (i : ℕ) : Type 0 where
@@ -43,15 +43,15 @@ pub record Found (ds : Table) (n : Word) (i : ℕ) : Type 0 where
   pub there : get_elem? ds i ≡ some declared
   pub named : declared.name.word ≡ n
 
-found_from : (i : ℕ) (n : Word) (ds : Table) (j : ℕ) → numberFrom i n ds ≡ some j → (k : ℕ) × (j ≡ i + k) × Found ds n k
-unfolding numberFrom
+found_from : (i : ℕ) (n : Word) (ds : Table) (j : ℕ) → number_from i n ds ≡ some j → (k : ℕ) × (j ≡ i + k) × Found ds n k
+unfolding number_from
 found_from i n [] j e = impossible (cc)
-found_from i n (d ∷ ds) j e = by (sameBytes d.name.word n) refl (found_from (suc i) n ds j) e
+found_from i n (d ∷ ds) j e = by (same_bytes d.name.word n) refl (found_from (suc i) n ds j) e
   where
     by :
-        (b : Bool) → sameBytes d.name.word n ≡ b → (numberFrom (suc i) n ds ≡ some j → (k : ℕ) × (j ≡ suc i + k) × Found ds n k)
-        → (elim b [ true ↦ some i | false ↦ numberFrom (suc i) n ds ]) ≡ some j → (k : ℕ) × (j ≡ i + k) × Found (d ∷ ds) n k
-    by true q ih z = let y : i ≡ j = cc in (0, omega arith, record { declared = d; there = refl; named = same-equal d.name.word n q })
+        (b : Bool) → same_bytes d.name.word n ≡ b → (number_from (suc i) n ds ≡ some j → (k : ℕ) × (j ≡ suc i + k) × Found ds n k)
+        → (elim b [ true ↦ some i | false ↦ number_from (suc i) n ds ]) ≡ some j → (k : ℕ) × (j ≡ i + k) × Found (d ∷ ds) n k
+    by true q ih z = let y : i ≡ j = cc in (0, omega arith, record { declared = d; there = refl; named = same_equal d.name.word n q })
     by false q ih z =
         let r = ih z in
         let y = r.1 in
@@ -70,9 +70,9 @@ pub record FoundBody (ds : Table) (n : Word) (a : Action) : Type 0 where
   pub named : declared.name.word ≡ n
   pub its : declared.body ≡ some a
 
-pub found-body : (ds : Table) (n : Word) (a : Action) → body_of ds n ≡ some a → FoundBody ds n a
-unfolding body_of bodyNumber
-found-body ds n a e = by (number_of ds n) refl e
+pub found_body : (ds : Table) (n : Word) (a : Action) → body_of ds n ≡ some a → FoundBody ds n a
+unfolding body_of body_number
+found_body ds n a e = by (number_of ds n) refl e
   where
     at : (i : ℕ) (o : Option Declared) → get_elem? ds i ≡ o → Found ds n i → (elim o [ none ↦ none | some d ↦ d.body ]) ≡ some a → FoundBody ds n a
     at i none h f z = impossible (cc)
@@ -80,6 +80,6 @@ found-body ds n a e = by (number_of ds n) refl e
         let q : f.declared ≡ d = cc f.there in
         record { number = i; declared = d; there = h; named = ap (λ (x : Declared). x.name.word) (sym q) ∙ f.named; its = z }
 
-    by : (o : Option ℕ) → number_of ds n ≡ o → bodyNumber ds o ≡ some a → FoundBody ds n a
+    by : (o : Option ℕ) → number_of ds n ≡ o → body_number ds o ≡ some a → FoundBody ds n a
     by none h z = impossible (cc)
     by (some i) h z = at i (get_elem? ds i) refl (found ds n i h) z

@@ -3,7 +3,7 @@ use Rattle.std.specs.Prelude.{ℕ, ◌≤◌, ◌≡◌, []}
 use Rattle.std.proofs.Math.Option.{Option, none, some}
 use Rattle.std.proofs.Math.ListN.{get_elem?}
 use Rattle.rules.specs.Declarations.{Word, Names, Target, Declared, Table}
-use Rattle.rules.specs.Limits.{mostBits}
+use Rattle.rules.specs.Limits.{most_bits}
 use Rattle.rules.specs.Faults.Declared.{faults30}
 
 -- a mapping has no words
@@ -19,4 +19,4 @@ pub record Declares (outer : Word) (ds : Table) : Type 0 where
 -- from 1 to 64 bits
 pub record Length (n : ℕ) : Type 0 where
   pub some : 1 ≤ n
-  pub short : n ≤ mostBits
+  pub short : n ≤ most_bits

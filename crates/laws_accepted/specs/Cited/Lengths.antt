@@ -4,31 +4,31 @@ use Rattle.std.proofs.Math.Option.{some}
 use Rattle.rules.specs.Text.Tokens.{Info, Op}
 use Rattle.rules.specs.Grammar.Trees.{Bits}
 use Rattle.rules.specs.Grammar.Precedence.{Expr, leaf, node, Factor, number, cell, group, inverse, Index, no_index, index}
-use Rattle.rules.specs.Values.{opBits}
-use Rattle.rules.specs.Limits.{mostBits}
-use Rattle.rules.specs.Declarations.{Word, Table, Reach, reach, accessLow, accessBits}
-use Rattle.rules.specs.Faults.Bodies.{subscripted, judgeAccess, judge, judgeFactor}
+use Rattle.rules.specs.Values.{op_bits}
+use Rattle.rules.specs.Limits.{most_bits}
+use Rattle.rules.specs.Declarations.{Word, Table, Reach, reach, access_low, access_bits}
+use Rattle.rules.specs.Faults.Bodies.{subscripted, judge_access, judge, judge_factor}
 use Rattle.laws_accepted.specs.Cited.Declared.{Length}
 use Rattle.laws_accepted.specs.Cited.Constants.{InBits}
 
 -- an access with this subscript and these bits of what is reached, judged to have n bits: a subscript is there exactly if there are words
 pub record Fitting (r : Reach) (x : Index) (b : Bits) (n : ℕ) : Type 0 where
   pub subscripts : subscripted r.words x ≡ true
-  pub size : n ≡ accessBits r b
-  pub length : Length (accessBits r b)
-  pub fits : accessLow r b + accessBits r b ≤ mostBits
+  pub size : n ≡ access_bits r b
+  pub length : Length (access_bits r b)
+  pub fits : access_low r b + access_bits r b ≤ most_bits
 
 module _ (outer : Word) (ds : Table) where
   -- what an access reaches
   pub record Reaches (i : Info) (x : Index) (b : Bits) : Type 0 where
     pub reached : Reach
     pub found : reach ds i.word ≡ some reached
-    pub fitting : Fitting reached x b (judgeAccess outer ds i x b).bits
+    pub fitting : Fitting reached x b (judge_access outer ds i x b).bits
 
   -- the result of an operator
   pub record Operated (o : Op) (i : Info) (l r : Expr) : Type 0 where
-    pub size : (judge outer ds (node o i l r)).bits ≡ opBits o (judge outer ds l).bits (judge outer ds r).bits
-    pub length : Length (opBits o (judge outer ds l).bits (judge outer ds r).bits)
+    pub size : (judge outer ds (node o i l r)).bits ≡ op_bits o (judge outer ds l).bits (judge outer ds r).bits
+    pub length : Length (op_bits o (judge outer ds l).bits (judge outer ds r).bits)
 
   -- in an expression, every constant, access and operator is so
   abbrev mutual
@@ -38,7 +38,7 @@ module _ (outer : Word) (ds : Table) where
 
     pub SizedFactor : Factor → Type 0
     SizedFactor (number i) = InBits i.bits i.value
-    SizedFactor (cell i x b) = ((judgeFactor outer ds (cell i x b)).bits ≡ (judgeAccess outer ds i x b).bits) × Reaches i x b × SizedIndex x
+    SizedFactor (cell i x b) = ((judge_factor outer ds (cell i x b)).bits ≡ (judge_access outer ds i x b).bits) × Reaches i x b × SizedIndex x
     SizedFactor (group l e r) = Sized e
     SizedFactor (inverse i f) = SizedFactor f
 

@@ -1,17 +1,17 @@
 -- The kind of the first token of an action.
 use Rattle.rules.specs.Text.Tokens.{Kind, Name, BEGIN, IF, DECODE, REPEAT, LEAVE, RESTART, STOP, NO-OP}
-use Rattle.rules.specs.Grammar.Trees.{Action, block, labelled, if-then, decode, repeat, leave, restart, activate, stop, no-op, transfer}
+use Rattle.rules.specs.Grammar.Trees.{Action, block, labelled, if_then, decode, repeat, leave, restart, activate, stop, no_op, transfer}
 
 -- the first token of an action, and what stands behind it
-abbrev pub headKind : Action → Kind
-headKind (block b a m) = BEGIN
-headKind (labelled n b a) = Name
-headKind (if-then i o t w a) = IF
-headKind (decode i o t w b v) = DECODE
-headKind (repeat i a) = REPEAT
-headKind (leave i n) = LEAVE
-headKind (restart i n) = RESTART
-headKind (activate n l r) = Name
-headKind (stop i l r) = STOP
-headKind (no-op i l r) = NO-OP
-headKind (transfer n s b j e o t) = Name
+abbrev pub head_kind : Action → Kind
+head_kind (block b a m) = BEGIN
+head_kind (labelled n b a) = Name
+head_kind (if_then i o t w a) = IF
+head_kind (decode i o t w b v) = DECODE
+head_kind (repeat i a) = REPEAT
+head_kind (leave i n) = LEAVE
+head_kind (restart i n) = RESTART
+head_kind (activate n l r) = Name
+head_kind (stop i l r) = STOP
+head_kind (no_op i l r) = NO-OP
+head_kind (transfer n s b j e o t) = Name

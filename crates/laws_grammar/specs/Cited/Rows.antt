@@ -8,41 +8,41 @@ use Rattle.rules.specs.Limits.{deepest}
 
 -- where an action stands: in a block, in an alternative without selector, with one, behind OTHERWISE
 pub data Site : Type 0 where
-  in_block in-counted in-selected in-last : Site
+  in_block in_counted in_selected in_last : Site
 
 -- what an expression is for
 pub data Use : Type 0 where
   test choose value : Site → Use
-  in-parens in-subscript : Use
+  in_parens in_subscript : Use
 
 -- what an access belongs to: an expression, a destination, a mapping
 pub data Part : Type 0 where
-  of-expression : Use → Part
-  of-destination : Site → Part
-  of-mapping : Part
+  of_expression : Use → Part
+  of_destination : Site → Part
+  of_mapping : Part
 
 -- whose own bits: of a carrier with words, of a plain name, of MAIN's body
 pub data Owner : Type 0 where
-  of_words of-name of-main : Owner
+  of_words of_name of_main : Owner
 
 -- a state says what comes next
 pub data State : Type 0 where
-  title title-becomes title-begin : State
-  declaration heading-name heading-close declarator declarator-rest : State
-  first_word word-colon second_word words-close words-bits : State
-  own_bits own-bits-more own-bits-second own-bits-close own-bits-done : Owner → State
-  body-or-mapping body-begin mapping-bits main-name main-rest declaration-done : State
-  action action-name jump-target call-open destination action-done alternatives-begin : Site → State
-  call-close first-alternative selector : State
-  selector-rest selector-second selector-becomes otherwise-becomes : State
-  list-item list-item-rest list-item-second list-rest : State
+  title title_becomes title_begin : State
+  declaration heading_name heading_close declarator declarator_rest : State
+  first_word word_colon second_word words_close words_bits : State
+  own_bits own_bits_more own_bits_second own_bits_close own_bits_done : Owner → State
+  body_or_mapping body_begin mapping_bits main_name main_rest declaration_done : State
+  action action_name jump_target call_open destination action_done alternatives_begin : Site → State
+  call_close first_alternative selector : State
+  selector_rest selector_second selector_becomes otherwise_becomes : State
+  list_item list_item_rest list_item_second list_rest : State
   operand : Use → State
-  access-rest access-bits bits-first bits-more bits-second bits-close part-done : Part → State
+  access_rest access_bits_lem bits_first bits_more bits_second bits_close part_done : Part → State
 
 -- `go s`: s is next. `open s t`: a bracket opens; s is next inside it, and t behind it. `shut`: a bracket closes.
 pub data Move : Type 0 where
   go : State → Move
-  open-to : State → State → Move
+  open_to : State → State → Move
   shut : Move
 
 pub record Rule : Type 0 where
@@ -56,55 +56,55 @@ k ⇒ m = record { on = k; move = m }
 abbrev pub Row : Type 0
 Row = List Rule
 
-abbrev pub declaration-done-row : Row
-declaration-done-row = Comma ⇒ go declaration ∷ END ⇒ shut ∷ []
+abbrev pub declaration_done_row : Row
+declaration_done_row = Comma ⇒ go declaration ∷ END ⇒ shut ∷ []
 
-abbrev pub declarator-row : Row
-declarator-row = Name ⇒ go declarator-rest ∷ MAIN ⇒ go main-name ∷ []
+abbrev pub declarator_row : Row
+declarator_row = Name ⇒ go declarator_rest ∷ MAIN ⇒ go main_name ∷ []
 
 -- behind a declaration's own bits
-abbrev pub own-bits-done-row : Owner → Row
-own-bits-done-row of_words = declaration-done-row
-own-bits-done-row of-name = Becomes ⇒ go body-or-mapping ∷ declaration-done-row
-own-bits-done-row of-main = Becomes ⇒ go body-begin ∷ []
+abbrev pub own_bits_done_row : Owner → Row
+own_bits_done_row of_words = declaration_done_row
+own_bits_done_row of_name = Becomes ⇒ go body_or_mapping ∷ declaration_done_row
+own_bits_done_row of_main = Becomes ⇒ go body_begin ∷ []
 
-abbrev pub action-row : Site → Row
-action-row c =
-    BEGIN ⇒ open-to (action in_block) (action-done c)
-    ∷ Name ⇒ go (action-name c)
+abbrev pub action_row : Site → Row
+action_row c =
+    BEGIN ⇒ open_to (action in_block) (action_done c)
+    ∷ Name ⇒ go (action_name c)
     ∷ IF ⇒ go (operand (test c))
     ∷ DECODE ⇒ go (operand (choose c))
     ∷ REPEAT ⇒ go (action c)
-    ∷ LEAVE ⇒ go (jump-target c)
-    ∷ RESTART ⇒ go (jump-target c)
-    ∷ STOP ⇒ go (call-open c)
-    ∷ NO-OP ⇒ go (call-open c)
+    ∷ LEAVE ⇒ go (jump_target c)
+    ∷ RESTART ⇒ go (jump_target c)
+    ∷ STOP ⇒ go (call_open c)
+    ∷ NO-OP ⇒ go (call_open c)
     ∷ []
 
-abbrev pub action-done-row : Site → Row
-action-done-row in_block = Semi ⇒ go (action in_block) ∷ NEXT ⇒ go (action in_block) ∷ END ⇒ shut ∷ []
-action-done-row in-counted = Comma ⇒ go (action in-counted) ∷ END ⇒ shut ∷ []
-action-done-row in-selected = Comma ⇒ go selector ∷ END ⇒ shut ∷ []
-action-done-row in-last = END ⇒ shut ∷ []
+abbrev pub action_done_row : Site → Row
+action_done_row in_block = Semi ⇒ go (action in_block) ∷ NEXT ⇒ go (action in_block) ∷ END ⇒ shut ∷ []
+action_done_row in_counted = Comma ⇒ go (action in_counted) ∷ END ⇒ shut ∷ []
+action_done_row in_selected = Comma ⇒ go selector ∷ END ⇒ shut ∷ []
+action_done_row in_last = END ⇒ shut ∷ []
 
-abbrev pub selector-row : Row
-selector-row =
-    Const ⇒ go selector-rest
-    ∷ Masked ⇒ go selector-rest
-    ∷ LBra ⇒ open-to list-item selector-becomes
-    ∷ OTHERWISE ⇒ go otherwise-becomes
+abbrev pub selector_row : Row
+selector_row =
+    Const ⇒ go selector_rest
+    ∷ Masked ⇒ go selector_rest
+    ∷ LBra ⇒ open_to list_item selector_becomes
+    ∷ OTHERWISE ⇒ go otherwise_becomes
     ∷ []
 
 -- behind an expression, by what it is for
-abbrev pub use-done-row : Use → Row
-use-done-row (test c) = Arrow ⇒ go (action c) ∷ []
-use-done-row (choose c) = Arrow ⇒ go (alternatives-begin c) ∷ []
-use-done-row (value c) = action-done-row c
-use-done-row in-parens = RPar ⇒ shut ∷ []
-use-done-row in-subscript = RBra ⇒ shut ∷ []
+abbrev pub use_done_row : Use → Row
+use_done_row (test c) = Arrow ⇒ go (action c) ∷ []
+use_done_row (choose c) = Arrow ⇒ go (alternatives_begin c) ∷ []
+use_done_row (value c) = action_done_row c
+use_done_row in_parens = RPar ⇒ shut ∷ []
+use_done_row in_subscript = RBra ⇒ shut ∷ []
 
-abbrev pub operators-row : Use → Row
-operators-row u =
+abbrev pub operators_row : Use → Row
+operators_row u =
     At ⇒ go (operand u)
     ∷ Plus ⇒ go (operand u)
     ∷ Minus ⇒ go (operand u)
@@ -121,76 +121,76 @@ operators-row u =
     ∷ []
 
 -- behind an access
-abbrev pub part-done-row : Part → Row
-part-done-row (of-expression u) = operators-row u ++ use-done-row u
-part-done-row (of-destination c) = At ⇒ go (destination c) ∷ Equals ⇒ go (operand (value c)) ∷ []
-part-done-row of-mapping = declaration-done-row
+abbrev pub part_done_row : Part → Row
+part_done_row (of_expression u) = operators_row u ++ use_done_row u
+part_done_row (of_destination c) = At ⇒ go (destination c) ∷ Equals ⇒ go (operand (value c)) ∷ []
+part_done_row of_mapping = declaration_done_row
 
-abbrev pub access-bits-row : Part → Row
-access-bits-row q = Less ⇒ go (bits-first q) ∷ part-done-row q
+abbrev pub access_bits_row : Part → Row
+access_bits_row q = Less ⇒ go (bits_first q) ∷ part_done_row q
 
-abbrev pub access-rest-row : Part → Row
-access-rest-row q = LBra ⇒ open-to (operand in-subscript) (access-bits q) ∷ access-bits-row q
+abbrev pub access_rest_row : Part → Row
+access_rest_row q = LBra ⇒ open_to (operand in_subscript) (access_bits_lem q) ∷ access_bits_row q
 
 abbrev pub row : State → Row
-row title = Name ⇒ go title-becomes ∷ []
-row title-becomes = Becomes ⇒ go title-begin ∷ []
-row title-begin = BEGIN ⇒ go declaration ∷ []
-row declaration = Stars ⇒ go heading-name ∷ declarator-row
-row heading-name = Name ⇒ go heading-close ∷ []
-row heading-close = Stars ⇒ go declarator ∷ []
-row declarator = declarator-row
-row declarator-rest = LBra ⇒ open-to first_word words-bits ∷ Less ⇒ go (own_bits of-name) ∷ Becomes ⇒ go body-begin ∷ []
-row first_word = Const ⇒ go word-colon ∷ []
-row word-colon = Colon ⇒ go second_word ∷ []
-row second_word = Const ⇒ go words-close ∷ []
-row words-close = RBra ⇒ shut ∷ []
-row words-bits = Less ⇒ go (own_bits of_words) ∷ []
-row (own_bits w) = Greater ⇒ go (own-bits-done w) ∷ Const ⇒ go (own-bits-more w) ∷ []
-row (own-bits-more w) = Greater ⇒ go (own-bits-done w) ∷ Colon ⇒ go (own-bits-second w) ∷ []
-row (own-bits-second w) = Const ⇒ go (own-bits-close w) ∷ []
-row (own-bits-close w) = Greater ⇒ go (own-bits-done w) ∷ []
-row (own-bits-done w) = own-bits-done-row w
-row body-or-mapping = BEGIN ⇒ open-to (action in_block) declaration-done ∷ Name ⇒ go mapping-bits ∷ []
-row body-begin = BEGIN ⇒ open-to (action in_block) declaration-done ∷ []
-row mapping-bits = Less ⇒ go (bits-first of-mapping) ∷ []
-row main-name = Name ⇒ go main-rest ∷ []
-row main-rest = Less ⇒ go (own_bits of-main) ∷ Becomes ⇒ go body-begin ∷ []
-row declaration-done = declaration-done-row
-row (action c) = action-row c
-row (action-name c) =
+row title = Name ⇒ go title_becomes ∷ []
+row title_becomes = Becomes ⇒ go title_begin ∷ []
+row title_begin = BEGIN ⇒ go declaration ∷ []
+row declaration = Stars ⇒ go heading_name ∷ declarator_row
+row heading_name = Name ⇒ go heading_close ∷ []
+row heading_close = Stars ⇒ go declarator ∷ []
+row declarator = declarator_row
+row declarator_rest = LBra ⇒ open_to first_word words_bits ∷ Less ⇒ go (own_bits of_name) ∷ Becomes ⇒ go body_begin ∷ []
+row first_word = Const ⇒ go word_colon ∷ []
+row word_colon = Colon ⇒ go second_word ∷ []
+row second_word = Const ⇒ go words_close ∷ []
+row words_close = RBra ⇒ shut ∷ []
+row words_bits = Less ⇒ go (own_bits of_words) ∷ []
+row (own_bits w) = Greater ⇒ go (own_bits_done w) ∷ Const ⇒ go (own_bits_more w) ∷ []
+row (own_bits_more w) = Greater ⇒ go (own_bits_done w) ∷ Colon ⇒ go (own_bits_second w) ∷ []
+row (own_bits_second w) = Const ⇒ go (own_bits_close w) ∷ []
+row (own_bits_close w) = Greater ⇒ go (own_bits_done w) ∷ []
+row (own_bits_done w) = own_bits_done_row w
+row body_or_mapping = BEGIN ⇒ open_to (action in_block) declaration_done ∷ Name ⇒ go mapping_bits ∷ []
+row body_begin = BEGIN ⇒ open_to (action in_block) declaration_done ∷ []
+row mapping_bits = Less ⇒ go (bits_first of_mapping) ∷ []
+row main_name = Name ⇒ go main_rest ∷ []
+row main_rest = Less ⇒ go (own_bits of_main) ∷ Becomes ⇒ go body_begin ∷ []
+row declaration_done = declaration_done_row
+row (action c) = action_row c
+row (action_name c) =
     Becomes ⇒ go (action c)
-    ∷ LPar ⇒ open-to call-close (action-done c)
-    ∷ access-rest-row (of-destination c)
-row (jump-target c) = Name ⇒ go (action-done c) ∷ []
-row (call-open c) = LPar ⇒ open-to call-close (action-done c) ∷ []
-row (destination c) = Name ⇒ go (access-rest (of-destination c)) ∷ []
-row (action-done c) = action-done-row c
-row (alternatives-begin c) = BEGIN ⇒ open-to first-alternative (action-done c) ∷ []
-row call-close = RPar ⇒ shut ∷ []
-row first-alternative = selector-row ++ action-row in-counted
-row selector = selector-row
-row selector-rest = Colon ⇒ go selector-second ∷ Becomes ⇒ go (action in-selected) ∷ []
-row selector-second = Const ⇒ go selector-becomes ∷ Masked ⇒ go selector-becomes ∷ []
-row selector-becomes = Becomes ⇒ go (action in-selected) ∷ []
-row otherwise-becomes = Becomes ⇒ go (action in-last) ∷ []
-row list-item = Const ⇒ go list-item-rest ∷ Masked ⇒ go list-item-rest ∷ []
-row list-item-rest = Colon ⇒ go list-item-second ∷ Comma ⇒ go list-item ∷ RBra ⇒ shut ∷ []
-row list-item-second = Const ⇒ go list-rest ∷ Masked ⇒ go list-rest ∷ []
-row list-rest = Comma ⇒ go list-item ∷ RBra ⇒ shut ∷ []
+    ∷ LPar ⇒ open_to call_close (action_done c)
+    ∷ access_rest_row (of_destination c)
+row (jump_target c) = Name ⇒ go (action_done c) ∷ []
+row (call_open c) = LPar ⇒ open_to call_close (action_done c) ∷ []
+row (destination c) = Name ⇒ go (access_rest (of_destination c)) ∷ []
+row (action_done c) = action_done_row c
+row (alternatives_begin c) = BEGIN ⇒ open_to first_alternative (action_done c) ∷ []
+row call_close = RPar ⇒ shut ∷ []
+row first_alternative = selector_row ++ action_row in_counted
+row selector = selector_row
+row selector_rest = Colon ⇒ go selector_second ∷ Becomes ⇒ go (action in_selected) ∷ []
+row selector_second = Const ⇒ go selector_becomes ∷ Masked ⇒ go selector_becomes ∷ []
+row selector_becomes = Becomes ⇒ go (action in_selected) ∷ []
+row otherwise_becomes = Becomes ⇒ go (action in_last) ∷ []
+row list_item = Const ⇒ go list_item_rest ∷ Masked ⇒ go list_item_rest ∷ []
+row list_item_rest = Colon ⇒ go list_item_second ∷ Comma ⇒ go list_item ∷ RBra ⇒ shut ∷ []
+row list_item_second = Const ⇒ go list_rest ∷ Masked ⇒ go list_rest ∷ []
+row list_rest = Comma ⇒ go list_item ∷ RBra ⇒ shut ∷ []
 row (operand u) =
-    Const ⇒ go (part-done (of-expression u))
-    ∷ Name ⇒ go (access-rest (of-expression u))
-    ∷ LPar ⇒ open-to (operand in-parens) (part-done (of-expression u))
+    Const ⇒ go (part_done (of_expression u))
+    ∷ Name ⇒ go (access_rest (of_expression u))
+    ∷ LPar ⇒ open_to (operand in_parens) (part_done (of_expression u))
     ∷ NOT ⇒ go (operand u)
     ∷ []
-row (access-rest q) = access-rest-row q
-row (access-bits q) = access-bits-row q
-row (bits-first q) = Const ⇒ go (bits-more q) ∷ []
-row (bits-more q) = Greater ⇒ go (part-done q) ∷ Colon ⇒ go (bits-second q) ∷ []
-row (bits-second q) = Const ⇒ go (bits-close q) ∷ []
-row (bits-close q) = Greater ⇒ go (part-done q) ∷ []
-row (part-done q) = part-done-row q
+row (access_rest q) = access_rest_row q
+row (access_bits_lem q) = access_bits_row q
+row (bits_first q) = Const ⇒ go (bits_more q) ∷ []
+row (bits_more q) = Greater ⇒ go (part_done q) ∷ Colon ⇒ go (bits_second q) ∷ []
+row (bits_second q) = Const ⇒ go (bits_close q) ∷ []
+row (bits_close q) = Greater ⇒ go (part_done q) ∷ []
+row (part_done q) = part_done_row q
 
 abbrev pub Stack : Type 0
 Stack = List State
@@ -198,7 +198,7 @@ Stack = List State
 -- the stack behind a move of its first state, over the rest σ
 abbrev pub after : Move → Stack → Stack
 after (go s) σ = s ∷ σ
-after (open-to s t) σ = s ∷ t ∷ σ
+after (open_to s t) σ = s ∷ t ∷ σ
 after shut σ = σ
 
 abbrev pub first : {A : Type 0} → Bool → A → Option A → Option A
@@ -211,15 +211,15 @@ lookup [] k = none
 lookup (r ∷ rs) k = first (same r.on k) r.move (lookup rs k)
 
 -- whether a move opens a bracket too many: d are open, and 32 may be
-unfoldable pub too-deep : ℕ → Move → Bool
-too-deep d (go s) = false
-too-deep d (open-to s t) = leb deepest d
-too-deep d shut = false
+unfoldable pub too_deep : ℕ → Move → Bool
+too_deep d (go s) = false
+too_deep d (open_to s t) = leb deepest d
+too_deep d shut = false
 
 -- one token, number i, with `next` for what comes behind it
 unfoldable pub judge : Stack → ℕ → (Stack → Answer) → State → Option Move → Answer
 judge σ i next s none = refused20 i
-judge σ i next s (some m) = elim (too-deep (suc (length σ)) m) [ true ↦ refused21 i | false ↦ next (after m σ) ]
+judge σ i next s (some m) = elim (too_deep (suc (length σ)) m) [ true ↦ refused21 i | false ↦ next (after m σ) ]
 
 unfoldable pub run : Tokens → ℕ → Stack → Answer
 run [] i [] = accepted

@@ -1,118 +1,118 @@
 -- A tree for each state: every state can be brought to its end.
 use Rattle.std.specs.Prelude.{List, [], ◌∷◌}
-use Rattle.rules.specs.Grammar.Trees.{bit, all-bits}
-use Rattle.rules.specs.Grammar.Trees.{constant, no_more, no-subscript}
+use Rattle.rules.specs.Grammar.Trees.{bit, all_bits}
+use Rattle.rules.specs.Grammar.Trees.{constant, no_more, no_subscript}
 use Rattle.rules.specs.Grammar.Trees.{alone, exact, single, close}
 use Rattle.rules.specs.Grammar.Trees.{Action, stop}
-use Rattle.rules.specs.Grammar.Trees.{end, Alternatives, counted, counted-end}
-use Rattle.rules.specs.Grammar.Trees.{otherwise, selected-end}
-use Rattle.rules.specs.Grammar.Trees.{unnamed, mapped, carrier, Form, with-bits}
-use Rattle.rules.specs.Grammar.Trees.{bitless, Declaration, plain, no-heading}
-use Rattle.rules.specs.Grammar.Trees.{declared-all, description}
-use Rattle.laws_grammar.specs.Cited.Rows.{Site, in_block, in-counted, in-selected, in-last, Use, test, choose, value, in-parens, in-subscript}
-use Rattle.laws_grammar.specs.Cited.Rows.{Part, of-expression, of-destination, of-mapping, Owner, of_words, of-name, of-main}
-use Rattle.laws_grammar.specs.Cited.Rows.{State, title, title-becomes, title-begin, declaration, heading-name, heading-close, declarator, declarator-rest}
-use Rattle.laws_grammar.specs.Cited.Rows.{first-word, word-colon, second_word, words-close, words-bits, own_bits, own-bits-more, own-bits-second, own-bits-close, own-bits-done}
-use Rattle.laws_grammar.specs.Cited.Rows.{body-or-mapping, body-begin, mapping-bits, main-name, main-rest, declaration-done}
-use Rattle.laws_grammar.specs.Cited.Rows.{action, action-name, jump-target, call-open, destination, action-done, alternatives-begin, call-close, first-alternative, selector}
-use Rattle.laws_grammar.specs.Cited.Rows.{selector-rest, selector-second, selector-becomes, otherwise-becomes, list-item, list-item-rest, list-item-second, list-rest}
-use Rattle.laws_grammar.specs.Cited.Rows.{operand, access-rest, access-bits, bits-first, bits-more, bits-second, bits-close, part-done}
-use Rattle.rules.specs.Grammar.Verdict.{anyInfo}
-use Rattle.laws_grammar.specs.Grammar.Meanings.{meaning, stackL, doneL, useL, partL, ownerL, bodyL, becomesL, n-call}
+use Rattle.rules.specs.Grammar.Trees.{end, Alternatives, counted, counted_end}
+use Rattle.rules.specs.Grammar.Trees.{otherwise, selected_end}
+use Rattle.rules.specs.Grammar.Trees.{unnamed, mapped, carrier, Form, with_bits}
+use Rattle.rules.specs.Grammar.Trees.{bitless, Declaration, plain, no_heading}
+use Rattle.rules.specs.Grammar.Trees.{declared_all, description}
+use Rattle.laws_grammar.specs.Cited.Rows.{Site, in_block, in_counted, in_selected, in_last, Use, test, choose, value, in_parens, in_subscript}
+use Rattle.laws_grammar.specs.Cited.Rows.{Part, of_expression, of_destination, of_mapping, Owner, of_words, of_name, of_main}
+use Rattle.laws_grammar.specs.Cited.Rows.{State, title, title_becomes, title_begin, declaration, heading_name, heading_close, declarator, declarator_rest}
+use Rattle.laws_grammar.specs.Cited.Rows.{first_word_lem, word_colon, second_word, words_close, words_bits, own_bits, own_bits_more, own_bits_second, own_bits_close, own_bits_done}
+use Rattle.laws_grammar.specs.Cited.Rows.{body_or_mapping, body_begin, mapping_bits, main_name, main_rest, declaration_done}
+use Rattle.laws_grammar.specs.Cited.Rows.{action, action_name, jump_target, call_open, destination, action_done, alternatives_begin, call_close, first_alternative, selector}
+use Rattle.laws_grammar.specs.Cited.Rows.{selector_rest, selector_second, selector_becomes, otherwise_becomes, list_item, list_item_rest, list_item_second, list_rest}
+use Rattle.laws_grammar.specs.Cited.Rows.{operand, access_rest, access_bits_lem, bits_first, bits_more, bits_second, bits_close, part_done}
+use Rattle.rules.specs.Grammar.Verdict.{any_info}
+use Rattle.laws_grammar.specs.Grammar.Meanings.{meaning, stack_l, done_l, use_l, part_l, owner_l, body_l, becomes_l, n_call}
 
-an-action : Action
-an-action = stop anyInfo anyInfo anyInfo
+an_action : Action
+an_action = stop any_info any_info any_info
 
-a_body : bodyL.tree
-a_body = (anyInfo, (an-action, (end anyInfo, declared-all anyInfo)))
+a_body : body_l.tree
+a_body = (any_info, (an_action, (end any_info, declared_all any_info)))
 
-a-becomes : becomesL.tree
-a-becomes = (anyInfo, (an-action, selected-end anyInfo))
+a_becomes : becomes_l.tree
+a_becomes = (any_info, (an_action, selected_end any_info))
 
-a-form : Form
-a-form = with-bits anyInfo (unnamed anyInfo) carrier
+a_form : Form
+a_form = with_bits any_info (unnamed any_info) carrier
 
-a-declaration : Declaration
-a-declaration = plain anyInfo a-form
+a_declaration : Declaration
+a_declaration = plain any_info a_form
 
-sample-done : (c : Site) → (doneL c).tree
-sample-done in_block = end anyInfo
-sample-done in-counted = counted-end anyInfo
-sample-done in-selected = selected-end anyInfo
-sample-done in-last = anyInfo
+sample_done : (c : Site) → (done_l c).tree
+sample_done in_block = end any_info
+sample_done in_counted = counted_end any_info
+sample_done in_selected = selected_end any_info
+sample_done in_last = any_info
 
-some-alternatives : Alternatives
-some-alternatives = counted an-action (counted-end anyInfo)
+some_alternatives : Alternatives
+some_alternatives = counted an_action (counted_end any_info)
 
-sample-use : (u : Use) → (useL u).tree
-sample-use (test c) = (anyInfo, (an-action, sample-done c))
-sample-use (choose c) = (anyInfo, (anyInfo, (some-alternatives, sample-done c)))
-sample-use (value c) = sample-done c
-sample-use in-parens = anyInfo
-sample-use in-subscript = anyInfo
+sample_use : (u : Use) → (use_l u).tree
+sample_use (test c) = (any_info, (an_action, sample_done c))
+sample_use (choose c) = (any_info, (any_info, (some_alternatives, sample_done c)))
+sample_use (value c) = sample_done c
+sample_use in_parens = any_info
+sample_use in_subscript = any_info
 
-sample-part : (q : Part) → (partL q).tree
-sample-part (of-expression u) = (no_more, sample-use u)
-sample-part (of-destination c) = (alone, (anyInfo, (constant anyInfo, (no_more, sample-done c))))
-sample-part of-mapping = declared-all anyInfo
+sample_part : (q : Part) → (part_l q).tree
+sample_part (of_expression u) = (no_more, sample_use u)
+sample_part (of_destination c) = (alone, (any_info, (constant any_info, (no_more, sample_done c))))
+sample_part of_mapping = declared_all any_info
 
-sample-owner : (w : Owner) → (ownerL w).tree
-sample-owner of_words = declared-all anyInfo
-sample-owner of-name = (carrier, declared-all anyInfo)
-sample-owner of-main = (anyInfo, a_body)
+sample_owner : (w : Owner) → (owner_l w).tree
+sample_owner of_words = declared_all any_info
+sample_owner of_name = (carrier, declared_all any_info)
+sample_owner of_main = (any_info, a_body)
 
 pub sample : (s : State) → (meaning s).tree
-sample title = description anyInfo anyInfo anyInfo no-heading a-declaration (declared-all anyInfo)
-sample title-becomes = (anyInfo, (anyInfo, (no-heading, (a-declaration, declared-all anyInfo))))
-sample title-begin = (anyInfo, (no-heading, (a-declaration, declared-all anyInfo)))
-sample declaration = (no-heading, (a-declaration, declared-all anyInfo))
-sample heading-name = (anyInfo, (anyInfo, (a-declaration, declared-all anyInfo)))
-sample heading-close = (anyInfo, (a-declaration, declared-all anyInfo))
-sample declarator = (a-declaration, declared-all anyInfo)
-sample declarator-rest = (a-form, declared-all anyInfo)
-sample first-word = (anyInfo, (anyInfo, (anyInfo, anyInfo)))
-sample word-colon = (anyInfo, (anyInfo, anyInfo))
-sample second_word = (anyInfo, anyInfo)
-sample words-close = anyInfo
-sample words-bits = (anyInfo, (unnamed anyInfo, declared-all anyInfo))
-sample (own_bits w) = (unnamed anyInfo, sample-owner w)
-sample (own-bits-more w) = (bit anyInfo, sample-owner w)
-sample (own-bits-second w) = (anyInfo, (anyInfo, sample-owner w))
-sample (own-bits-close w) = (anyInfo, sample-owner w)
-sample (own-bits-done w) = sample-owner w
-sample body-or-mapping = (mapped anyInfo anyInfo anyInfo (bit anyInfo), declared-all anyInfo)
-sample body-begin = a_body
-sample mapping-bits = (anyInfo, (anyInfo, (bit anyInfo, declared-all anyInfo)))
-sample main-name = (anyInfo, (bitless, (anyInfo, a_body)))
-sample main-rest = (bitless, (anyInfo, a_body))
-sample declaration-done = declared-all anyInfo
-sample (action c) = (an-action, sample-done c)
-sample (action-name c) = (n-call anyInfo anyInfo, sample-done c)
-sample (jump-target c) = (anyInfo, sample-done c)
-sample (call-open c) = (anyInfo, (anyInfo, sample-done c))
-sample (destination c) = (anyInfo, (no-subscript, (all-bits, sample-part (of-destination c))))
-sample (action-done c) = sample-done c
-sample (alternatives-begin c) = (anyInfo, (some-alternatives, sample-done c))
-sample call-close = anyInfo
-sample first-alternative = some-alternatives
-sample selector = otherwise anyInfo anyInfo an-action anyInfo
-sample selector-rest = (single, a-becomes)
-sample selector-second = (exact anyInfo, a-becomes)
-sample selector-becomes = a-becomes
-sample otherwise-becomes = (anyInfo, (an-action, anyInfo))
-sample list-item = (exact anyInfo, (single, close anyInfo))
-sample list-item-rest = (single, close anyInfo)
-sample list-item-second = (exact anyInfo, close anyInfo)
-sample list-rest = close anyInfo
-sample (operand u) = (constant anyInfo, (no_more, sample-use u))
-sample (access-rest q) = (no-subscript, (all-bits, sample-part q))
-sample (access-bits q) = (all-bits, sample-part q)
-sample (bits-first q) = (anyInfo, (bit anyInfo, sample-part q))
-sample (bits-more q) = (bit anyInfo, sample-part q)
-sample (bits-second q) = (anyInfo, (anyInfo, sample-part q))
-sample (bits-close q) = (anyInfo, sample-part q)
-sample (part-done q) = sample-part q
+sample title = description any_info any_info any_info no_heading a_declaration (declared_all any_info)
+sample title_becomes = (any_info, (any_info, (no_heading, (a_declaration, declared_all any_info))))
+sample title_begin = (any_info, (no_heading, (a_declaration, declared_all any_info)))
+sample declaration = (no_heading, (a_declaration, declared_all any_info))
+sample heading_name = (any_info, (any_info, (a_declaration, declared_all any_info)))
+sample heading_close = (any_info, (a_declaration, declared_all any_info))
+sample declarator = (a_declaration, declared_all any_info)
+sample declarator_rest = (a_form, declared_all any_info)
+sample first_word_lem = (any_info, (any_info, (any_info, any_info)))
+sample word_colon = (any_info, (any_info, any_info))
+sample second_word = (any_info, any_info)
+sample words_close = any_info
+sample words_bits = (any_info, (unnamed any_info, declared_all any_info))
+sample (own_bits w) = (unnamed any_info, sample_owner w)
+sample (own_bits_more w) = (bit any_info, sample_owner w)
+sample (own_bits_second w) = (any_info, (any_info, sample_owner w))
+sample (own_bits_close w) = (any_info, sample_owner w)
+sample (own_bits_done w) = sample_owner w
+sample body_or_mapping = (mapped any_info any_info any_info (bit any_info), declared_all any_info)
+sample body_begin = a_body
+sample mapping_bits = (any_info, (any_info, (bit any_info, declared_all any_info)))
+sample main_name = (any_info, (bitless, (any_info, a_body)))
+sample main_rest = (bitless, (any_info, a_body))
+sample declaration_done = declared_all any_info
+sample (action c) = (an_action, sample_done c)
+sample (action_name c) = (n_call any_info any_info, sample_done c)
+sample (jump_target c) = (any_info, sample_done c)
+sample (call_open c) = (any_info, (any_info, sample_done c))
+sample (destination c) = (any_info, (no_subscript, (all_bits, sample_part (of_destination c))))
+sample (action_done c) = sample_done c
+sample (alternatives_begin c) = (any_info, (some_alternatives, sample_done c))
+sample call_close = any_info
+sample first_alternative = some_alternatives
+sample selector = otherwise any_info any_info an_action any_info
+sample selector_rest = (single, a_becomes)
+sample selector_second = (exact any_info, a_becomes)
+sample selector_becomes = a_becomes
+sample otherwise_becomes = (any_info, (an_action, any_info))
+sample list_item = (exact any_info, (single, close any_info))
+sample list_item_rest = (single, close any_info)
+sample list_item_second = (exact any_info, close any_info)
+sample list_rest = close any_info
+sample (operand u) = (constant any_info, (no_more, sample_use u))
+sample (access_rest q) = (no_subscript, (all_bits, sample_part q))
+sample (access_bits_lem q) = (all_bits, sample_part q)
+sample (bits_first q) = (any_info, (bit any_info, sample_part q))
+sample (bits_more q) = (bit any_info, sample_part q)
+sample (bits_second q) = (any_info, (any_info, sample_part q))
+sample (bits_close q) = (any_info, sample_part q)
+sample (part_done q) = sample_part q
 
-pub samples : (γ : List State) → (stackL γ).tree
+pub samples : (γ : List State) → (stack_l γ).tree
 samples [] = tt
 samples (s ∷ σ) = (sample s, samples σ)

@@ -1,11 +1,11 @@
 -- A flat machine: numbered instructions with links to where control goes, and a stack of return addresses. What it is for a code to hold an action.
 use Rattle.std.specs.Prelude.{ℕ, zero, suc, ◌≡◌, cond, List, [], ◌∷◌}
 use Rattle.std.proofs.Math.Option.{Option, none, some}
-use Rattle.rules.specs.Text.Scan.{sameBytes}
+use Rattle.rules.specs.Text.Scan.{same_bytes}
 use Rattle.rules.specs.Grammar.Precedence.{Expr}
 use Rattle.rules.specs.Selectors.{Case, takes}
 use Rattle.rules.specs.Declarations.{Word, Table}
-use Rattle.rules.specs.Steps.Actions.{Access, Act, seq, par, label, ins, Ins, iff, decode, repeat, leave, restart, call, stop, noop, transfer, Alts, no-alts, alt}
+use Rattle.rules.specs.Steps.Actions.{Access, Act, seq, par, label, ins, Ins, iff, decode, repeat, leave, restart, call, stop, noop, transfer, Alts, no_alts, alt}
 use Rattle.rules.specs.Steps.Control.{Work, moves, tests, nothing}
 use Rattle.rules.specs.Steps.Evaluation.{Carriers, Outcome, gives, faulty}
 use Rattle.rules.specs.Steps.Runs.{Worked, perform}
@@ -17,16 +17,16 @@ pub data Link : Type 0 where
 
 -- the alternatives of a DECODE: where each begins
 pub data Entries : Type 0 where
-  no-entry : Entries
+  no_entry : Entries
   entry : Case → ℕ → Entries → Entries
 
 pub data Instr : Type 0 where
-  ifI : Expr → ℕ → Link → Instr
-  decodeI : ℕ → Expr → Entries → Instr
-  goI : Link → Instr
-  callI : Word → Link → Instr
-  stopI : Instr
-  moveI : List Access → Expr → Link → Instr
+  if_i : Expr → ℕ → Link → Instr
+  decode_i : ℕ → Expr → Entries → Instr
+  go_i : Link → Instr
+  call_i : Word → Link → Instr
+  stop_i : Instr
+  move_i : List Access → Expr → Link → Instr
 
 -- the instructions by number, and where each body begins
 pub record Code : Type 0 where
@@ -54,29 +54,29 @@ push (at n) σ = n ∷ σ
 push exit σ = σ
 
 unfoldable pub find : Entries → ℕ → Option ℕ
-find no-entry v = none
+find no_entry v = none
 find (entry c g t) v = cond (takes c v) (some g) (find t v)
 
 abbrev pub picked : ℕ → List ℕ → Option ℕ → At
 picked p σ none = broken 71 p
 picked p σ (some g) = pc g σ
 
-abbrev pub workM : Instr → Work
-workM (ifI e g k) = tests e
-workM (decodeI p e t) = tests e
-workM (goI k) = nothing
-workM (callI p k) = nothing
-workM stopI = nothing
-workM (moveI d e k) = moves d e
+abbrev pub work_m : Instr → Work
+work_m (if_i e g k) = tests e
+work_m (decode_i p e t) = tests e
+work_m (go_i k) = nothing
+work_m (call_i p k) = nothing
+work_m stop_i = nothing
+work_m (move_i d e k) = moves d e
 
-abbrev pub nextM : Code → Instr → List ℕ → ℕ → At
-nextM C (ifI e g k) σ zero = go k σ
-nextM C (ifI e g k) σ (suc v) = pc g σ
-nextM C (decodeI p e t) σ v = picked p σ (find t v)
-nextM C (goI k) σ v = go k σ
-nextM C (callI p k) σ v = pc (C.first p) (push k σ)
-nextM C stopI σ v = halt
-nextM C (moveI d e k) σ v = go k σ
+abbrev pub next_m : Code → Instr → List ℕ → ℕ → At
+next_m C (if_i e g k) σ zero = go k σ
+next_m C (if_i e g k) σ (suc v) = pc g σ
+next_m C (decode_i p e t) σ v = picked p σ (find t v)
+next_m C (go_i k) σ v = go k σ
+next_m C (call_i p k) σ v = pc (C.first p) (push k σ)
+next_m C stop_i σ v = halt
+next_m C (move_i d e k) σ v = go k σ
 
 -- what a step comes to, with the carriers from before and those behind its work
 pub data Machine : Type 0 where
@@ -91,31 +91,31 @@ put s u over = ended u
 put s u halt = stood u
 put s u (broken m p) = broke m p s
 
-abbrev pub putAfter : Carriers → (ℕ → At) → Outcome Worked → Machine
-putAfter s f (gives w) = put s w.carriers (f w.number)
-putAfter s f (faulty m p) = broke m p s
+abbrev pub put_after : Carriers → (ℕ → At) → Outcome Worked → Machine
+put_after s f (gives w) = put s w.carriers (f w.number)
+put_after s f (faulty m p) = broke m p s
 
 module _ (ds : Table) (C : Code) where
   abbrev pub step_m : ℕ → List ℕ → Carriers → Machine
-  step_m n σ s = putAfter s (nextM C (C.instr n) σ) (perform ds (workM (C.instr n)) s)
+  step_m n σ s = put_after s (next_m C (C.instr n) σ) (perform ds (work_m (C.instr n)) s)
 
 -- the labels around an action: of each, where it begins and where control goes when it has ended
 pub data Labels : Type 0 where
   outer : Labels
   bind : Word → ℕ → Link → Labels → Labels
 
-unfoldable pub leaveTo : Labels → Word → Option Link
-leaveTo outer j = none
-leaveTo (bind l f k ρ) j = cond (sameBytes j l) (some k) (leaveTo ρ j)
+unfoldable pub leave_to : Labels → Word → Option Link
+leave_to outer j = none
+leave_to (bind l f k ρ) j = cond (same_bytes j l) (some k) (leave_to ρ j)
 
-unfoldable pub restartTo : Labels → Word → Option Link
-restartTo outer j = none
-restartTo (bind l f k ρ) j = cond (sameBytes j l) (some (at f)) (restartTo ρ j)
+unfoldable pub restart_to : Labels → Word → Option Link
+restart_to outer j = none
+restart_to (bind l f k ρ) j = cond (same_bytes j l) (some (at f)) (restart_to ρ j)
 
 -- a jump has code if it has a target
 abbrev pub Jumps : Option Link → Instr → Type 0
 Jumps none i = ⊥
-Jumps (some k) i = i ≡ goI k
+Jumps (some k) i = i ≡ go_i k
 
 module _ (C : Code) where
   -- the code has, from f on, the action, with the link k behind it
@@ -127,23 +127,23 @@ module _ (C : Code) where
     Holds ρ f k (ins i) = HoldsI ρ f k i
 
     pub HoldsI : Labels → ℕ → Link → Ins → Type 0
-    HoldsI ρ f k (iff e a) = (g : ℕ) × (C.instr f ≡ ifI e g k) × Holds ρ g k a
-    HoldsI ρ f k (decode p e bs) = (t : Entries) × (C.instr f ≡ decodeI p e t) × HoldsAlts ρ t k bs
-    HoldsI ρ f k (repeat a) = (g : ℕ) × (C.instr f ≡ goI (at g)) × Holds ρ g (at f) a
-    HoldsI ρ f k (leave l) = Jumps (leaveTo ρ l) (C.instr f)
-    HoldsI ρ f k (restart l) = Jumps (restartTo ρ l) (C.instr f)
-    HoldsI ρ f k (call p) = C.instr f ≡ callI p k
-    HoldsI ρ f k stop = C.instr f ≡ stopI
-    HoldsI ρ f k noop = C.instr f ≡ goI k
-    HoldsI ρ f k (transfer d e) = C.instr f ≡ moveI d e k
+    HoldsI ρ f k (iff e a) = (g : ℕ) × (C.instr f ≡ if_i e g k) × Holds ρ g k a
+    HoldsI ρ f k (decode p e bs) = (t : Entries) × (C.instr f ≡ decode_i p e t) × HoldsAlts ρ t k bs
+    HoldsI ρ f k (repeat a) = (g : ℕ) × (C.instr f ≡ go_i (at g)) × Holds ρ g (at f) a
+    HoldsI ρ f k (leave l) = Jumps (leave_to ρ l) (C.instr f)
+    HoldsI ρ f k (restart l) = Jumps (restart_to ρ l) (C.instr f)
+    HoldsI ρ f k (call p) = C.instr f ≡ call_i p k
+    HoldsI ρ f k stop = C.instr f ≡ stop_i
+    HoldsI ρ f k noop = C.instr f ≡ go_i k
+    HoldsI ρ f k (transfer d e) = C.instr f ≡ move_i d e k
 
     pub HoldsAlts : Labels → Entries → Link → Alts → Type 0
-    HoldsAlts ρ t k no-alts = t ≡ no-entry
+    HoldsAlts ρ t k no_alts = t ≡ no_entry
     HoldsAlts ρ t k (alt c a bs) = (g : ℕ) × (t' : Entries) × (t ≡ entry c g t') × Holds ρ g k a × HoldsAlts ρ t' k bs
 
   -- a body's own name is its outermost label
-  abbrev pub ownLabel : Word → Labels
-  ownLabel p = bind p (C.first p) exit outer
+  abbrev pub own_label : Word → Labels
+  own_label p = bind p (C.first p) exit outer
 
   abbrev pub HoldsBodies : (Word → Act) → Type 0
-  HoldsBodies body = (p : Word) → Holds (ownLabel p) (C.first p) exit (body p)
+  HoldsBodies body = (p : Word) → Holds (own_label p) (C.first p) exit (body p)

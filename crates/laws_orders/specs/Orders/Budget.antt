@@ -7,20 +7,20 @@ use native.Mathlib.Omega.{arith}
 use Rattle.std.proofs.Math.ListN.{length}
 use Rattle.rules.specs.Declarations.{Word, Table}
 use Rattle.rules.specs.Steps.Evaluation.{Carriers, Outcome, gives, faulty}
-use Rattle.rules.specs.Steps.Control.{Live, callL, start, Sig, ends, goes, leaves, restarts, stops, faults, Mv, leftmost, work, next}
-use Rattle.rules.specs.Steps.Runs.{Conf, running, finished, stopped, failed, Worked, perform, told, after, bodyAct, step, begin}
-use Rattle.rules.specs.Steps.Runs.{done, halted, paused, faulted, Run, runWith, run_from, run}
-use Rattle.laws_orders.specs.Orders.Effect.{work-length}
+use Rattle.rules.specs.Steps.Control.{Live, call_l, start, Sig, ends, goes, leaves, restarts, stops, faults, Mv, leftmost, work, next}
+use Rattle.rules.specs.Steps.Runs.{Conf, running, finished, stopped, failed, Worked, perform, told, after, body_act, step, begin}
+use Rattle.rules.specs.Steps.Runs.{done, halted, paused, faulted, Run, run_with, run_from, run}
+use Rattle.laws_orders.specs.Orders.Effect.{work_length}
 use Rattle.rules.specs.Steps.Orders.{Ended, end_of}
 use Rattle.laws_orders.specs.Orders.Ends.{EndsWell}
-use Rattle.laws_orders.specs.Orders.Descent.{LeftSteps, allowed, fault-stuck}
+use Rattle.laws_orders.specs.Orders.Descent.{LeftSteps, allowed, fault_stuck}
 use Rattle.laws_orders.specs.Orders.Carriers.{frames}
 
-abbrev carriersOf : Conf → Carriers
-carriersOf (running r s) = s
-carriersOf (finished s) = s
-carriersOf (stopped s) = s
-carriersOf (failed m p s) = s
+abbrev carriers_of : Conf → Carriers
+carriers_of (running r s) = s
+carriers_of (finished s) = s
+carriers_of (stopped s) = s
+carriers_of (failed m p s) = s
 
 -- A run from some carriers: it keeps to its budget, pauses only when that is used up, and keeps the number of words.
 pub record Bounded (budget : ℕ) (s : Carriers) (r : Run) : Type 0 where
@@ -29,19 +29,19 @@ pub record Bounded (budget : ℕ) (s : Carriers) (r : Run) : Type 0 where
   pub same_length : length r.carriers ≡ length s
 
 module _ (ds : Table) where
-  told-length : (s u : Carriers) (x : Sig) → length u ≡ length s → length (carriersOf (told s u x)) ≡ length s
-  told-length s u ends e = e
-  told-length s u (goes r) e = e
-  told-length s u (leaves l) e = refl
-  told-length s u (restarts l) e = refl
-  told-length s u stops e = e
-  told-length s u (faults m p) e = refl
+  told_length : (s u : Carriers) (x : Sig) → length u ≡ length s → length (carriers_of (told s u x)) ≡ length s
+  told_length s u ends e = e
+  told_length s u (goes r) e = e
+  told_length s u (leaves l) e = refl
+  told_length s u (restarts l) e = refl
+  told_length s u stops e = e
+  told_length s u (faults m p) e = refl
 
-  step-length : (r : Live) (m : Mv r) (s : Carriers) → length (carriersOf (step ds r m s)) ≡ length s
-  step-length r m s = by (perform ds (work r m) s) refl
+  step_length : (r : Live) (m : Mv r) (s : Carriers) → length (carriers_of (step ds r m s)) ≡ length s
+  step_length r m s = by (perform ds (work r m) s) refl
     where
-      by : (x : Outcome Worked) → perform ds (work r m) s ≡ x → length (carriersOf (after s (next (bodyAct ds) r m) x)) ≡ length s
-      by (gives w) e = told-length s w.carriers (next (bodyAct ds) r m w.number) (work-length (frames ds) (work r m) s w e)
+      by : (x : Outcome Worked) → perform ds (work r m) s ≡ x → length (carriers_of (after s (next (body_act ds) r m) x)) ≡ length s
+      by (gives w) e = told_length s w.carriers (next (body_act ds) r m w.number) (work_length (frames ds) (work r m) s w e)
       by (faulty n p) e = refl
 
   -- what a run goes on to, after a step
@@ -49,19 +49,19 @@ module _ (ds : Table) where
   onward b n c =
       elim c [
         | running t u ↦ run_from ds b (suc n) (running t u)
-        | finished u ↦ runWith done (suc n) u
-        | stopped u ↦ runWith halted (suc n) u
-        | failed m p u ↦ runWith (faulted m p) n u
+        | finished u ↦ run_with done (suc n) u
+        | stopped u ↦ run_with halted (suc n) u
+        | failed m p u ↦ run_with (faulted m p) n u
       ]
 
   bounded : (b n : ℕ) (r : Live) (s : Carriers) → Bounded (n + b) s (run_from ds b n (running r s))
   unfolding run_from
   bounded zero n r s = record { short = omega arith; pausing = λ p. omega arith; same_length = refl }
-  bounded (suc b) n r s = by (bounded b (suc n)) (step ds r (leftmost r) s) (step-length r (leftmost r) s)
+  bounded (suc b) n r s = by (bounded b (suc n)) (step ds r (leftmost r) s) (step_length r (leftmost r) s)
     where
       by :
           ((t : Live) (u : Carriers) → Bounded (suc n + b) u (run_from ds b (suc n) (running t u)))
-          → (c : Conf) → length (carriersOf c) ≡ length s → Bounded (n + suc b) s (onward b n c)
+          → (c : Conf) → length (carriers_of c) ≡ length s → Bounded (n + suc b) s (onward b n c)
       by ih (running t u) e =
           let h : Bounded (suc n + b) u (run_from ds b (suc n) (running t u)) = ih t u in
           record { short = omega (arith, h.short); pausing = λ p. omega (arith, h.pausing p); same_length = h.same_length ∙ e }
@@ -69,9 +69,9 @@ module _ (ds : Table) where
       by ih (stopped u) e = record { short = omega arith; pausing = λ p. cc; same_length = e }
       by ih (failed m q u) e = record { short = omega arith; pausing = λ p. cc; same_length = e }
 
-  pub run-bounded : (n : Word) (b : ℕ) (s : Carriers) → Bounded b s (run ds n b s)
+  pub run_bounded : (n : Word) (b : ℕ) (s : Carriers) → Bounded b s (run ds n b s)
   unfolding run begin
-  run-bounded n b s = let e : 0 + b ≡ b = omega arith in subst (λ z. Bounded z s (run ds n b s)) e (bounded b 0 (callL n (start (bodyAct ds n))) s)
+  run_bounded n b s = let e : 0 + b ≡ b = omega arith in subst (λ z. Bounded z s (run ds n b s)) e (bounded b 0 (call_l n (start (body_act ds n))) s)
 
   -- the steps from left to right that a run took after n steps, up to its end
   pub record Took (n : ℕ) (c : Conf) (r : Run) : Type 0 where
@@ -100,12 +100,12 @@ module _ (ds : Table) where
       by ih (failed m p u) e w = absurd w
 
   -- where left to right ends within the budget, the run ends well
-  pub ends-well :
+  pub ends_well :
       (k b n : ℕ) (r : Live) (s : Carriers) (d : Conf) → Ended d → k ≤ b → LeftSteps ds k (running r s) d → EndsWell (run_from ds b n (running r s))
   unfolding run_from
-  ends-well zero b n r s d h l e = absurd (subst Ended (sym e) h)
-  ends-well (suc k) zero n r s d h l e = absurd (omega arith)
-  ends-well (suc k) (suc b) n r s d h l e = by (step ds r (leftmost r) s) (λ t u. ends-well k b (suc n) t u d h (omega arith)) e
+  ends_well zero b n r s d h l e = absurd (subst Ended (sym e) h)
+  ends_well (suc k) zero n r s d h l e = absurd (omega arith)
+  ends_well (suc k) (suc b) n r s d h l e = by (step ds r (leftmost r) s) (λ t u. ends_well k b (suc n) t u d h (omega arith)) e
     where
       by :
           (c : Conf) → ((t : Live) (u : Carriers) → LeftSteps ds k (running t u) d → EndsWell (run_from ds b (suc n) (running t u)))
@@ -113,4 +113,4 @@ module _ (ds : Table) where
       by (running t u) ih z = ih t u z
       by (finished u) ih z = tt
       by (stopped u) ih z = tt
-      by (failed m p u) ih z = absurd (fault-stuck ds k (failed m p u) d h (allowed ds k (failed m p u) d z) tt)
+      by (failed m p u) ih z = absurd (fault_stuck ds k (failed m p u) d h (allowed ds k (failed m p u) d z) tt)

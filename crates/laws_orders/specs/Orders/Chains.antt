@@ -5,83 +5,83 @@ use Rattle.std.proofs.Common.{sym, ◌∙◌, ap, ap₂}
 use Rattle.std.proofs.Math.Bool.{or_assoc, or-false}
 use Rattle.std.proofs.lemmas.Bool.{false≢true}
 use Rattle.rules.specs.Declarations.{Word, Table}
-use Rattle.rules.specs.Steps.Actions.{Act, seq, par, label, ins, Ins, iff, decode, repeat, leave, restart, call, stop, noop, transfer, Alts, no-alts, alt}
-use Rattle.rules.specs.Steps.Runs.{bodyAct}
-use Rattle.rules.specs.Whole.Sets.{Sets, sets, union, reads_of, setsOf, setsI, setsAlts, bodySets, stopsIn, stopsI, stopsAlts, bodyStops}
-use Rattle.rules.specs.Whole.Sets.{callsIn, callsI, callsAlts, anyName, chainOver}
-use Rattle.laws_orders.specs.Orders.Tests.{or-neither}
+use Rattle.rules.specs.Steps.Actions.{Act, seq, par, label, ins, Ins, iff, decode, repeat, leave, restart, call, stop, noop, transfer, Alts, no_alts, alt}
+use Rattle.rules.specs.Steps.Runs.{body_act}
+use Rattle.rules.specs.Whole.Sets.{Sets, sets, union, reads_of, sets_of, sets_i, sets_alts, body_sets, stops_in, stops_i, stops_alts, body_stops}
+use Rattle.rules.specs.Whole.Sets.{calls_in, calls_i, calls_alts, any_name, chain_over}
+use Rattle.laws_orders.specs.Orders.Tests.{or_neither}
 
-any_append : (p : Word → Bool) (xs ys : List Word) → anyName p (xs ++ ys) ≡ (anyName p xs || anyName p ys)
-unfolding anyName
+any_append : (p : Word → Bool) (xs ys : List Word) → any_name p (xs ++ ys) ≡ (any_name p xs || any_name p ys)
+unfolding any_name
 any_append p [] ys = refl
-any_append p (x ∷ xs) ys = ap (λ b. p x || b) (any_append p xs ys) ∙ sym (or_assoc (p x) (anyName p xs) (anyName p ys))
+any_append p (x ∷ xs) ys = ap (λ b. p x || b) (any_append p xs ys) ∙ sym (or_assoc (p x) (any_name p xs) (any_name p ys))
 
-pub none_of : (p : Word → Bool) (xs ys : List Word) → anyName p (xs ++ ys) ≡ false → (anyName p xs ≡ false) × (anyName p ys ≡ false)
-none_of p xs ys h = or-neither (anyName p xs) (anyName p ys) (sym (any_append p xs ys) ∙ h)
+pub none_of : (p : Word → Bool) (xs ys : List Word) → any_name p (xs ++ ys) ≡ false → (any_name p xs ≡ false) × (any_name p ys ≡ false)
+none_of p xs ys h = or_neither (any_name p xs) (any_name p ys) (sym (any_append p xs ys) ∙ h)
 
-pub not-this : (p : Word → Bool) (n : Word) → anyName p (n ∷ []) ≡ false → p n ≡ false
-unfolding anyName
-not-this p n h = sym (or-false (p n)) ∙ h
+pub not_this : (p : Word → Bool) (n : Word) → any_name p (n ∷ []) ≡ false → p n ≡ false
+unfolding any_name
+not_this p n h = sym (or-false (p n)) ∙ h
 
 -- what is gathered of an action goes by what is known of the bodies that it activates
 module _ (p : Word → Bool) where
   module _ (ds : Table) (f g : Word → Sets) (same : (n : Word) → p n ≡ false → f n ≡ g n) where
     mutual
-      unfolding setsOf setsI setsAlts callsIn callsI callsAlts
+      unfolding sets_of sets_i sets_alts calls_in calls_i calls_alts
 
-      sets_same : (a : Act) → anyName p (callsIn a) ≡ false → setsOf ds f a ≡ setsOf ds g a
-      sets_same (seq a b) h = let n = none_of p (callsIn a) (callsIn b) h in ap₂ union (sets_same a n.0) (sets_same b n.1)
-      sets_same (par a b) h = let n = none_of p (callsIn a) (callsIn b) h in ap₂ union (sets_same a n.0) (sets_same b n.1)
+      sets_same : (a : Act) → any_name p (calls_in a) ≡ false → sets_of ds f a ≡ sets_of ds g a
+      sets_same (seq a b) h = let n = none_of p (calls_in a) (calls_in b) h in ap₂ union (sets_same a n.0) (sets_same b n.1)
+      sets_same (par a b) h = let n = none_of p (calls_in a) (calls_in b) h in ap₂ union (sets_same a n.0) (sets_same b n.1)
       sets_same (label l a) h = sets_same a h
-      sets_same (ins i) h = setsI-same i h
+      sets_same (ins i) h = sets_i_same i h
 
-      setsI-same : (i : Ins) → anyName p (callsI i) ≡ false → setsI ds f i ≡ setsI ds g i
-      setsI-same (iff e a) h = ap (union (sets (reads_of ds e) [])) (sets_same a h)
-      setsI-same (decode q e bs) h = ap (union (sets (reads_of ds e) [])) (setsAlts-same bs h)
-      setsI-same (repeat a) h = sets_same a h
-      setsI-same (leave l) h = refl
-      setsI-same (restart l) h = refl
-      setsI-same (call n) h = same n (not-this p n h)
-      setsI-same stop h = refl
-      setsI-same noop h = refl
-      setsI-same (transfer d e) h = refl
+      sets_i_same : (i : Ins) → any_name p (calls_i i) ≡ false → sets_i ds f i ≡ sets_i ds g i
+      sets_i_same (iff e a) h = ap (union (sets (reads_of ds e) [])) (sets_same a h)
+      sets_i_same (decode q e bs) h = ap (union (sets (reads_of ds e) [])) (sets_alts_same bs h)
+      sets_i_same (repeat a) h = sets_same a h
+      sets_i_same (leave l) h = refl
+      sets_i_same (restart l) h = refl
+      sets_i_same (call n) h = same n (not_this p n h)
+      sets_i_same stop h = refl
+      sets_i_same noop h = refl
+      sets_i_same (transfer d e) h = refl
 
-      setsAlts-same : (bs : Alts) → anyName p (callsAlts bs) ≡ false → setsAlts ds f bs ≡ setsAlts ds g bs
-      setsAlts-same no-alts h = refl
-      setsAlts-same (alt c a bs) h = let n = none_of p (callsIn a) (callsAlts bs) h in ap₂ union (sets_same a n.0) (setsAlts-same bs n.1)
+      sets_alts_same : (bs : Alts) → any_name p (calls_alts bs) ≡ false → sets_alts ds f bs ≡ sets_alts ds g bs
+      sets_alts_same no_alts h = refl
+      sets_alts_same (alt c a bs) h = let n = none_of p (calls_in a) (calls_alts bs) h in ap₂ union (sets_same a n.0) (sets_alts_same bs n.1)
 
   module _ (f g : Word → Bool) (same : (n : Word) → p n ≡ false → f n ≡ g n) where
     mutual
-      unfolding stopsIn stopsI stopsAlts callsIn callsI callsAlts
+      unfolding stops_in stops_i stops_alts calls_in calls_i calls_alts
 
-      stops_same : (a : Act) → anyName p (callsIn a) ≡ false → stopsIn f a ≡ stopsIn g a
-      stops_same (seq a b) h = let n = none_of p (callsIn a) (callsIn b) h in ap₂ ◌||◌ (stops_same a n.0) (stops_same b n.1)
-      stops_same (par a b) h = let n = none_of p (callsIn a) (callsIn b) h in ap₂ ◌||◌ (stops_same a n.0) (stops_same b n.1)
+      stops_same : (a : Act) → any_name p (calls_in a) ≡ false → stops_in f a ≡ stops_in g a
+      stops_same (seq a b) h = let n = none_of p (calls_in a) (calls_in b) h in ap₂ ◌||◌ (stops_same a n.0) (stops_same b n.1)
+      stops_same (par a b) h = let n = none_of p (calls_in a) (calls_in b) h in ap₂ ◌||◌ (stops_same a n.0) (stops_same b n.1)
       stops_same (label l a) h = stops_same a h
-      stops_same (ins i) h = stopsI-same i h
+      stops_same (ins i) h = stops_i_same i h
 
-      stopsI-same : (i : Ins) → anyName p (callsI i) ≡ false → stopsI f i ≡ stopsI g i
-      stopsI-same (iff e a) h = stops_same a h
-      stopsI-same (decode q e bs) h = stopsAlts-same bs h
-      stopsI-same (repeat a) h = stops_same a h
-      stopsI-same (leave l) h = refl
-      stopsI-same (restart l) h = refl
-      stopsI-same (call n) h = same n (not-this p n h)
-      stopsI-same stop h = refl
-      stopsI-same noop h = refl
-      stopsI-same (transfer d e) h = refl
+      stops_i_same : (i : Ins) → any_name p (calls_i i) ≡ false → stops_i f i ≡ stops_i g i
+      stops_i_same (iff e a) h = stops_same a h
+      stops_i_same (decode q e bs) h = stops_alts_same bs h
+      stops_i_same (repeat a) h = stops_same a h
+      stops_i_same (leave l) h = refl
+      stops_i_same (restart l) h = refl
+      stops_i_same (call n) h = same n (not_this p n h)
+      stops_i_same stop h = refl
+      stops_i_same noop h = refl
+      stops_i_same (transfer d e) h = refl
 
-      stopsAlts-same : (bs : Alts) → anyName p (callsAlts bs) ≡ false → stopsAlts f bs ≡ stopsAlts g bs
-      stopsAlts-same no-alts h = refl
-      stopsAlts-same (alt c a bs) h = let n = none_of p (callsIn a) (callsAlts bs) h in ap₂ ◌||◌ (stops_same a n.0) (stopsAlts-same bs n.1)
+      stops_alts_same : (bs : Alts) → any_name p (calls_alts bs) ≡ false → stops_alts f bs ≡ stops_alts g bs
+      stops_alts_same no_alts h = refl
+      stops_alts_same (alt c a bs) h = let n = none_of p (calls_in a) (calls_alts bs) h in ap₂ ◌||◌ (stops_same a n.0) (stops_alts_same bs n.1)
 
 module _ (ds : Table) where
-  pub sets-closed : (k : ℕ) (n : Word) → chainOver ds k n ≡ false → setsOf ds (bodySets ds k) (bodyAct ds n) ≡ bodySets ds k n
-  unfolding chainOver bodySets
-  sets-closed zero n h = absurd (false≢true (sym h))
-  sets-closed (suc k) n h = sets_same (chainOver ds k) ds (bodySets ds (suc k)) (bodySets ds k) (sets-closed k) (bodyAct ds n) h
+  pub sets_closed : (k : ℕ) (n : Word) → chain_over ds k n ≡ false → sets_of ds (body_sets ds k) (body_act ds n) ≡ body_sets ds k n
+  unfolding chain_over body_sets
+  sets_closed zero n h = absurd (false≢true (sym h))
+  sets_closed (suc k) n h = sets_same (chain_over ds k) ds (body_sets ds (suc k)) (body_sets ds k) (sets_closed k) (body_act ds n) h
 
-  pub stops-closed : (k : ℕ) (n : Word) → chainOver ds k n ≡ false → stopsIn (bodyStops ds k) (bodyAct ds n) ≡ bodyStops ds k n
-  unfolding chainOver bodyStops
-  stops-closed zero n h = absurd (false≢true (sym h))
-  stops-closed (suc k) n h = stops_same (chainOver ds k) (bodyStops ds (suc k)) (bodyStops ds k) (stops-closed k) (bodyAct ds n) h
+  pub stops_closed : (k : ℕ) (n : Word) → chain_over ds k n ≡ false → stops_in (body_stops ds k) (body_act ds n) ≡ body_stops ds k n
+  unfolding chain_over body_stops
+  stops_closed zero n h = absurd (false≢true (sym h))
+  stops_closed (suc k) n h = stops_same (chain_over ds k) (body_stops ds (suc k)) (body_stops ds k) (stops_closed k) (body_act ds n) h

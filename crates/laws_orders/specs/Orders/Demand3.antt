@@ -9,17 +9,17 @@ use Rattle.laws_orders.specs.Orders.Orderly.{Orderly}
 use Rattle.rules.specs.Steps.Orders.{Ended, EveryOrder}
 use Rattle.laws_orders.specs.Orders.Ends.{EndsWell}
 use Rattle.laws_orders.specs.Orders.Carriers.{frames}
-use Rattle.laws_orders.specs.Orders.Static.{bodies-ok}
+use Rattle.laws_orders.specs.Orders.Static.{bodies_ok}
 use Rattle.laws_orders.specs.Orders.Theorem
 
 -- (a) If left to right ends Done or Stopped, so does every order, with that count and those carriers: none faults, stalls or runs longer.
-pub order-free :
+pub order_free :
     (ds : Table) → Orderly ds → (n : Word) (b : ℕ) (s : Carriers) → EndsWell (run ds n b s)
     → (k : ℕ) (c : Conf) → Steps ds k (begin ds n s) c → EveryOrder ds (run ds n b s) k c
-order-free ds o = Theorem.order-free (frames ds) (bodies-ok ds o)
+order_free ds o = Theorem.order_free (frames ds) (bodies_ok ds o)
 
 -- (b) If left to right faults or pauses, no order ends Done or Stopped within the budget.
-pub none-ends :
+pub none_ends :
     (ds : Table) → Orderly ds → (n : Word) (b : ℕ) (s : Carriers) → (EndsWell (run ds n b s) → ⊥)
     → (k : ℕ) (c : Conf) → k ≤ b → Steps ds k (begin ds n s) c → Ended c → ⊥
-none-ends ds o = Theorem.none-ends (frames ds) (bodies-ok ds o)
+none_ends ds o = Theorem.none_ends (frames ds) (bodies_ok ds o)

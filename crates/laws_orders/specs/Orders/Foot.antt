@@ -33,19 +33,19 @@ pub record Sub (F G : Foot) : Type 0 where
 
 -- neither writes what the other reads or writes
 pub record Indep (F G : Foot) : Type 0 where
-  pub wr-rd : Disjoint F.wr G.rd
-  pub rd-wr : Disjoint F.rd G.wr
-  pub wr-wr : Disjoint F.wr G.wr
+  pub wr_rd : Disjoint F.wr G.rd
+  pub rd_wr : Disjoint F.rd G.wr
+  pub wr_wr : Disjoint F.wr G.wr
 
 pub Indep·sym : {F G : Foot} → Indep F G → Indep G F
-Indep·sym d = record { wr-rd = λ i p q. d.rd-wr i q p; rd-wr = λ i p q. d.wr-rd i q p; wr-wr = λ i p q. d.wr-wr i q p }
+Indep·sym d = record { wr_rd = λ i p q. d.rd_wr i q p; rd_wr = λ i p q. d.wr_rd i q p; wr_wr = λ i p q. d.wr_wr i q p }
 
 pub Indep·sub : {F G F' G' : Foot} → Sub F' F → Sub G' G → Indep F G → Indep F' G'
 Indep·sub s t d =
     record {
-      wr-rd = λ i p q. d.wr-rd i (s.writes i p) (t.reads i q);
-      rd-wr = λ i p q. d.rd-wr i (s.reads i p) (t.writes i q);
-      wr-wr = λ i p q. d.wr-wr i (s.writes i p) (t.writes i q);
+      wr_rd = λ i p q. d.wr_rd i (s.writes i p) (t.reads i q);
+      rd_wr = λ i p q. d.rd_wr i (s.reads i p) (t.writes i q);
+      wr_wr = λ i p q. d.wr_wr i (s.writes i p) (t.writes i q);
     }
 
 pub Sub·refl : (F : Foot) → Sub F F
@@ -61,10 +61,10 @@ pub record Prints : Type 0 where
   pub move : List Access → Expr → Foot
   pub test : Expr → Cells
 
-abbrev pub workFoot : Prints → Work → Foot
-workFoot P (moves d e) = P.move d e
-workFoot P (tests e) = foot (P.test e) no_cells
-workFoot P nothing = foot no_cells no_cells
+abbrev pub work_foot : Prints → Work → Foot
+work_foot P (moves d e) = P.move d e
+work_foot P (tests e) = foot (P.test e) no_cells
+work_foot P nothing = foot no_cells no_cells
 
 pub reads_only : {F : Foot} {R : Cells} → Within R F.rd → Sub (foot R no_cells) F
 reads_only h = record { reads = h; writes = λ i p. absurd (false≢true p) }

@@ -1,48 +1,48 @@
 -- What rows 44, 51, 52 and 53 leave of a description, said of its actions as they run: chains are short, jumps aim inside, members of a group neither
 -- jump out, nor stop, nor race.
 use Rattle.std.specs.Prelude.{◌≡◌, true, false, List, [], ◌∷◌, ◌++◌}
-use Rattle.rules.specs.Text.Scan.{sameBytes}
+use Rattle.rules.specs.Text.Scan.{same_bytes}
 use Rattle.rules.specs.Declarations.{Word, Table}
-use Rattle.rules.specs.Steps.Actions.{Act, seq, par, label, ins, Ins, iff, decode, repeat, leave, restart, call, stop, noop, transfer, Alts, no-alts, alt}
-use Rattle.rules.specs.Steps.Runs.{bodyAct}
-use Rattle.rules.specs.Whole.Sets.{touched, race, mayStop, chainOver}
-use Rattle.rules.specs.Limits.{longestChain}
+use Rattle.rules.specs.Steps.Actions.{Act, seq, par, label, ins, Ins, iff, decode, repeat, leave, restart, call, stop, noop, transfer, Alts, no_alts, alt}
+use Rattle.rules.specs.Steps.Runs.{body_act}
+use Rattle.rules.specs.Whole.Sets.{touched, race, may_stop, chain_over}
+use Rattle.rules.specs.Limits.{longest_chain}
 
 -- the targets of LEAVE and RESTART that lie outside an action
 unfoldable pub without : Word → List Word → List Word
 without l [] = []
-without l (n ∷ ns) = elim (sameBytes n l) [ true ↦ without l ns | false ↦ n ∷ without l ns ]
+without l (n ∷ ns) = elim (same_bytes n l) [ true ↦ without l ns | false ↦ n ∷ without l ns ]
 
 unfoldable mutual
-  pub jumpsOut : Act → List Word
-  jumpsOut (seq a b) = jumpsOut a ++ jumpsOut b
-  jumpsOut (par a b) = jumpsOut a ++ jumpsOut b
-  jumpsOut (label l a) = without l (jumpsOut a)
-  jumpsOut (ins i) = jumpsI i
+  pub jumps_out : Act → List Word
+  jumps_out (seq a b) = jumps_out a ++ jumps_out b
+  jumps_out (par a b) = jumps_out a ++ jumps_out b
+  jumps_out (label l a) = without l (jumps_out a)
+  jumps_out (ins i) = jumps_i i
 
-  pub jumpsI : Ins → List Word
-  jumpsI (iff e a) = jumpsOut a
-  jumpsI (decode p e bs) = jumpsAlts bs
-  jumpsI (repeat a) = jumpsOut a
-  jumpsI (leave l) = l ∷ []
-  jumpsI (restart l) = l ∷ []
-  jumpsI (call n) = []
-  jumpsI stop = []
-  jumpsI noop = []
-  jumpsI (transfer d e) = []
+  pub jumps_i : Ins → List Word
+  jumps_i (iff e a) = jumps_out a
+  jumps_i (decode p e bs) = jumps_alts bs
+  jumps_i (repeat a) = jumps_out a
+  jumps_i (leave l) = l ∷ []
+  jumps_i (restart l) = l ∷ []
+  jumps_i (call n) = []
+  jumps_i stop = []
+  jumps_i noop = []
+  jumps_i (transfer d e) = []
 
-  pub jumpsAlts : Alts → List Word
-  jumpsAlts no-alts = []
-  jumpsAlts (alt c a bs) = jumpsOut a ++ jumpsAlts bs
+  pub jumps_alts : Alts → List Word
+  jumps_alts no_alts = []
+  jumps_alts (alt c a bs) = jumps_out a ++ jumps_alts bs
 
 module _ (ds : Table) where
   -- two sides of a group: a member, and the member or members behind it
   pub record Apart (a b : Act) : Type 0 where
     pub no_race : race (touched ds a) (touched ds b) ≡ false
-    pub first-goes-on : mayStop ds a ≡ false
-    pub second-goes-on : mayStop ds b ≡ false
-    pub first-stays : jumpsOut a ≡ []
-    pub second-stays : jumpsOut b ≡ []
+    pub first_goes_on : may_stop ds a ≡ false
+    pub second_goes_on : may_stop ds b ≡ false
+    pub first_stays : jumps_out a ≡ []
+    pub second_stays : jumps_out b ≡ []
 
   -- every group in an action is so
   abbrev mutual
@@ -64,11 +64,11 @@ module _ (ds : Table) where
     AllApartI (transfer d e) = Unit {0}
 
     pub AllApartAlts : Alts → Type 0
-    AllApartAlts no-alts = Unit {0}
+    AllApartAlts no_alts = Unit {0}
     AllApartAlts (alt c a bs) = AllApart a × AllApartAlts bs
 
   -- of every name: the chains of its body, its jumps and its groups
   pub record Orderly : Type 0 where
-    pub chains : (n : Word) → chainOver ds longestChain n ≡ false
-    pub jumps : (n : Word) → without n (jumpsOut (bodyAct ds n)) ≡ []
-    pub groups : (n : Word) → AllApart (bodyAct ds n)
+    pub chains : (n : Word) → chain_over ds longest_chain n ≡ false
+    pub jumps : (n : Word) → without n (jumps_out (body_act ds n)) ≡ []
+    pub groups : (n : Word) → AllApart (body_act ds n)

@@ -2,25 +2,25 @@
 -- Assumes nothing.
 use Rattle.std.specs.Prelude.{ℕ, zero, suc, ◌+◌, ◌*◌, ◌/◌, ◌%◌, ◌<◌, ◌≤◌, ◌≡◌, refl, List, [], ◌∷◌, ◌++◌, length, drop, set}
 use Rattle.std.proofs.Common.{sym, ap, ap₂, ◌∙◌, append_assoc, arith, length-drop, length-append, drop-drop}
-use Rattle.cells.specs.Cells.{put_at, putCell}
+use Rattle.cells.specs.Cells.{put_at, put_cell}
 use Rattle.rules.specs.Answers.{bytes_of}
-use Rattle.rules.specs.Calls.Memory.{numberBytes, answered}
+use Rattle.rules.specs.Calls.Memory.{number_bytes, answered}
 
-set-behind : (front rest : List ℕ) (o x y : ℕ) → o ≡ length front → set (front ++ (y ∷ rest)) o x ≡ front ++ (x ∷ rest)
-set-behind [] rest zero x y e = refl
-set-behind [] rest (suc o) x y e = absurd (omega arith)
-set-behind (z ∷ front) rest zero x y e = absurd (omega arith)
-set-behind (z ∷ front) rest (suc o) x y e = ap (λ l. z ∷ l) (set-behind front rest o x y (omega arith))
+set_behind : (front rest : List ℕ) (o x y : ℕ) → o ≡ length front → set (front ++ (y ∷ rest)) o x ≡ front ++ (x ∷ rest)
+set_behind [] rest zero x y e = refl
+set_behind [] rest (suc o) x y e = absurd (omega arith)
+set_behind (z ∷ front) rest zero x y e = absurd (omega arith)
+set_behind (z ∷ front) rest (suc o) x y e = ap (λ l. z ∷ l) (set_behind front rest o x y (omega arith))
 
 -- w bytes of a number, put behind a front
-pub put-behind : (w : ℕ) (front rest : List ℕ) (o v : ℕ) → o ≡ length front → w ≤ length rest → put_at w (front ++ rest) o v ≡ front ++ (bytes_of w v ++ drop w rest)
+pub put_behind : (w : ℕ) (front rest : List ℕ) (o v : ℕ) → o ≡ length front → w ≤ length rest → put_at w (front ++ rest) o v ≡ front ++ (bytes_of w v ++ drop w rest)
 unfolding put_at bytes_of
-put-behind zero front rest o v e l = refl
-put-behind (suc w) front [] o v e l = absurd (omega arith)
-put-behind (suc w) front (y ∷ rest) o v e l =
+put_behind zero front rest o v e l = refl
+put_behind (suc w) front [] o v e l = absurd (omega arith)
+put_behind (suc w) front (y ∷ rest) o v e l =
     let front' = front ++ (v % 256 ∷ []) in
-    let here : set (front ++ (y ∷ rest)) o (v % 256) ≡ front' ++ rest = set-behind front rest o (v % 256) y e ∙ sym (append_assoc front (v % 256 ∷ []) rest) in
-    ap (λ b. put_at w b (o + 1) (v / 256)) here ∙ put-behind w front' rest (o + 1) (v / 256) (omega (arith, length-append front (v % 256 ∷ []))) (omega arith)
+    let here : set (front ++ (y ∷ rest)) o (v % 256) ≡ front' ++ rest = set_behind front rest o (v % 256) y e ∙ sym (append_assoc front (v % 256 ∷ []) rest) in
+    ap (λ b. put_at w b (o + 1) (v / 256)) here ∙ put_behind w front' rest (o + 1) (v / 256) (omega (arith, length-append front (v % 256 ∷ []))) (omega arith)
     ∙ append_assoc front (v % 256 ∷ []) (bytes_of w (v / 256) ++ drop w rest)
 
 -- the lowest byte of a sum, and the rest
@@ -40,20 +40,20 @@ bytes_pair low high l =
     rw (s₀.0, s₁.0, s₂.0, s₃.0, e₄) refl
 
 pub pair_put : (front before now : List ℕ) (o i low high : ℕ) → now ≡ front ++ drop o before → o ≡ length front → o ≡ 8 * i → o + 8 ≤ length before → low < 4294967296
-    → putCell 8 now i (low + 4294967296 * high) ≡ (front ++ (bytes_of 4 low ++ bytes_of 4 high)) ++ drop (o + 8) before
+    → put_cell 8 now i (low + 4294967296 * high) ≡ (front ++ (bytes_of 4 low ++ bytes_of 4 high)) ++ drop (o + 8) before
 pair_put front before now o i low high is e at room l =
     let v = low + 4294967296 * high in
-    ap₂ (λ b k. put_at 8 b k v) is (sym at) ∙ put-behind 8 front (drop o before) o v e (omega (arith, length-drop o before))
+    ap₂ (λ b k. put_at 8 b k v) is (sym at) ∙ put_behind 8 front (drop o before) o v e (omega (arith, length-drop o before))
     ∙ ap₂ (λ x y. front ++ (x ++ y)) (bytes_pair low high l) (drop-drop 8 o before)
     ∙ sym (append_assoc front (bytes_of 4 low ++ bytes_of 4 high) (drop (o + 8) before))
 
 -- the answer, pair by pair
-pub answer-put : (before b₁ b₂ b₃ after : List ℕ) (x₀ x₁ x₂ x₃ x₄ x₅ x₆ x₇ : ℕ) → 32 ≤ length before
+pub answer_put : (before b₁ b₂ b₃ after : List ℕ) (x₀ x₁ x₂ x₃ x₄ x₅ x₆ x₇ : ℕ) → 32 ≤ length before
     → x₀ < 4294967296 → x₂ < 4294967296 → x₄ < 4294967296 → x₆ < 4294967296
-    → b₁ ≡ putCell 8 before 0 (x₀ + 4294967296 * x₁) → b₂ ≡ putCell 8 b₁ 1 (x₂ + 4294967296 * x₃) → b₃ ≡ putCell 8 b₂ 2 (x₄ + 4294967296 * x₅)
-    → after ≡ putCell 8 b₃ 3 (x₆ + 4294967296 * x₇) → after ≡ answered (x₀ ∷ x₁ ∷ x₂ ∷ x₃ ∷ x₄ ∷ x₅ ∷ x₆ ∷ x₇ ∷ []) before
-unfolding answered numberBytes bytes_of
-answer-put before b₁ b₂ b₃ after x₀ x₁ x₂ x₃ x₄ x₅ x₆ x₇ room l₀ l₂ l₄ l₆ e₁ e₂ e₃ e₄ =
+    → b₁ ≡ put_cell 8 before 0 (x₀ + 4294967296 * x₁) → b₂ ≡ put_cell 8 b₁ 1 (x₂ + 4294967296 * x₃) → b₃ ≡ put_cell 8 b₂ 2 (x₄ + 4294967296 * x₅)
+    → after ≡ put_cell 8 b₃ 3 (x₆ + 4294967296 * x₇) → after ≡ answered (x₀ ∷ x₁ ∷ x₂ ∷ x₃ ∷ x₄ ∷ x₅ ∷ x₆ ∷ x₇ ∷ []) before
+unfolding answered number_bytes bytes_of
+answer_put before b₁ b₂ b₃ after x₀ x₁ x₂ x₃ x₄ x₅ x₆ x₇ room l₀ l₂ l₄ l₆ e₁ e₂ e₃ e₄ =
     let front₁ = bytes_of 4 x₀ ++ bytes_of 4 x₁ in
     let front₂ = front₁ ++ (bytes_of 4 x₂ ++ bytes_of 4 x₃) in
     let front₃ = front₂ ++ (bytes_of 4 x₄ ++ bytes_of 4 x₅) in

@@ -2,20 +2,20 @@
 -- Assumes nothing.
 use Rattle.std.specs.Prelude.{ℕ, ◌≤◌, ◌≡◌, Bool, true, false, not, List, length}
 use Rattle.std.proofs.Common.{arith}
-use Rattle.rules.specs.Limits.{longestText}
+use Rattle.rules.specs.Limits.{longest_text}
 use Rattle.rules.specs.Calls.Memory.{Memory, Enough}
-use Rattle.lent.specs.Measured.{Measured, Unread, short-memory, long-text, none}
+use Rattle.lent.specs.Measured.{Measured, Unread, short_memory, long_text, none}
 
 pub enough : (m : Memory) (r : Bool) → Measured m r → not r ≡ false → Enough m
 enough m true h e = h
 enough m false h e = let z : ◌≡◌ {A = ℕ} 0 1 = cc in absurd (omega arith)
 
-pub not-enough : (m : Memory) (r : Bool) → Measured m r → not r ≡ true → Enough m → ⊥
-not-enough m true h e = let z : ◌≡◌ {A = ℕ} 0 1 = cc in absurd (omega arith)
-not-enough m false h e = h
+pub not_enough : (m : Memory) (r : Bool) → Measured m r → not r ≡ true → Enough m → ⊥
+not_enough m true h e = let z : ◌≡◌ {A = ℕ} 0 1 = cc in absurd (omega arith)
+not_enough m false h e = h
 
 -- a call that may go on
-pub fits : {text : List ℕ} {m : Memory} {r : ℕ} → Unread text m r → r ≡ 0 → Enough m × (length text ≤ longestText)
-fits (short-memory h) e = absurd (omega arith)
-fits (long-text m h) e = absurd (omega arith)
+pub fits : {text : List ℕ} {m : Memory} {r : ℕ} → Unread text m r → r ≡ 0 → Enough m × (length text ≤ longest_text)
+fits (short_memory h) e = absurd (omega arith)
+fits (long_text m h) e = absurd (omega arith)
 fits (none m h) e = (m, h)

@@ -5,6 +5,6 @@ use Rattle.std.proofs.Common.{ap}
 use Rattle.rules.specs.Positions.{Position}
 
 -- line and column stand last
-pub position-stands : (x₀ x₁ x₂ x₃ x₄ x₅ : ℕ) {here there : Position} → here ≡ there
+pub position_stands : (x₀ x₁ x₂ x₃ x₄ x₅ : ℕ) {here there : Position} → here ≡ there
     → x₀ ∷ x₁ ∷ x₂ ∷ x₃ ∷ x₄ ∷ x₅ ∷ here.line ∷ here.column ∷ [] ≡ x₀ ∷ x₁ ∷ x₂ ∷ x₃ ∷ x₄ ∷ x₅ ∷ there.line ∷ there.column ∷ []
-position-stands x₀ x₁ x₂ x₃ x₄ x₅ e = ap (λ p. x₀ ∷ x₁ ∷ x₂ ∷ x₃ ∷ x₄ ∷ x₅ ∷ p.line ∷ p.column ∷ []) e
+position_stands x₀ x₁ x₂ x₃ x₄ x₅ e = ap (λ p. x₀ ∷ x₁ ∷ x₂ ∷ x₃ ∷ x₄ ∷ x₅ ∷ p.line ∷ p.column ∷ []) e

@@ -6,11 +6,11 @@ use mathlib.Core.List.{List, [], ◌∷◌}
 use Rattle.std.proofs.Math.Option.{some}
 use Rattle.std.proofs.lemmas.Bool.{eqb-false}
 use Rattle.std.proofs.Math.Dec.{eqb}
-use Rattle.rules.specs.Text.Tokens.{Spelling, kindNo}
+use Rattle.rules.specs.Text.Tokens.{Spelling, kind_no}
 use Rattle.rules.specs.Text.Constants.{all}
-use Rattle.rules.specs.Text.Scan.{sameBytes, wordKind}
+use Rattle.rules.specs.Text.Scan.{same_bytes, word_kind}
 use Rattle.classes.specs.Laws.Runs.{and_left, and_right}
-use Rattle.lexemes.specs.Codes.{code_of, wordDigit, markDigit, kindBy}
+use Rattle.lexemes.specs.Codes.{code_of, word_digit, mark_digit, kind_by}
 
 pub all_head : (p : ℕ → Bool) (b : ℕ) (bs : List ℕ) → all p (b ∷ bs) ≡ true → p b ≡ true
 unfolding all
@@ -48,8 +48,8 @@ module _ {digit : ℕ → ℕ} {base : ℕ} {ok : ℕ → Bool} (law : Digits di
   abbrev code : List ℕ → ℕ
   code w = code_of digit base w
 
-  pub same_code : (s w : List ℕ) → all ok s ≡ true → all ok w ≡ true → sameBytes s w ≡ eqb (code w) (code s)
-  unfolding sameBytes code_of
+  pub same_code : (s w : List ℕ) → all ok s ≡ true → all ok w ≡ true → same_bytes s w ≡ eqb (code w) (code s)
+  unfolding same_bytes code_of
   same_code [] [] hs hw = refl
   same_code [] (c ∷ cs) hs hw = sym (ne_eqb _ _ (positive (digit c) _ (law.some c (all_head ok c cs hw))))
   same_code (b ∷ bs) [] hs hw = sym (ne_eqb 0 _ (λ e. positive (digit b) (base * code bs) (law.some b (all_head ok b bs hs)) (sym e)))
@@ -65,30 +65,30 @@ module _ {digit : ℕ → ℕ} {base : ℕ} {ok : ℕ → Bool} (law : Digits di
           sym (eq-eqb _ _ whole)
       rest false e q = sym (ne_eqb _ _ (λ z. eqb-false _ _ q (split z).1))
 
-      go : (r : Bool) → eqb b c ≡ r → sameBytes bs cs ≡ eqb (code cs) (code bs)
-          → r && sameBytes bs cs ≡ eqb (digit c + base * code cs) (digit b + base * code bs)
+      go : (r : Bool) → eqb b c ≡ r → same_bytes bs cs ≡ eqb (code cs) (code bs)
+          → r && same_bytes bs cs ≡ eqb (digit c + base * code cs) (digit b + base * code bs)
       go true e q = q ∙ rest _ (eqb-true _ _ e) refl
       go false e q = sym (ne_eqb _ _ (λ z. eqb-false _ _ e (sym (split z).0)))
 
-  pub word-by : (ss : List Spelling) (w : List ℕ) → spelled ok ss ≡ true → all ok w ≡ true → kindNo (wordKind ss w) ≡ kindBy code (code w) ss
-  unfolding spelled wordKind kindBy
-  word-by [] w hs hw = refl
-  word-by (s ∷ ss) w hs hw = go (eqb (code w) (code s.written)) refl (word-by ss w (and_right (all ok s.written) (spelled ok ss) hs) hw)
+  pub word_by : (ss : List Spelling) (w : List ℕ) → spelled ok ss ≡ true → all ok w ≡ true → kind_no (word_kind ss w) ≡ kind_by code (code w) ss
+  unfolding spelled word_kind kind_by
+  word_by [] w hs hw = refl
+  word_by (s ∷ ss) w hs hw = go (eqb (code w) (code s.written)) refl (word_by ss w (and_right (all ok s.written) (spelled ok ss) hs) hw)
     where
-      same : sameBytes s.written w ≡ eqb (code w) (code s.written)
+      same : same_bytes s.written w ≡ eqb (code w) (code s.written)
       same = same_code s.written w (and_left (all ok s.written) (spelled ok ss) hs) hw
 
-      go : (r : Bool) → eqb (code w) (code s.written) ≡ r → kindNo (wordKind ss w) ≡ kindBy code (code w) ss
-          → kindNo (wordKind (s ∷ ss) w) ≡ kindBy code (code w) (s ∷ ss)
-      go true e rest = rw (wordKind, same ∙ e, kindBy, e)
-      go false e rest = rw (wordKind, same ∙ e, kindBy, e) rest
+      go : (r : Bool) → eqb (code w) (code s.written) ≡ r → kind_no (word_kind ss w) ≡ kind_by code (code w) ss
+          → kind_no (word_kind (s ∷ ss) w) ≡ kind_by code (code w) (s ∷ ss)
+      go true e rest = rw (word_kind, same ∙ e, kind_by, e)
+      go false e rest = rw (word_kind, same ∙ e, kind_by, e) rest
 
 -- the bytes of a folded name
-abbrev pub wordByte : ℕ → Bool
-wordByte b = ltb 32 b && ltb b 96
+abbrev pub word_byte : ℕ → Bool
+word_byte b = ltb 32 b && ltb b 96
 
-pub word-digits : Digits wordDigit 64 wordByte
-word-digits = record {
+pub word_digits : Digits word_digit 64 word_byte
+word_digits = record {
   some = λ b h.
       let l : 32 < b = ltb-true 32 b (and_left (ltb 32 b) (ltb b 96) h) in
       let u : b < 96 = ltb-true b 96 (and_right (ltb 32 b) (ltb b 96) h) in
@@ -105,25 +105,25 @@ word-digits = record {
 abbrev pub is_byte : ℕ → Bool
 is_byte b = ltb b 256
 
-pub mark-digits : Digits markDigit 257 is_byte
-mark-digits = record {
+pub mark_digits : Digits mark_digit 257 is_byte
+mark_digits = record {
   some = λ b h. omega arith;
   apart = λ b c u v hb hc e. let ub : b < 256 = ltb-true b 256 hb in let uc : c < 256 = ltb-true c 256 hc in omega arith;
 }
 
-pub all-bytes : (l : List ℕ) → ((i : ℕ) → get_or l i 0 < 256) → all is_byte l ≡ true
+pub all_bytes : (l : List ℕ) → ((i : ℕ) → get_or l i 0 < 256) → all is_byte l ≡ true
 unfolding all
-all-bytes [] h = refl
-all-bytes (b ∷ bs) h = rw (lt-ltb b 256 (h 0)) (all-bytes bs (λ i. h (suc i)))
+all_bytes [] h = refl
+all_bytes (b ∷ bs) h = rw (lt-ltb b 256 (h 0)) (all_bytes bs (λ i. h (suc i)))
 
 -- a number that no spelling has, as a match on all of them tells
 abbrev pub Missed : Type 0 → (List ℕ → ℕ) → ℕ → List Spelling → Type 0
 Missed A code n [] = A
 Missed A code n (s ∷ ss) = Missed (A × (n ≡ code s.written → ⊥)) code n ss
 
-pub missed : (A : Type 0) (code : List ℕ → ℕ) (n : ℕ) (ss : List Spelling) → Missed A code n ss → A × (kindBy code n ss ≡ 0)
-unfolding kindBy
+pub missed : (A : Type 0) (code : List ℕ → ℕ) (n : ℕ) (ss : List Spelling) → Missed A code n ss → A × (kind_by code n ss ≡ 0)
+unfolding kind_by
 missed A code n [] m = (m, refl)
 missed A code n (s ∷ ss) m =
-    let rest : (A × (n ≡ code s.written → ⊥)) × (kindBy code n ss ≡ 0) = missed (A × (n ≡ code s.written → ⊥)) code n ss m in
-    (rest.0.0, rw (kindBy, ne_eqb _ _ rest.0.1) rest.1)
+    let rest : (A × (n ≡ code s.written → ⊥)) × (kind_by code n ss ≡ 0) = missed (A × (n ≡ code s.written → ⊥)) code n ss m in
+    (rest.0.0, rw (kind_by, ne_eqb _ _ rest.0.1) rest.1)

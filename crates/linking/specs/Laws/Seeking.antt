@@ -9,7 +9,7 @@ use mathlib.Core.List.{[], ◌∷◌}
 use Rattle.std.proofs.Math.Option.{Option, none, some}
 use Rattle.rules.specs.Stores.{Entry}
 use Rattle.traces.specs.Cited.Marking.{Pos, at, never, lower, Cells, marked, behind, fit, here, put}
-use Rattle.matching.specs.Matching.{fitAt}
+use Rattle.matching.specs.Matching.{fit_at}
 use Rattle.linking.specs.Seeking.{OfWord, Sought}
 
 module _ (x : Entry) where
@@ -17,22 +17,22 @@ module _ (x : Entry) where
   Passing r cs = (k : ℕ) → k < r → OfWord x.word (get_or cs k none) → ⊥
 
   -- the entry in front is not the one
-  put-behind : (f : Pos) (c : Option Entry) (cs : Cells) → (OfWord x.word c → ⊥) → put x [] f (c ∷ cs) ≡ behind c (put x [] (lower f) cs)
+  put_behind : (f : Pos) (c : Option Entry) (cs : Cells) → (OfWord x.word c → ⊥) → put x [] f (c ∷ cs) ≡ behind c (put x [] (lower f) cs)
   unfolding put
-  put-behind f none cs h = refl
-  put-behind f (some y) cs h = ap (λ b. cond b (here x [] f (some y ∷ cs)) (behind (some y) (put x [] (lower f) cs))) (ne_eqb y.word x.word h)
+  put_behind f none cs h = refl
+  put_behind f (some y) cs h = ap (λ b. cond b (here x [] f (some y ∷ cs)) (behind (some y) (put x [] (lower f) cs))) (ne_eqb y.word x.word h)
 
   -- the entry in front is the one
-  put-here : (f : Pos) (c : Option Entry) (cs : Cells) → OfWord x.word c → put x [] f (c ∷ cs) ≡ here x [] f (c ∷ cs)
+  put_here : (f : Pos) (c : Option Entry) (cs : Cells) → OfWord x.word c → put x [] f (c ∷ cs) ≡ here x [] f (c ∷ cs)
   unfolding put
-  put-here f none cs h = absurd h
-  put-here f (some y) cs h = ap (λ b. cond b (here x [] f (some y ∷ cs)) (behind (some y) (put x [] (lower f) cs))) (eq-eqb y.word x.word h)
+  put_here f none cs h = absurd h
+  put_here f (some y) cs h = ap (λ b. cond b (here x [] f (some y ∷ cs)) (behind (some y) (put x [] (lower f) cs))) (eq-eqb y.word x.word h)
 
   missing : (f : Pos) (cs : Cells) → Passing (length cs) cs → put x [] f cs ≡ marked cs never never
   unfolding put
   missing f [] h = refl
   missing f (c ∷ cs) h =
-      put-behind f c cs (h 0 (omega arith)) ∙ ap (behind c) (missing (lower f) cs (λ k l. h (suc k) (omega arith)))
+      put_behind f c cs (h 0 (omega arith)) ∙ ap (behind c) (missing (lower f) cs (λ k l. h (suc k) (omega arith)))
 
   abbrev pub Early : Pos → ℕ → Type 0
   Early (at n) r = r < n
@@ -42,46 +42,46 @@ module _ (x : Entry) where
   InTime (at n) r = n ≤ r
   InTime never r = ⊥
 
-  early-lower : (f : Pos) (r : ℕ) → Early f (suc r) → Early (lower f) r
-  early-lower (at zero) r h = absurd (omega arith)
-  early-lower (at (suc n)) r h = omega arith
-  early-lower never r h = tt
+  early_lower : (f : Pos) (r : ℕ) → Early f (suc r) → Early (lower f) r
+  early_lower (at zero) r h = absurd (omega arith)
+  early_lower (at (suc n)) r h = omega arith
+  early_lower never r h = tt
 
-  in-time-lower : (f : Pos) (r : ℕ) → InTime f (suc r) → InTime (lower f) r
-  in-time-lower (at zero) r h = omega arith
-  in-time-lower (at (suc n)) r h = omega arith
-  in-time-lower never r h = h
+  in_time_lower : (f : Pos) (r : ℕ) → InTime f (suc r) → InTime (lower f) r
+  in_time_lower (at zero) r h = omega arith
+  in_time_lower (at (suc n)) r h = omega arith
+  in_time_lower never r h = h
 
-  here-early : (f : Pos) (cs : Cells) → Early f 0 → here x [] f cs ≡ marked cs never (at 0)
-  here-early (at zero) cs h = absurd (omega arith)
-  here-early (at (suc n)) cs h = refl
-  here-early never cs h = refl
+  here_early : (f : Pos) (cs : Cells) → Early f 0 → here x [] f cs ≡ marked cs never (at 0)
+  here_early (at zero) cs h = absurd (omega arith)
+  here_early (at (suc n)) cs h = refl
+  here_early never cs h = refl
 
-  here-in-time : (f : Pos) (cs : Cells) → InTime f 0 → here x [] f cs ≡ fit (x ∷ []) cs
-  here-in-time (at zero) cs h = refl
-  here-in-time (at (suc n)) cs h = absurd (omega arith)
-  here-in-time never cs h = absurd h
+  here_in_time : (f : Pos) (cs : Cells) → InTime f 0 → here x [] f cs ≡ fit (x ∷ []) cs
+  here_in_time (at zero) cs h = refl
+  here_in_time (at (suc n)) cs h = absurd (omega arith)
+  here_in_time never cs h = absurd h
 
   early : (f : Pos) (cs : Cells) (r : ℕ) → r < length cs → Passing r cs → OfWord x.word (get_or cs r none) → Early f r → put x [] f cs ≡ marked cs never (at r)
   early f [] r l p o t = absurd (omega arith)
-  early f (c ∷ cs) zero l p o t = put-here f c cs o ∙ here-early f (c ∷ cs) t
+  early f (c ∷ cs) zero l p o t = put_here f c cs o ∙ here_early f (c ∷ cs) t
   early f (c ∷ cs) (suc r) l p o t =
-      put-behind f c cs (p 0 (omega arith)) ∙ ap (behind c) (early (lower f) cs r (omega arith) (λ k h. p (suc k) (omega arith)) o (early-lower f r t))
+      put_behind f c cs (p 0 (omega arith)) ∙ ap (behind c) (early (lower f) cs r (omega arith) (λ k h. p (suc k) (omega arith)) o (early_lower f r t))
 
-  in-time : (f : Pos) (cs : Cells) (r : ℕ) → r < length cs → Passing r cs → OfWord x.word (get_or cs r none) → InTime f r → put x [] f cs ≡ fitAt r x cs
-  unfolding fitAt
-  in-time f [] r l p o t = absurd (omega arith)
-  in-time f (c ∷ cs) zero l p o t = put-here f c cs o ∙ here-in-time f (c ∷ cs) t
-  in-time f (c ∷ cs) (suc r) l p o t =
-      put-behind f c cs (p 0 (omega arith)) ∙ ap (behind c) (in-time (lower f) cs r (omega arith) (λ k h. p (suc k) (omega arith)) o (in-time-lower f r t))
+  in_time : (f : Pos) (cs : Cells) (r : ℕ) → r < length cs → Passing r cs → OfWord x.word (get_or cs r none) → InTime f r → put x [] f cs ≡ fit_at r x cs
+  unfolding fit_at
+  in_time f [] r l p o t = absurd (omega arith)
+  in_time f (c ∷ cs) zero l p o t = put_here f c cs o ∙ here_in_time f (c ∷ cs) t
+  in_time f (c ∷ cs) (suc r) l p o t =
+      put_behind f c cs (p 0 (omega arith)) ∙ ap (behind c) (in_time (lower f) cs r (omega arith) (λ k h. p (suc k) (omega arith)) o (in_time_lower f r t))
 
   -- no entry; one that comes too early; one that may be
   module _ (f : Pos) {cs : Cells} {r : ℕ} (s : Sought x.word cs r) where
-    pub put-missing : length cs ≤ r → put x [] f cs ≡ marked cs never never
-    put-missing h = missing f cs (λ k l. s.passed k (omega arith))
+    pub put_missing : length cs ≤ r → put x [] f cs ≡ marked cs never never
+    put_missing h = missing f cs (λ k l. s.passed k (omega arith))
 
-    pub put-early : r < length cs → Early f r → put x [] f cs ≡ marked cs never (at r)
-    put-early l = early f cs r l s.passed (s.found l)
+    pub put_early : r < length cs → Early f r → put x [] f cs ≡ marked cs never (at r)
+    put_early l = early f cs r l s.passed (s.found l)
 
-    pub put-in-time : r < length cs → InTime f r → put x [] f cs ≡ fitAt r x cs
-    put-in-time l = in-time f cs r l s.passed (s.found l)
+    pub put_in_time : r < length cs → InTime f r → put x [] f cs ≡ fit_at r x cs
+    put_in_time l = in_time f cs r l s.passed (s.found l)

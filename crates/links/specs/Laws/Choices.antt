@@ -5,72 +5,72 @@ use Rattle.std.specs.Prelude.{◌≡◌, List, [], ◌∷◌, drop}
 use Rattle.std.proofs.Math.Path.{refl, ap}
 use Rattle.std.proofs.Common.{◌∙◌, subst, arith}
 use Rattle.std.proofs.Math.ListN.{length, length-drop}
-use Rattle.rules.specs.Text.Tokens.{Token, tk, Arrow, Becomes, BEGIN, DECODE, END, kindNo}
-use Rattle.rules.specs.Grammar.Trees.{Tokens, operandTokens, tailTokens, Action, actionTokens, alternativesTokens}
-use Rattle.laws_grammar.specs.Grammar.Positions.{Writes, selector-writes, action-writes, counted-writes, selected-more-writes}
-use Rattle.laws_grammar.specs.Cited.Heads.{headKind}
-use Rattle.laws_grammar.specs.Cited.Nesting.{actionNest}
-use Rattle.laws_code.specs.Cited.Code.{actionSize, first_of, behindTest}
-use Rattle.laws_code.specs.Links.Numbers.{size-before}
-use Rattle.records.specs.Holds.{kindByte}
-use Rattle.table.specs.Laws.Positions.{here, kind-here}
+use Rattle.rules.specs.Text.Tokens.{Token, tk, Arrow, Becomes, BEGIN, DECODE, END, kind_no}
+use Rattle.rules.specs.Grammar.Trees.{Tokens, operand_tokens, tail_tokens, Action, action_tokens, alternatives_tokens}
+use Rattle.laws_grammar.specs.Grammar.Positions.{Writes, selector_writes, action_writes, counted_writes, selected_more_writes}
+use Rattle.laws_grammar.specs.Cited.Heads.{head_kind}
+use Rattle.laws_grammar.specs.Cited.Nesting.{action_nest}
+use Rattle.laws_code.specs.Cited.Code.{action_size, first_of, behind_test}
+use Rattle.laws_code.specs.Links.Numbers.{size_before}
+use Rattle.records.specs.Holds.{kind_byte}
+use Rattle.table.specs.Laws.Positions.{here, kind_here}
 use Rattle.table.specs.Scans.{no, scan, halts, stops}
-use Rattle.table.specs.Laws.Scans.{arrow, past-expression}
+use Rattle.table.specs.Laws.Scans.{arrow, past_expression}
 use Rattle.ways.specs.Seeking.{Ground, Stands, Seeks}
 use Rattle.ways.specs.Laws.Seeking.{found_at}
-use Rattle.ways.specs.Laws.Forms.{choice-is}
+use Rattle.ways.specs.Laws.Forms.{choice_is}
 use Rattle.records.specs.Kept.{Kept}
-use Rattle.records.specs.Laws.Kept.{kept-none, kept_then, kept-wide, holds_kept}
+use Rattle.records.specs.Laws.Kept.{kept_none, kept_then, kept_wide, holds_kept}
 use Rattle.ways.specs.Linked.{Linked, Separates, Same}
-use Rattle.links.specs.Laws.Linked.{linked-same}
-use Rattle.ways.specs.Laws.Stack.{labels-none, labels-then}
+use Rattle.links.specs.Laws.Linked.{linked_same}
+use Rattle.ways.specs.Laws.Stack.{labels_none, labels_then}
 use Rattle.ways.specs.Standing.{ActionAt, Done}
-use Rattle.ways.specs.Laws.Prefixes.{expression-writes}
-use Rattle.links.specs.Laws.Setting.{moved, standing, setting-of}
-use Rattle.ways.specs.Turns.{Lead, no_lead, chosen, other, leadTokens, leadEnd, More, counting, selecting, last, moreTokens, Turn, turnTokens, LaterLinked, TurnLinked, AlternativeAt, Extends}
-use Rattle.ways.specs.Laws.Turns.{turn_of, turn-tokens, turn-nest, turn-linked, Behind, another, no_more, behind-of, Parted, parted}
-use Rattle.links.specs.Choices.{TurnsAt, stopOf, TurnsLeft, TurnsDone, TurnAnswer}
+use Rattle.ways.specs.Laws.Prefixes.{expression_writes}
+use Rattle.links.specs.Laws.Setting.{moved, standing, setting_of}
+use Rattle.ways.specs.Turns.{Lead, no_lead, chosen, other, lead_tokens, lead_end, More, counting, selecting, last, more_tokens, Turn, turn_tokens, LaterLinked, TurnLinked, AlternativeAt, Extends}
+use Rattle.ways.specs.Laws.Turns.{turn_of, turn_tokens_lem, turn_nest, turn_linked, Behind, another, no_more, behind_of, Parted, parted}
+use Rattle.links.specs.Choices.{TurnsAt, stop_of, TurnsLeft, TurnsDone, TurnAnswer}
 
 -- how many tokens there are
-lead-writes : (l : Lead) → Writes (leadTokens l)
-lead-writes no_lead = record { grows = λ xs ys. refl }
-lead-writes (chosen s b) = record { grows = λ xs ys. (selector-writes s).grows (tk Becomes b ∷ xs) ys }
-lead-writes (other x b) = record { grows = λ xs ys. refl }
+lead_writes : (l : Lead) → Writes (lead_tokens l)
+lead_writes no_lead = record { grows = λ xs ys. refl }
+lead_writes (chosen s b) = record { grows = λ xs ys. (selector_writes s).grows (tk Becomes b ∷ xs) ys }
+lead_writes (other x b) = record { grows = λ xs ys. refl }
 
-more-writes : (m : More) → Writes (moreTokens m)
-more-writes (counting c) = counted-writes c
-more-writes (selecting m) = selected-more-writes m
-more-writes (last e) = record { grows = λ xs ys. refl }
+more_writes : (m : More) → Writes (more_tokens m)
+more_writes (counting c) = counted_writes c
+more_writes (selecting m) = selected_more_writes m
+more_writes (last e) = record { grows = λ xs ys. refl }
 
-turn-writes : (t : Turn) → Writes (turnTokens t)
-turn-writes t = record {
+turn_writes : (t : Turn) → Writes (turn_tokens t)
+turn_writes t = record {
   grows = λ xs ys.
-      ap (λ l. leadTokens t.lead (actionTokens t.action l)) ((more-writes t.more).grows xs ys)
-      ∙ (ap (leadTokens t.lead) ((action-writes t.action).grows (moreTokens t.more xs) ys)
-      ∙ (lead-writes t.lead).grows (actionTokens t.action (moreTokens t.more xs)) ys);
+      ap (λ l. lead_tokens t.lead (action_tokens t.action l)) ((more_writes t.more).grows xs ys)
+      ∙ (ap (lead_tokens t.lead) ((action_writes t.action).grows (more_tokens t.more xs) ys)
+      ∙ (lead_writes t.lead).grows (action_tokens t.action (more_tokens t.more xs)) ys);
 }
 
-lead-further : (l : Lead) (p : ℕ) → p + 1 ≤ leadEnd p l
-lead-further no_lead p = omega arith
-lead-further (chosen s b) p = omega arith
-lead-further (other x b) p = omega arith
+lead_further : (l : Lead) (p : ℕ) → p + 1 ≤ lead_end p l
+lead_further no_lead p = omega arith
+lead_further (chosen s b) p = omega arith
+lead_further (other x b) p = omega arith
 
-stop-of : {g : Ground} {records labels : List ℕ} {p link count depth : ℕ} (v : TurnsAt g records labels p link count depth)
-    → stopOf v + length v.rest ≡ length g.tokens
-stop-of {g} {p = p} v =
-    omega (arith, v.below, ap length v.reads, length-drop (p + 1) g.tokens, size-before (turn-writes v.turn) v.rest)
+stop_of_lem : {g : Ground} {records labels : List ℕ} {p link count depth : ℕ} (v : TurnsAt g records labels p link count depth)
+    → stop_of v + length v.rest ≡ length g.tokens
+stop_of_lem {g} {p = p} v =
+    omega (arith, v.below, ap length v.reads, length-drop (p + 1) g.tokens, size_before (turn_writes v.turn) v.rest)
 
 module _ {g : Ground} {records labels : List ℕ} {p link count depth : ℕ} (v : TurnsAt g records labels p link count depth) where
-  pub turns-within : p < length records
-  turns-within = omega (arith, v.below, v.setting.holds.record-room)
+  pub turns_within : p < length records
+  turns_within = omega (arith, v.below, v.setting.holds.record_room)
 
-  pub turns-all : TurnsLeft v records labels p
-  turns-all = record {
+  pub turns_all : TurnsLeft v records labels p
+  turns_all = record {
     now = v;
     onward = omega arith;
     same_rest = refl;
-    kept = kept-none records p p;
-    stack = labels-none labels count;
+    kept = kept_none records p p;
+    stack = labels_none labels count;
     whole = λ later s l. l;
   }
 
@@ -84,7 +84,7 @@ module _ {g : Ground} {records labels : List ℕ} {p link count depth : ℕ} (v 
           onward = omega arith;
           same_rest = q.same_rest ∙ u.same_rest;
           kept = kept_then p p'' u.kept q.kept (omega arith) (omega arith) (omega arith) (omega arith);
-          stack = labels-then u.stack q.stack (omega arith);
+          stack = labels_then u.stack q.stack (omega arith);
           whole = λ later s x.
               u.whole later
               (record {
@@ -94,113 +94,113 @@ module _ {g : Ground} {records labels : List ℕ} {p link count depth : ℕ} (v 
               (q.whole later (record { inside = λ t y z. s.inside t (omega arith) z; link = λ t y z. s.link t (omega arith) z }) x);
         }
 
-    pub turns-done : TurnsDone u.now r' l' → TurnsDone v r' l'
-    turns-done q =
+    pub turns_done : TurnsDone u.now r' l' → TurnsDone v r' l'
+    turns_done q =
         let h = u.onward in
-        let e = stop-of v in
-        let f = stop-of u.now in
-        let k = kept-wide p' (stopOf v) q.kept (omega arith) (omega (arith, u.same_rest)) in
+        let e = stop_of_lem v in
+        let f = stop_of_lem u.now in
+        let k = kept_wide p' (stop_of v) q.kept (omega arith) (omega (arith, u.same_rest)) in
         record {
           linked =
               u.whole r' (record { inside = λ t y z. k.inside t (λ a b. omega arith); link = λ t y z. k.link t (λ a b. omega arith) })
               q.linked;
-          kept = kept_then p (stopOf v) u.kept k (omega arith) (omega (arith, u.same_rest)) (omega arith) (omega arith);
-          stack = labels-then u.stack q.stack (omega arith);
+          kept = kept_then p (stop_of v) u.kept k (omega arith) (omega (arith, u.same_rest)) (omega arith) (omega arith);
+          stack = labels_then u.stack q.stack (omega arith);
         }
 
-  abbrev pub alternative-at : AlternativeAt g records p
-  alternative-at = record { holds = v.setting.holds; turn = v.turn; rest = v.rest; below = v.below; reads = v.reads }
+  abbrev pub alternative_at : AlternativeAt g records p
+  alternative_at = record { holds = v.setting.holds; turn = v.turn; rest = v.rest; below = v.below; reads = v.reads }
 
-  module _ {mid : List ℕ} {from end first : ℕ} (x : Extends alternative-at mid from end first) where
+  module _ {mid : List ℕ} {from end first : ℕ} (x : Extends alternative_at mid from end first) where
     abbrev part : Parted v.turn.more v.rest
     part = parted v.turn.more v.rest
 
     lies : p + 1 ≤ from
-    lies = omega (arith, lead-further v.turn.lead p, x.from_is)
+    lies = omega (arith, lead_further v.turn.lead p, x.from_is)
 
-    pub this-alternative : ActionAt g mid labels from link count first (depth - 1)
-    this-alternative =
+    pub this_alternative : ActionAt g mid labels from link count first (depth - 1)
+    this_alternative =
         let l = lies in
-        standing (moved v.setting from x.kept (omega arith) (omega arith) (labels-none labels count)) v.turn.action part.token part.rest
-        (x.reads-action ∙ ap (actionTokens v.turn.action) part.is) part.separating x.first-is (omega (arith, v.action-shallow))
+        standing (moved v.setting from x.kept (omega arith) (omega arith) (labels_none labels count)) v.turn.action part.token part.rest
+        (x.reads_action ∙ ap (action_tokens v.turn.action) part.is) part.separating x.first_is (omega (arith, v.action_shallow))
 
-    module _ {now after : List ℕ} (d : Done this-alternative now after) where
-      done-kept : Kept mid now from end
-      unfolding this-alternative
-      done-kept = kept-wide from end d.kept (omega arith) (omega (arith, x.end_is))
+    module _ {now after : List ℕ} (d : Done this_alternative now after) where
+      done_kept : Kept mid now from end
+      unfolding this_alternative
+      done_kept = kept_wide from end d.kept (omega arith) (omega (arith, x.end_is))
 
-      done-holds : Stands g now
-      done-holds = holds_kept done-kept (holds_kept x.kept v.setting.holds)
+      done_holds : Stands g now
+      done_holds = holds_kept done_kept (holds_kept x.kept v.setting.holds)
 
       at_part : drop end g.tokens ≡ part.token ∷ part.rest
       at_part = x.reads_end ∙ part.is
 
-      pub part-within : 8 * end + 8 ≤ length now
-      part-within = let w = (here g.tokens end _ _ at_part).within in omega (arith, done-holds.record-room)
+      pub part_within : 8 * end + 8 ≤ length now
+      part_within = let w = (here g.tokens end _ _ at_part).within in omega (arith, done_holds.record_room)
 
       -- the separator and the action before it
       front : (later : List ℕ) → Same now later p end
-          → Separates later g.outer g.table p (first_of from v.turn.action) (from + actionSize v.turn.action)
+          → Separates later g.outer g.table p (first_of from v.turn.action) (from + action_size v.turn.action)
           × Linked later g.outer g.table v.setting.around from v.setting.behind v.turn.action
-      unfolding this-alternative
+      unfolding this_alternative
       front later s =
           let l = lies in
           let e = x.end_is in (
             (
-              s.inside p (omega arith) (omega arith) ∙ (done-kept.inside p (λ a b. omega arith) ∙ x.inside_is),
-              s.link p (omega arith) (omega arith) ∙ (done-kept.link p (λ a b. omega arith) ∙ (x.link-is ∙ e)),
+              s.inside p (omega arith) (omega arith) ∙ (done_kept.inside p (λ a b. omega arith) ∙ x.inside_is),
+              s.link p (omega arith) (omega arith) ∙ (done_kept.link p (λ a b. omega arith) ∙ (x.link_is ∙ e)),
             ),
-            linked-same now later g.outer g.table v.turn.action v.setting.around from _
+            linked_same now later g.outer g.table v.turn.action v.setting.around from _
                 (record { inside = λ t y z. s.inside t (omega arith) (omega arith); link = λ t y z. s.link t (omega arith) (omega arith) }) d.linked,
           )
 
-      turn-whole : (later : List ℕ) → Same now later p end
+      turn_whole : (later : List ℕ) → Same now later p end
           → LaterLinked later g.outer g.table v.setting.around end v.setting.behind v.turn.more
           → TurnLinked later g.outer g.table v.setting.around p v.setting.behind v.turn
-      turn-whole later s m =
+      turn_whole later s m =
           let q = front later s in
           let a = v.turn.action in
           subst
-          (λ j. Separates later g.outer g.table p (first_of j a) (j + actionSize a)
+          (λ j. Separates later g.outer g.table p (first_of j a) (j + action_size a)
           × Linked later g.outer g.table v.setting.around j v.setting.behind a
-          × LaterLinked later g.outer g.table v.setting.around (j + actionSize a) v.setting.behind v.turn.more)
+          × LaterLinked later g.outer g.table v.setting.around (j + action_size a) v.setting.behind v.turn.more)
           x.from_is (
             q.0,
             q.1,
             subst (λ j. LaterLinked later g.outer g.table v.setting.around j v.setting.behind v.turn.more) x.end_is m,
           )
 
-      both-kept : Kept records now p end
-      both-kept = let l = lies in let e = x.end_is in kept_then p end x.kept done-kept (omega arith) (omega arith) (omega arith) (omega arith)
+      both_kept : Kept records now p end
+      both_kept = let l = lies in let e = x.end_is in kept_then p end x.kept done_kept (omega arith) (omega arith) (omega arith) (omega arith)
 
-      module _ {k : ℕ} (kind : k ≡ kindByte now end) where
-        kind-first : {t : Token} {ts : Tokens} → moreTokens v.turn.more v.rest ≡ t ∷ ts → k ≡ no t
-        kind-first q = let y = here g.tokens end _ _ (x.reads_end ∙ q) in kind ∙ kind-here done-holds end _ y.within y.token
+      module _ {k : ℕ} (kind : k ≡ kind_byte now end) where
+        kind_first : {t : Token} {ts : Tokens} → more_tokens v.turn.more v.rest ≡ t ∷ ts → k ≡ no t
+        kind_first q = let y = here g.tokens end _ _ (x.reads_end ∙ q) in kind ∙ kind_here done_holds end _ y.within y.token
 
-        pub last_turn : k ≡ kindNo END → TurnAnswer v now after 0
-        unfolding this-alternative
-        last_turn shut = record { done = λ z. by (behind-of v.turn.more); left = λ z. absurd (z refl); further-on = λ z. absurd (z refl) }
+        pub last_turn : k ≡ kind_no END → TurnAnswer v now after 0
+        unfolding this_alternative
+        last_turn shut = record { done = λ z. by (behind_of v.turn.more); left = λ z. absurd (z refl); further_on = λ z. absurd (z refl) }
           where
             by : Behind v.turn.more → TurnsDone v now after
-            by (another a) = absurd (omega (arith, kind-first (a.tokens v.rest)))
+            by (another a) = absurd (omega (arith, kind_first (a.tokens v.rest)))
             by (no_more m) =
-                let e = stop-of v in
+                let e = stop_of_lem v in
                 let f = ap length (x.reads_end ∙ m.tokens v.rest) in
                 let w = (here g.tokens end _ _ at_part).within in
                 record {
                   linked =
-                      turn-whole now (record { inside = λ t y z. refl; link = λ t y z. refl })
+                      turn_whole now (record { inside = λ t y z. refl; link = λ t y z. refl })
                       (m.linked now g.outer g.table v.setting.around end v.setting.behind);
-                  kept = kept-wide p (stopOf v) both-kept (omega arith) (omega (arith, length-drop end g.tokens));
+                  kept = kept_wide p (stop_of v) both_kept (omega arith) (omega (arith, length-drop end g.tokens));
                   stack = d.stack;
                 }
 
-        pub more-turns : (k ≡ kindNo END → ⊥) → TurnAnswer v now after end
-        unfolding this-alternative
-        more-turns going = by (behind-of v.turn.more)
+        pub more_turns : (k ≡ kind_no END → ⊥) → TurnAnswer v now after end
+        unfolding this_alternative
+        more_turns going = by (behind_of v.turn.more)
           where
             by : Behind v.turn.more → TurnAnswer v now after end
-            by (no_more m) = absurd (going (kind-first (m.tokens v.rest)))
+            by (no_more m) = absurd (going (kind_first (m.tokens v.rest)))
             by (another a) =
                 let l = lies in
                 let e = x.end_is in
@@ -209,85 +209,85 @@ module _ {g : Ground} {records labels : List ℕ} {p link count depth : ℕ} (v 
                   done = λ z. absurd (omega arith);
                   left = λ z. record {
                     now = record {
-                      setting = moved v.setting end both-kept (omega arith) (omega arith) d.stack;
+                      setting = moved v.setting end both_kept (omega arith) (omega arith) d.stack;
                       turn = a.next;
                       rest = v.rest;
                       below = y.within;
                       reads = y.behind;
-                      action-shallow = omega (arith, v.more-shallow, a.shallow.0);
-                      more-shallow = omega (arith, v.more-shallow, a.shallow.1);
+                      action_shallow = omega (arith, v.more_shallow, a.shallow.0);
+                      more_shallow = omega (arith, v.more_shallow, a.shallow.1);
                     };
                     onward = omega arith;
                     same_rest = refl;
-                    kept = both-kept;
+                    kept = both_kept;
                     stack = d.stack;
-                    whole = λ later s q. turn-whole later s (a.linked later g.outer g.table v.setting.around end v.setting.behind q);
+                    whole = λ later s q. turn_whole later s (a.linked later g.outer g.table v.setting.around end v.setting.behind q);
                   };
-                  further-on = λ z. omega arith;
+                  further_on = λ z. omega arith;
                 }
 
 -- the alternatives of a DECODE
 module _ {g : Ground} {records labels : List ℕ} {i link count first depth : ℕ} (v : ActionAt g records labels i link count first depth)
-    (e : headKind v.action ≡ DECODE) where
-  choice-reads : let x = choice-is v.action e in
+    (e : head_kind v.action ≡ DECODE) where
+  choice_reads : let x = choice_is v.action e in
       drop (i + 1) g.tokens
-      ≡ operandTokens x.1 (tailTokens x.2 (tk Arrow x.3 ∷ tk BEGIN x.4 ∷ alternativesTokens x.5 (v.next ∷ v.rest)))
-  choice-reads = let x = choice-is v.action e in (here g.tokens i _ _ (v.reads ∙ ap (λ (a : Action). actionTokens a (v.next ∷ v.rest)) x.6)).behind
+      ≡ operand_tokens x.1 (tail_tokens x.2 (tk Arrow x.3 ∷ tk BEGIN x.4 ∷ alternatives_tokens x.5 (v.next ∷ v.rest)))
+  choice_reads = let x = choice_is v.action e in (here g.tokens i _ _ (v.reads ∙ ap (λ (a : Action). action_tokens a (v.next ∷ v.rest)) x.6)).behind
 
-  pub choice-arrow : Seeks g records (i + 1) 14
+  pub choice_arrow : Seeks g records (i + 1) 14
   unfolding scan halts stops
-  choice-arrow =
-      let x = choice-is v.action e in
+  choice_arrow =
+      let x = choice_is v.action e in
       record {
         holds = v.holds;
         next = tk Arrow x.3;
-        rest = tk BEGIN x.4 ∷ alternativesTokens x.5 (v.next ∷ v.rest);
-        finds = ap (scan 14 0) choice-reads ∙ past-expression arrow 0 x.1 x.2 _;
+        rest = tk BEGIN x.4 ∷ alternatives_tokens x.5 (v.next ∷ v.rest);
+        finds = ap (scan 14 0) choice_reads ∙ past_expression arrow 0 x.1 x.2 _;
       }
 
-  module _ (q : ℕ) (found : drop q g.tokens ≡ choice-arrow.next ∷ choice-arrow.rest) where
-    begin-there : let x = choice-is v.action e in drop (q + 1) g.tokens ≡ tk BEGIN x.4 ∷ alternativesTokens x.5 (v.next ∷ v.rest)
-    unfolding choice-arrow
-    begin-there = (here g.tokens q _ _ found).behind
+  module _ (q : ℕ) (found : drop q g.tokens ≡ choice_arrow.next ∷ choice_arrow.rest) where
+    begin_there : let x = choice_is v.action e in drop (q + 1) g.tokens ≡ tk BEGIN x.4 ∷ alternatives_tokens x.5 (v.next ∷ v.rest)
+    unfolding choice_arrow
+    begin_there = (here g.tokens q _ _ found).behind
 
-    begin-is : let x = choice-is v.action e in q + 1 ≡ behindTest i x.1 x.2
-    unfolding choice-arrow
-    begin-is =
-        let x = choice-is v.action e in
-        omega (arith, found_at _ (expression-writes x.1 x.2) g.tokens (i + 1) q _ _ choice-reads found)
+    begin_is : let x = choice_is v.action e in q + 1 ≡ behind_test i x.1 x.2
+    unfolding choice_arrow
+    begin_is =
+        let x = choice_is v.action e in
+        omega (arith, found_at _ (expression_writes x.1 x.2) g.tokens (i + 1) q _ _ choice_reads found)
 
-    pub begin-fits : q + 1 < 8192
-    begin-fits = let h = here g.tokens (q + 1) _ _ begin-there in omega (arith, h.within, v.holds.few)
+    pub begin_fits : q + 1 < 8192
+    begin_fits = let h = here g.tokens (q + 1) _ _ begin_there in omega (arith, h.within, v.holds.few)
 
-    pub choice-turns : TurnsAt g records labels (q + 1) link count depth
-    choice-turns =
-        let x = choice-is v.action e in
-        let h = here g.tokens (q + 1) _ _ begin-there in
-        let n = turn-nest x.5 in
-        let nest = ap actionNest x.6 in
+    pub choice_turns : TurnsAt g records labels (q + 1) link count depth
+    choice_turns =
+        let x = choice_is v.action e in
+        let h = here g.tokens (q + 1) _ _ begin_there in
+        let n = turn_nest x.5 in
+        let nest = ap action_nest x.6 in
         record {
-          setting = moved (setting-of v) (q + 1) (kept-none records i i) (omega (arith, begin-is)) (omega (arith, begin-is)) (labels-none labels count);
+          setting = moved (setting_of v) (q + 1) (kept_none records i i) (omega (arith, begin_is)) (omega (arith, begin_is)) (labels_none labels count);
           turn = turn_of x.5;
           rest = v.next ∷ v.rest;
           below = h.within;
-          reads = h.behind ∙ turn-tokens x.5 (v.next ∷ v.rest);
-          action-shallow = omega (arith, v.shallow, n.0);
-          more-shallow = omega (arith, v.shallow, n.1);
+          reads = h.behind ∙ turn_tokens_lem x.5 (v.next ∷ v.rest);
+          action_shallow = omega (arith, v.shallow, n.0);
+          more_shallow = omega (arith, v.shallow, n.1);
         }
 
-    pub choice-done : {now after : List ℕ} → TurnsDone choice-turns now after → Done v now after
-    unfolding choice-turns
-    choice-done {now} d =
-        let x = choice-is v.action e in
-        let size_is = ap actionSize x.6 ∙ ap suc (size-before (expression-writes x.1 x.2) (tk Arrow x.3 ∷ tk BEGIN x.4 ∷ alternativesTokens x.5 [])) in
+    pub choice_done : {now after : List ℕ} → TurnsDone choice_turns now after → Done v now after
+    unfolding choice_turns
+    choice_done {now} d =
+        let x = choice_is v.action e in
+        let size_is = ap action_size x.6 ∙ ap suc (size_before (expression_writes x.1 x.2) (tk Arrow x.3 ∷ tk BEGIN x.4 ∷ alternatives_tokens x.5 [])) in
         record {
           linked =
               rw x.6
-              (turn-linked now g.outer g.table x.5 v.around (behindTest i x.1 x.2) v.behind
-              (subst (λ j. TurnLinked now g.outer g.table v.around j v.behind (turn_of x.5)) begin-is d.linked));
+              (turn_linked now g.outer g.table x.5 v.around (behind_test i x.1 x.2) v.behind
+              (subst (λ j. TurnLinked now g.outer g.table v.around j v.behind (turn_of x.5)) begin_is d.linked));
           kept =
-              kept-wide i (i + actionSize v.action) d.kept (omega (arith, begin-is))
-              (omega (arith, begin-is, size_is, ap length (turn-tokens x.5 [])));
+              kept_wide i (i + action_size v.action) d.kept (omega (arith, begin_is))
+              (omega (arith, begin_is, size_is, ap length (turn_tokens_lem x.5 [])));
           stack = d.stack;
         }
 

@@ -5,14 +5,14 @@ use Rattle.std.proofs.Common.{subst, inl, inr, arith}
 use Rattle.std.proofs.Math.Option.{Option, none, some}
 use Rattle.std.proofs.Math.ListN.{get_elem?}
 use Rattle.rules.specs.Grammar.Trees.{Tokens, Action, Declaration}
-use Rattle.rules.specs.Declarations.{Word, Declared, Table, declaredOf}
+use Rattle.rules.specs.Declarations.{Word, Declared, Table, declared_of}
 use Rattle.laws_orders.specs.Orders.Tests.{impossible}
 use Rattle.laws_orders.specs.Cited.Flat.{exit, outer, bind}
 use Rattle.laws_code.specs.Cited.Code.{Numbered, first_of}
-use Rattle.laws_code.specs.Links.Numbers.{Ascends, ascends_none, ascends_within, ascends_join, code-ascends}
-use Rattle.laws_code.specs.Cited.Bodies.{bodyCode, tableCode}
+use Rattle.laws_code.specs.Links.Numbers.{Ascends, ascends_none, ascends_within, ascends_join, code_ascends}
+use Rattle.laws_code.specs.Cited.Bodies.{body_code, table_code}
 use Rattle.links.specs.Laws.Layout.{BodyLaid}
-use Rattle.links.specs.Laws.Sound.{Each, each_left, each_right, each-join}
+use Rattle.links.specs.Laws.Sound.{Each, each_left, each_right, each_join}
 
 -- the numbers of a code
 abbrev pub In : ℕ → List Numbered → Type 0
@@ -29,36 +29,36 @@ each_at P (x ∷ xs) n h (inl e) = subst P e h.0
 each_at P (x ∷ xs) n h (inr z) = each_at P xs n h.1 z
 
 -- the bodies of a table
-pub table-each : (P : Numbered → Type 0) (ds : Table) (starts : ℕ → ℕ) (j : ℕ) (e : Declared) → get_elem? ds j ≡ some e → Each P (tableCode starts ds)
-    → Each P (bodyCode e.name.word (starts j) e.body)
-unfolding tableCode
-table-each P [] starts j e h p = impossible (cc)
-table-each P (x ∷ ds) starts zero e h p =
+pub table_each : (P : Numbered → Type 0) (ds : Table) (starts : ℕ → ℕ) (j : ℕ) (e : Declared) → get_elem? ds j ≡ some e → Each P (table_code starts ds)
+    → Each P (body_code e.name.word (starts j) e.body)
+unfolding table_code
+table_each P [] starts j e h p = impossible (cc)
+table_each P (x ∷ ds) starts zero e h p =
     let q : x ≡ e = cc in
-    subst (λ (y : Declared). Each P (bodyCode y.name.word (starts 0) y.body)) q
-    (each_left P (bodyCode x.name.word (starts 0) x.body) (tableCode (λ i. starts (suc i)) ds) p)
-table-each P (x ∷ ds) starts (suc j) e h p =
-    table-each P ds (λ i. starts (suc i)) j e h (each_right P (bodyCode x.name.word (starts 0) x.body) (tableCode (λ i. starts (suc i)) ds) p)
+    subst (λ (y : Declared). Each P (body_code y.name.word (starts 0) y.body)) q
+    (each_left P (body_code x.name.word (starts 0) x.body) (table_code (λ i. starts (suc i)) ds) p)
+table_each P (x ∷ ds) starts (suc j) e h p =
+    table_each P ds (λ i. starts (suc i)) j e h (each_right P (body_code x.name.word (starts 0) x.body) (table_code (λ i. starts (suc i)) ds) p)
 
-pub table-all : (P : Numbered → Type 0) (ds : Table) (starts : ℕ → ℕ)
-    → ((j : ℕ) (e : Declared) → get_elem? ds j ≡ some e → Each P (bodyCode e.name.word (starts j) e.body)) → Each P (tableCode starts ds)
-unfolding tableCode
-table-all P [] starts f = tt
-table-all P (x ∷ ds) starts f =
-    each-join P (bodyCode x.name.word (starts 0) x.body) (tableCode (λ i. starts (suc i)) ds) (f 0 x refl)
-    (table-all P ds (λ i. starts (suc i)) (λ j e h. f (suc j) e h))
+pub table_all : (P : Numbered → Type 0) (ds : Table) (starts : ℕ → ℕ)
+    → ((j : ℕ) (e : Declared) → get_elem? ds j ≡ some e → Each P (body_code e.name.word (starts j) e.body)) → Each P (table_code starts ds)
+unfolding table_code
+table_all P [] starts f = tt
+table_all P (x ∷ ds) starts f =
+    each_join P (body_code x.name.word (starts 0) x.body) (table_code (λ i. starts (suc i)) ds) (f 0 x refl)
+    (table_all P ds (λ i. starts (suc i)) (λ j e h. f (suc j) e h))
 
 -- their numbers go up, if each stands within its bounds
-pub table-ascends : (list : List Declaration) (starts bounds : ℕ → ℕ)
-    → ((k : ℕ) (x : Declaration) → get_elem? list k ≡ some x → Ascends (bounds k) (bounds (suc k)) (bodyCode (declaredOf x).name.word (starts k) (declaredOf x).body))
-    → Ascends (bounds 0) (bounds (length list)) (tableCode starts (map declaredOf list))
-unfolding tableCode
-table-ascends [] starts bounds f = ascends_none (bounds 0) (bounds 0) (omega arith)
-table-ascends (x ∷ list) starts bounds f =
-    ascends_join (f 0 x refl) (table-ascends list (λ i. starts (suc i)) (λ i. bounds (suc i)) (λ k y h. f (suc k) y h))
+pub table_ascends : (list : List Declaration) (starts bounds : ℕ → ℕ)
+    → ((k : ℕ) (x : Declaration) → get_elem? list k ≡ some x → Ascends (bounds k) (bounds (suc k)) (body_code (declared_of x).name.word (starts k) (declared_of x).body))
+    → Ascends (bounds 0) (bounds (length list)) (table_code starts (map declared_of list))
+unfolding table_code
+table_ascends [] starts bounds f = ascends_none (bounds 0) (bounds 0) (omega arith)
+table_ascends (x ∷ list) starts bounds f =
+    ascends_join (f 0 x refl) (table_ascends list (λ i. starts (suc i)) (λ i. bounds (suc i)) (λ k y h. f (suc k) y h))
 
-pub body-ascends : (own : Word) (name start from to : ℕ) (ts : Tokens) (o : Option Action) → from ≤ name → from ≤ to → BodyLaid ts name start to o
-    → Ascends from to (bodyCode own start o)
-body-ascends own name start from to ts none l n b = ascends_none from to n
-body-ascends own name start from to ts (some a) l n b =
-    ascends_within (code-ascends a (bind own (first_of start a) exit outer) start exit) (omega (arith, b.past)) b.inside
+pub body_ascends : (own : Word) (name start from to : ℕ) (ts : Tokens) (o : Option Action) → from ≤ name → from ≤ to → BodyLaid ts name start to o
+    → Ascends from to (body_code own start o)
+body_ascends own name start from to ts none l n b = ascends_none from to n
+body_ascends own name start from to ts (some a) l n b =
+    ascends_within (code_ascends a (bind own (first_of start a) exit outer) start exit) (omega (arith, b.past)) b.inside

@@ -3,19 +3,19 @@
 use Rattle.std.specs.Prelude.{ℕ, ◌<◌, ◌≤◌, ◌≡◌, true, List, ◌∷◌, drop}
 use Rattle.std.proofs.Common.{arith}
 use Rattle.rules.specs.Text.Tokens.{Token}
-use Rattle.rules.specs.Grammar.Trees.{Tokens, Action, actionTokens}
-use Rattle.laws_grammar.specs.Cited.Nesting.{actionNest}
+use Rattle.rules.specs.Grammar.Trees.{Tokens, Action, action_tokens}
+use Rattle.laws_grammar.specs.Cited.Nesting.{action_nest}
 use Rattle.laws_orders.specs.Cited.Flat.{Link}
 use Rattle.laws_code.specs.Cited.Code.{first_of}
-use Rattle.promise.specs.Instructions.{linkNo}
+use Rattle.promise.specs.Instructions.{link_no}
 use Rattle.table.specs.Scans.{no, separates}
 use Rattle.ways.specs.Seeking.{Ground}
 use Rattle.records.specs.Kept.{Kept}
 use Rattle.records.specs.Laws.Kept.{holds_kept}
 use Rattle.ways.specs.Stack.{LabelsKept}
-use Rattle.ways.specs.Laws.Stack.{labels-kept}
+use Rattle.ways.specs.Laws.Stack.{labels_kept}
 use Rattle.ways.specs.Standing.{ActionAt}
-use Rattle.ways.specs.Laws.Standing.{meant-kept, meant-later}
+use Rattle.ways.specs.Laws.Standing.{meant_kept, meant_later}
 use Rattle.links.specs.Setting.{Setting}
 
 -- further on, with some links and labels written
@@ -25,17 +25,17 @@ abbrev pub moved : {g : Ground} {records labels : List ℕ} {at link count : ℕ
 moved {g} {records} {labels} {at} {link} {count} s to k h l q = record {
   holds = holds_kept k s.holds;
   around = s.around;
-  held = labels-kept q g s.around count (omega arith) s.held;
+  held = labels_kept q g s.around count (omega arith) s.held;
   room = omega (arith, s.room, q.long);
   few = omega (arith, s.few);
   behind = s.behind;
-  link-is = s.link-is;
+  link_is = s.link_is;
   link_fits = s.link_fits;
-  means = meant-kept g to k h (meant-later g records at to l s.means);
+  means = meant_kept g to k h (meant_later g records at to l s.means);
 }
 
 -- with another link behind it
-abbrev pub leading : {g : Ground} {records labels : List ℕ} {at link count : ℕ} → Setting g records labels at link count → (k : Link) {to : ℕ} → to ≡ linkNo k
+abbrev pub leading : {g : Ground} {records labels : List ℕ} {at link count : ℕ} → Setting g records labels at link count → (k : Link) {to : ℕ} → to ≡ link_no k
     → to < 65536
     → Setting g records labels at to count
 leading s k e f = record {
@@ -45,7 +45,7 @@ leading s k e f = record {
   room = s.room;
   few = s.few;
   behind = k;
-  link-is = e;
+  link_is = e;
   link_fits = f;
   means = s.means;
 }
@@ -53,7 +53,7 @@ leading s k e f = record {
 -- an action that stands in it
 abbrev pub standing : {g : Ground} {records labels : List ℕ} {at link count : ℕ} → Setting g records labels at link count
     → {first depth : ℕ} (a : Action) (next : Token) (rest : Tokens)
-    → drop at g.tokens ≡ actionTokens a (next ∷ rest) → separates (no next) ≡ true → first ≡ first_of at a → actionNest a ≤ depth
+    → drop at g.tokens ≡ action_tokens a (next ∷ rest) → separates (no next) ≡ true → first ≡ first_of at a → action_nest a ≤ depth
     → ActionAt g records labels at link count first depth
 standing s a next rest reads ends begins shallow = record {
   holds = s.holds;
@@ -62,7 +62,7 @@ standing s a next rest reads ends begins shallow = record {
   room = s.room;
   few = s.few;
   behind = s.behind;
-  link-is = s.link-is;
+  link_is = s.link_is;
   link_fits = s.link_fits;
   action = a;
   next = next;
@@ -74,16 +74,16 @@ standing s a next rest reads ends begins shallow = record {
   shallow = shallow;
 }
 
-abbrev pub setting-of : {g : Ground} {records labels : List ℕ} {at link count first depth : ℕ} → ActionAt g records labels at link count first depth
+abbrev pub setting_of : {g : Ground} {records labels : List ℕ} {at link count first depth : ℕ} → ActionAt g records labels at link count first depth
     → Setting g records labels at link count
-setting-of v = record {
+setting_of v = record {
   holds = v.holds;
   around = v.around;
   held = v.held;
   room = v.room;
   few = v.few;
   behind = v.behind;
-  link-is = v.link-is;
+  link_is = v.link_is;
   link_fits = v.link_fits;
   means = v.means;
 }

@@ -1,7 +1,7 @@
 -- `marking::mark` meets its contract.
 use borrow.Author.Rules.{rules}
 use Rattle.reading.specs.Laws.Reading.{kinded}
-use Rattle.marking.specs.Laws.Whole.{all-marked}
+use Rattle.marking.specs.Laws.Whole.{all_marked}
 use Rattle.marking.proofs.mark.Statement.{statement}
 use Rattle.marking.proofs.mark.Tie as tie
 
@@ -12,4 +12,4 @@ mark_spec =
     (λ c. search rules)
     (λ c κs. search (rules, kinded))
     (λ c. search rules)
-    (λ c decls m v. all-marked _ (search rules) v))
+    (λ c decls m v. all_marked _ (search rules) v))

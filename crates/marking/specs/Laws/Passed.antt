@@ -2,12 +2,12 @@
 use Rattle.std.specs.Prelude.{ℕ, ◌-◌, ◌≡◌, Bool, List, length}
 use Rattle.std.proofs.Math.Path.{refl}
 use Rattle.std.proofs.Common.{ap, subst}
-use Rattle.rules.specs.Text.Tokens.{Kind, kindNo}
-use Rattle.rules.specs.Grammar.Trees.{Tokens, BitsEnd, bitsEndTokens, Bits, bitsTokens, Operand, operandTokens, Tail, tailTokens, Subscript, subscriptTokens, Joined, joinedTokens}
-use Rattle.rules.specs.Grammar.Trees.{Selector, selectorTokens, OwnBits, ownBitsTokens, MainBits, mainBitsTokens, Heading, no-heading, heading, headingTokens}
+use Rattle.rules.specs.Text.Tokens.{Kind, kind_no}
+use Rattle.rules.specs.Grammar.Trees.{Tokens, BitsEnd, bits_end_tokens, Bits, bits_tokens, Operand, operand_tokens, Tail, tail_tokens, Subscript, subscript_tokens, Joined, joined_tokens}
+use Rattle.rules.specs.Grammar.Trees.{Selector, selector_tokens, OwnBits, own_bits_tokens, MainBits, main_bits_tokens, Heading, no_heading, heading, heading_tokens}
 use Rattle.trees.specs.Written.{Written, nothing, token, level}
-use Rattle.trees.specs.Expressions.{Expressed, expression-equal, bits-end-written, bits-written, subscript-written, expression-written, joined-written, own-bits-written, main-bits-written}
-use Rattle.trees.specs.Selectors.{Chosen, choosing-equal, selector-written}
+use Rattle.trees.specs.Expressions.{Expressed, expression_equal, bits_end_written, bits_written, subscript_written, expression_written, joined_written, own_bits_written, main_bits_written}
+use Rattle.trees.specs.Selectors.{Chosen, choosing_equal, selector_written}
 use Rattle.reading.specs.Groups.{more}
 use Rattle.telling.specs.Cited.Cells.{Cells}
 use Rattle.marking.specs.Machine.{Frame, State, inside, acted, Follows}
@@ -18,7 +18,7 @@ module _ (K : Cells) (n : ℕ) (fs : List Frame) (x : ℕ) where
 
   -- what a kind does, and to do nothing
   abbrev does : Kind → ℕ → Bool → State
-  does k p b = acted p (kindNo k) b (inside fs x)
+  does k p b = acted p (kind_no k) b (inside fs x)
 
   abbrev stays : Kind → ℕ → Bool → State
   stays k p b = inside fs x
@@ -31,37 +31,37 @@ module _ (K : Cells) (n : ℕ) (fs : List Frame) (x : ℕ) where
 
   expressed : {l m : ℕ} {f : Tokens → Tokens} → Expressed level level level l f m → (ts : Tokens) → F (f ts) → F ts
   unfolding acted
-  expressed = passed (λ l m k. expression-equal does stays refl)
+  expressed = passed (λ l m k. expression_equal does stays refl)
 
   chosen : {l m : ℕ} {f : Tokens → Tokens} → Chosen level l f m → (ts : Tokens) → F (f ts) → F ts
   unfolding acted
-  chosen = passed (λ l m k. choosing-equal does stays refl refl)
+  chosen = passed (λ l m k. choosing_equal does stays refl refl)
 
-  pub bits-end-passed : (e : BitsEnd) (ts : Tokens) → F (bitsEndTokens e ts) → F ts
-  bits-end-passed e = expressed (bits-end-written e 0)
+  pub bits_end_passed : (e : BitsEnd) (ts : Tokens) → F (bits_end_tokens e ts) → F ts
+  bits_end_passed e = expressed (bits_end_written e 0)
 
-  pub bits-passed : (v : Bits) (ts : Tokens) → F (bitsTokens v ts) → F ts
-  bits-passed v = expressed (bits-written v 0)
+  pub bits_passed : (v : Bits) (ts : Tokens) → F (bits_tokens v ts) → F ts
+  bits_passed v = expressed (bits_written v 0)
 
-  pub subscript-passed : (s : Subscript) (ts : Tokens) → F (subscriptTokens s ts) → F ts
-  subscript-passed s = expressed (subscript-written s 0)
+  pub subscript_passed : (s : Subscript) (ts : Tokens) → F (subscript_tokens s ts) → F ts
+  subscript_passed s = expressed (subscript_written s 0)
 
-  pub expression-passed : (o : Operand) (t : Tail) (ts : Tokens) → F (operandTokens o (tailTokens t ts)) → F ts
-  expression-passed o t = expressed (expression-written o t 0)
+  pub expression_passed : (o : Operand) (t : Tail) (ts : Tokens) → F (operand_tokens o (tail_tokens t ts)) → F ts
+  expression_passed o t = expressed (expression_written o t 0)
 
-  pub joined-passed : (j : Joined) (ts : Tokens) → F (joinedTokens j ts) → F ts
-  joined-passed j = expressed (joined-written j 0)
+  pub joined_passed : (j : Joined) (ts : Tokens) → F (joined_tokens j ts) → F ts
+  joined_passed j = expressed (joined_written j 0)
 
-  pub selector-passed : (s : Selector) (ts : Tokens) → F (selectorTokens s ts) → F ts
-  selector-passed s = chosen (selector-written s 0)
+  pub selector_passed : (s : Selector) (ts : Tokens) → F (selector_tokens s ts) → F ts
+  selector_passed s = chosen (selector_written s 0)
 
-  pub own-bits-passed : (o : OwnBits) (ts : Tokens) → F (ownBitsTokens o ts) → F ts
-  own-bits-passed o = expressed (own-bits-written o 0)
+  pub own_bits_passed : (o : OwnBits) (ts : Tokens) → F (own_bits_tokens o ts) → F ts
+  own_bits_passed o = expressed (own_bits_written o 0)
 
-  pub main-bits-passed : (o : MainBits) (ts : Tokens) → F (mainBitsTokens o ts) → F ts
-  main-bits-passed o = expressed (main-bits-written o 0)
+  pub main_bits_passed : (o : MainBits) (ts : Tokens) → F (main_bits_tokens o ts) → F ts
+  main_bits_passed o = expressed (main_bits_written o 0)
 
-  pub heading-passed : (h : Heading) (ts : Tokens) → F (headingTokens h ts) → F ts
+  pub heading_passed : (h : Heading) (ts : Tokens) → F (heading_tokens h ts) → F ts
   unfolding acted
-  heading-passed no-heading ts p = p
-  heading-passed (heading l k r) ts p = p.1.1.1
+  heading_passed no_heading ts p = p
+  heading_passed (heading l k r) ts p = p.1.1.1

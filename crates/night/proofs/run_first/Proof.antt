@@ -6,8 +6,8 @@ use lib.ListN.{length-take}
 use Rattle.night.proofs.run_first.Statement.{statement}
 use Rattle.night.proofs.run_first.Tie as tie
 
-pub run-first-spec : {M : Type 1} → statement M
-run-first-spec =
+pub run_first_spec : {M : Type 1} → statement M
+run_first_spec =
     tie.close
     (tie.spec
     (λ c. search rules)

@@ -6,8 +6,8 @@ use lib.ListN.{length-take}
 use Rattle.night.proofs.say.Statement.{statement}
 use Rattle.night.proofs.say.Tie as tie
 
-pub say-spec : {M : Type 1} → statement M
-say-spec =
+pub say_spec : {M : Type 1} → statement M
+say_spec =
     tie.close
     (tie.spec
     (λ c. search rules)

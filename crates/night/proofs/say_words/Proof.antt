@@ -6,8 +6,8 @@ use lib.ListN.{length-take}
 use Rattle.night.proofs.say_words.Statement.{statement}
 use Rattle.night.proofs.say_words.Tie as tie
 
-pub say-words-spec : {M : Type 1} → statement M
-say-words-spec =
+pub say_words_spec : {M : Type 1} → statement M
+say_words_spec =
     tie.close
     (tie.spec
     (λ c κs. search rules)

@@ -4,108 +4,108 @@ use Rattle.std.specs.Prelude.{ℕ, ◌+◌, ◌-◌, ◌*◌, ◌<◌, ◌≤◌
 use Rattle.std.proofs.Common.{sym, ◌∙◌, arith}
 use Rattle.std.proofs.Math.Path.{ap, subst}
 use Rattle.std.proofs.Math.ListN.{length-set}
-use Rattle.rules.specs.Limits.{mostTokens}
-use Rattle.rules.specs.Grammar.Trees.{Tail, no_more, with-op, tailTokens}
-use Rattle.rules.specs.Grammar.Precedence.{tightness, Expr, leaf, node, factorOf, linksOf, exprOf}
+use Rattle.rules.specs.Limits.{most_tokens}
+use Rattle.rules.specs.Grammar.Trees.{Tail, no_more, with_op, tail_tokens}
+use Rattle.rules.specs.Grammar.Precedence.{tightness, Expr, leaf, node, factor_of, links_of, expr_of}
 use Rattle.rules.specs.Values.{value}
 use Rattle.rules.specs.Steps.Evaluation.{gives, evaluate}
-use Rattle.laws_grammar.specs.Cited.Nesting.{tailNest}
+use Rattle.laws_grammar.specs.Cited.Nesting.{tail_nest}
 use Rattle.laws_grammar.specs.Grammar.Shunting.{waiting, chain}
 use Rattle.laws_grammar.specs.Cited.Shunting.{looser, settled}
 use Rattle.laws_accepted.specs.Cited.Lengths.{Sized, SizedFactor}
-use Rattle.records.specs.Holds.{kindByte}
+use Rattle.records.specs.Holds.{kind_byte}
 use Rattle.operands.specs.declared.expressions.Evaluated.{Evaluated}
 use Rattle.operands.specs.declared.expressions.Evaluated.TheVariants.{Value as worked, Fault as faulted}
-use Rattle.table.specs.Operators.{tightnessAt}
-use Rattle.table.specs.Laws.Operators.{tightness-at, tightness-range}
+use Rattle.table.specs.Operators.{tightness_at}
+use Rattle.table.specs.Laws.Operators.{tightness_at_lem, tightness_range}
 use Rattle.operands.specs.Scene.{words_of, OperandAt, OperandAnswer}
 use Rattle.operands.specs.Laws.Scene.{OperandTold}
-use Rattle.operands.specs.Laws.Waits.{Under, under-few, looser-all, under-looser, settled-all}
-use Rattle.operands.specs.Trees.{Waits, treeLeft, treeSettled}
-use Rattle.operands.specs.Laws.Trees.{tree_of, tree_is, sized-parts, tree-faults}
+use Rattle.operands.specs.Laws.Waits.{Under, under_few, looser_all, under_looser, settled_all}
+use Rattle.operands.specs.Trees.{Waits, tree_left, tree_settled}
+use Rattle.operands.specs.Laws.Trees.{tree_of, tree_is, sized_parts, tree_faults}
 use Rattle.operands.specs.Settling.{Wait, SettleAt, Settles, Waited}
-use Rattle.operands.specs.Laws.Settling.{waits-given, wait-push}
+use Rattle.operands.specs.Laws.Settling.{waits_given, wait_push}
 use Rattle.operands.specs.Chains.{TailAt}
-use Rattle.operands.specs.Laws.Chains.{tail-room, tail-small, tailTight, tail-tight, tail-over, Operator, tail-operator, OperandIn, operand_at, tail_at}
+use Rattle.operands.specs.Laws.Chains.{tail_room, tail_small, tail_tight, tail_tight_lem, tail_over, Operator, tail_operator, OperandIn, operand_at, tail_at}
 use Rattle.operands.specs.Laws.Expressions.{looked}
 use Rattle.operands.specs.Expressions.{ChainAt, ChainAnswer}
 
 module _ {records values carriers : List ℕ} {k a m b n p depth : ℕ} (v : ChainAt records values carriers k a m b n p depth) where
   abbrev pub whole : Expr
-  whole = exprOf v.first (with-op v.op v.info v.right v.behind.tail)
+  whole = expr_of v.first (with_op v.op v.info v.right v.behind.tail)
 
   pub record Going (ops numbers lengths : List ℕ) (count x l q : ℕ) : Type 0 where
     pub waits : Waits
     pub tree : Expr
     pub tail : Tail
     pub counts : count ≡ length waits
-    pub ops-room : length ops ≡ 5
-    pub numbers-room : length numbers ≡ 5
-    pub lengths-room : length lengths ≡ 5
+    pub ops_room : length ops ≡ 5
+    pub numbers_room : length numbers ≡ 5
+    pub lengths_room : length lengths ≡ 5
     pub waiting : Wait v.scene.table (words_of v.scene) ops numbers lengths waits
     pub under : Under 6 waits
     pub comes : evaluate v.scene.table (words_of v.scene) tree ≡ gives (value l x)
     pub past : v.start < q
-    pub reads : drop q v.scene.tokens ≡ tailTokens tail (v.behind.next ∷ v.behind.rest)
-    pub shallow : tailNest tail ≤ depth
-    pub builds : tree_of waits tree (linksOf tail) ≡ whole
+    pub reads : drop q v.scene.tokens ≡ tail_tokens tail (v.behind.next ∷ v.behind.rest)
+    pub shallow : tail_nest tail ≤ depth
+    pub builds : tree_of waits tree (links_of tail) ≡ whole
 
   -- at first one operator waits
   pub going : {count : ℕ} → count ≡ 1 → Going (k ∷ 0 ∷ 0 ∷ 0 ∷ 0 ∷ []) (a ∷ 0 ∷ 0 ∷ 0 ∷ 0 ∷ []) (m ∷ 0 ∷ 0 ∷ 0 ∷ 0 ∷ []) count b n p
-  unfolding evaluate linksOf chain looser settled
+  unfolding evaluate links_of chain looser settled
   going one = record {
-    waits = waiting v.op v.info (leaf (factorOf v.first)) ∷ [];
-    tree = leaf (factorOf v.right);
+    waits = waiting v.op v.info (leaf (factor_of v.first)) ∷ [];
+    tree = leaf (factor_of v.right);
     tail = v.behind.tail;
     counts = one;
-    ops-room = refl;
-    numbers-room = refl;
-    lengths-room = refl;
+    ops_room = refl;
+    numbers_room = refl;
+    lengths_room = refl;
     waiting = (record { kind = v.kind; left = v.left }, tt);
-    under = (omega (arith, (tightness-range v.op).1), tt);
+    under = (omega (arith, (tightness_range v.op).1), tt);
     comes = v.known;
     past = v.before;
     reads = v.behind.reads;
     shallow = v.shallow;
-    builds = tree_is v.first (with-op v.op v.info v.right v.behind.tail);
+    builds = tree_is v.first (with_op v.op v.info v.right v.behind.tail);
   }
 
 -- a turn, with the invariant as the loop has it
 module _ {records values carriers : List ℕ} {k a m b n p depth : ℕ} {ops numbers lengths : List ℕ} {count x l q : ℕ}
-    (told-going : (v : ChainAt records values carriers k a m b n p depth) → Going v ops numbers lengths count x l q)
+    (told_going : (v : ChainAt records values carriers k a m b n p depth) → Going v ops numbers lengths count x l q)
     (v : ChainAt records values carriers k a m b n p depth) where
   g : Going v ops numbers lengths count x l q
-  g = told-going v
+  g = told_going v
 
-  abbrev tail-here : TailAt v.scene q
-  tail-here = record { tail = g.tail; next = v.behind.next; rest = v.behind.rest; reads = g.reads; ends = v.behind.ends }
+  abbrev tail_here : TailAt v.scene q
+  tail_here = record { tail = g.tail; next = v.behind.next; rest = v.behind.rest; reads = g.reads; ends = v.behind.ends }
 
-  pub going-room : 8 * q + 8 ≤ length records
-  going-room = tail-room tail-here
+  pub going_room : 8 * q + 8 ≤ length records
+  going_room = tail_room tail_here
 
-  pub going-small : q < mostTokens
-  going-small = tail-small tail-here
+  pub going_small : q < most_tokens
+  going_small = tail_small tail_here
 
   -- how tightly the token q binds
-  module _ {c tight : ℕ} (is : c ≡ kindByte records q) (told : tight ≡ tightnessAt c) where
-    binds : tight ≡ tightnessAt (kindByte records q)
+  module _ {c tight : ℕ} (is : c ≡ kind_byte records q) (told : tight ≡ tightness_at c) where
+    binds : tight ≡ tightness_at (kind_byte records q)
     binds = looked is told
 
     -- whatever is to be settled is a part of the (whole v)
-    settled-sized : Sized v.scene.outer v.scene.table (treeSettled tight g.waits g.tree)
-    unfolding linksOf chain
-    settled-sized = go g.tail (binds ∙ tail-tight tail-here) (subst (Sized v.scene.outer v.scene.table) (sym g.builds) v.sized)
+    settled_sized : Sized v.scene.outer v.scene.table (tree_settled tight g.waits g.tree)
+    unfolding links_of chain
+    settled_sized = go g.tail (binds ∙ tail_tight_lem tail_here) (subst (Sized v.scene.outer v.scene.table) (sym g.builds) v.sized)
       where
-        go : (t : Tail) → tight ≡ tailTight t → Sized v.scene.outer v.scene.table (tree_of g.waits g.tree (linksOf t))
-            → Sized v.scene.outer v.scene.table (treeSettled tight g.waits g.tree)
-        go no_more e q = subst (Sized v.scene.outer v.scene.table) (sym (ap (λ n. treeSettled n g.waits g.tree) e ∙ settled-all node leaf g.waits g.tree)) q
-        go (with-op op i o t) e q =
-            subst (λ n. Sized v.scene.outer v.scene.table (treeSettled n g.waits g.tree)) (sym e)
-            (sized-parts v.scene.outer v.scene.table (linksOf t)
-            (waiting op i (treeSettled (tightness op) g.waits g.tree) ∷ treeLeft (tightness op) g.waits g.tree) (leaf (factorOf o)) q).0.0
+        go : (t : Tail) → tight ≡ tail_tight t → Sized v.scene.outer v.scene.table (tree_of g.waits g.tree (links_of t))
+            → Sized v.scene.outer v.scene.table (tree_settled tight g.waits g.tree)
+        go no_more e q = subst (Sized v.scene.outer v.scene.table) (sym (ap (λ n. tree_settled n g.waits g.tree) e ∙ settled_all node leaf g.waits g.tree)) q
+        go (with_op op i o t) e q =
+            subst (λ n. Sized v.scene.outer v.scene.table (tree_settled n g.waits g.tree)) (sym e)
+            (sized_parts v.scene.outer v.scene.table (links_of t)
+            (waiting op i (tree_settled (tightness op) g.waits g.tree) ∷ tree_left (tightness op) g.waits g.tree) (leaf (factor_of o)) q).0.0
 
-    pub settle-at : SettleAt ops numbers lengths count x l tight
-    settle-at = record {
+    pub settle_at : SettleAt ops numbers lengths count x l tight
+    settle_at = record {
       outer = v.scene.outer;
       table = v.scene.table;
       declares = v.scene.declares;
@@ -113,122 +113,122 @@ module _ {records values carriers : List ℕ} {k a m b n p depth : ℕ} {ops num
       waits = g.waits;
       tree = g.tree;
       counts = g.counts;
-      few = omega (arith, g.counts, under-few 6 g.waits (omega arith) g.under);
+      few = omega (arith, g.counts, under_few 6 g.waits (omega arith) g.under);
       waiting = g.waiting;
       comes = g.comes;
-      sized = settled-sized;
+      sized = settled_sized;
     }
 
     -- what is told of settling them
     abbrev SettlesTold : ℕ → ℕ → ℕ → Type 0
     SettlesTold count' x' l' = (a : SettleAt ops numbers lengths count x l tight) → Settles a count' x' l'
 
-    pub going-ends : tight ≡ 0 → {count' x' l' : ℕ} → SettlesTold count' x' l' → ChainAnswer v (worked x' l' q)
-    unfolding linksOf chain settle-at
-    going-ends z f =
-        let r = f settle-at in
-        let e = tail-over tail-here (sym binds ∙ z) in
-        let all : treeSettled tight g.waits g.tree ≡ (whole v)
-        = ap (λ n. treeSettled n g.waits g.tree) z
-        ∙ settled-all node leaf g.waits g.tree
-        ∙ ap (λ t. tree_of g.waits g.tree (linksOf t)) (sym e)
+    pub going_ends : tight ≡ 0 → {count' x' l' : ℕ} → SettlesTold count' x' l' → ChainAnswer v (worked x' l' q)
+    unfolding links_of chain settle_at
+    going_ends z f =
+        let r = f settle_at in
+        let e = tail_over tail_here (sym binds ∙ z) in
+        let all : tree_settled tight g.waits g.tree ≡ (whole v)
+        = ap (λ n. tree_settled n g.waits g.tree) z
+        ∙ settled_all node leaf g.waits g.tree
+        ∙ ap (λ t. tree_of g.waits g.tree (links_of t)) (sym e)
         ∙ g.builds in
         record {
           comes = ap (evaluate v.scene.table (words_of v.scene)) (sym all) ∙ r.comes;
           past = g.past;
-          behind = g.reads ∙ ap (λ t. tailTokens t (v.behind.next ∷ v.behind.rest)) e;
+          behind = g.reads ∙ ap (λ t. tail_tokens t (v.behind.next ∷ v.behind.rest)) e;
         }
 
     -- an operator follows
     module _ (nz : tight ≡ 0 → ⊥) where
-      o : Operator tail-here
-      o = tail-operator tail-here (λ z. nz (binds ∙ z))
+      o : Operator tail_here
+      o = tail_operator tail_here (λ z. nz (binds ∙ z))
 
-      tight-is : tight ≡ tightness o.op
-      tight-is = binds ∙ ap tightnessAt o.kind ∙ tightness-at o.op
+      tight_is : tight ≡ tightness o.op
+      tight_is = binds ∙ ap tightness_at o.kind ∙ tightness_at_lem o.op
 
-      abbrev waits-next : Waits
-      waits-next = waiting o.op o.info (treeSettled tight g.waits g.tree) ∷ treeLeft tight g.waits g.tree
+      abbrev waits_next : Waits
+      waits_next = waiting o.op o.info (tree_settled tight g.waits g.tree) ∷ tree_left tight g.waits g.tree
 
-      next-builds : tree_of waits-next (leaf (factorOf o.right)) (linksOf o.more) ≡ (whole v)
-      unfolding linksOf chain
-      next-builds =
-          ap (λ n. tree_of (waiting o.op o.info (treeSettled n g.waits g.tree) ∷ treeLeft n g.waits g.tree) (leaf (factorOf o.right)) (linksOf o.more)) tight-is
-          ∙ ap (λ t. tree_of g.waits g.tree (linksOf t)) (sym o.are)
+      next_builds : tree_of waits_next (leaf (factor_of o.right)) (links_of o.more) ≡ (whole v)
+      unfolding links_of chain
+      next_builds =
+          ap (λ n. tree_of (waiting o.op o.info (tree_settled n g.waits g.tree) ∷ tree_left n g.waits g.tree) (leaf (factor_of o.right)) (links_of o.more)) tight_is
+          ∙ ap (λ t. tree_of g.waits g.tree (links_of t)) (sym o.are)
           ∙ g.builds
 
-      next-sized : SizedFactor v.scene.outer v.scene.table (factorOf o.right)
-      next-sized =
-          (sized-parts v.scene.outer v.scene.table (linksOf o.more) waits-next (leaf (factorOf o.right))
-          (subst (Sized v.scene.outer v.scene.table) (sym next-builds) v.sized)).1
+      next_sized : SizedFactor v.scene.outer v.scene.table (factor_of o.right)
+      next_sized =
+          (sized_parts v.scene.outer v.scene.table (links_of o.more) waits_next (leaf (factor_of o.right))
+          (subst (Sized v.scene.outer v.scene.table) (sym next_builds) v.sized)).1
 
-      left-waits : Wait v.scene.table (words_of v.scene) ops numbers lengths (treeLeft tight g.waits g.tree)
-      left-waits =
-          looser-all node leaf tight (Wait v.scene.table (words_of v.scene) ops numbers lengths) (λ w ws h. h.1) g.waits g.tree g.waiting
+      left_waits : Wait v.scene.table (words_of v.scene) ops numbers lengths (tree_left tight g.waits g.tree)
+      left_waits =
+          looser_all node leaf tight (Wait v.scene.table (words_of v.scene) ops numbers lengths) (λ w ws h. h.1) g.waits g.tree g.waiting
 
-      left-under : Under (tightness o.op) (treeLeft tight g.waits g.tree)
-      left-under = subst (λ n. Under n (treeLeft tight g.waits g.tree)) tight-is (under-looser node leaf tight 6 g.waits g.tree g.under)
+      left_under : Under (tightness o.op) (tree_left tight g.waits g.tree)
+      left_under = subst (λ n. Under n (tree_left tight g.waits g.tree)) tight_is (under_looser node leaf tight 6 g.waits g.tree g.under)
 
-      next-in : OperandIn v.scene (q + 1) depth
-      next-in = record {
+      next_in : OperandIn v.scene (q + 1) depth
+      next_in = record {
         operand = o.right;
         tail = o.more;
         next = v.behind.next;
         rest = v.behind.rest;
         reads = o.behind;
         ends = v.behind.ends;
-        shallow = omega (arith, g.shallow, ap tailNest o.are);
-        sized = next-sized;
+        shallow = omega (arith, g.shallow, ap tail_nest o.are);
+        sized = next_sized;
       }
 
-      pub next-operand : OperandAt records values carriers (q + 1) depth
-      next-operand = operand_at next-in
+      pub next_operand : OperandAt records values carriers (q + 1) depth
+      next_operand = operand_at next_in
 
       -- it comes to a value
       module _ {r : Evaluated} {y z q' : ℕ} (h : OperandTold records values carriers (q + 1) depth r) (e : r ≡ worked y z q') where
-        next_known : OperandAnswer (operand_at next-in) (worked y z q')
-        next_known = subst (OperandAnswer (operand_at next-in)) e (h (operand_at next-in))
+        next_known : OperandAnswer (operand_at next_in) (worked y z q')
+        next_known = subst (OperandAnswer (operand_at next_in)) e (h (operand_at next_in))
 
-        pub going-falls : length records - q' < length records - q
-        going-falls = omega (arith, next_known.past, going-room)
+        pub going_falls : length records - q' < length records - q
+        going_falls = omega (arith, next_known.past, going_room)
 
       module _ {count' x' l' : ℕ} (f : SettlesTold count' x' l') where
-        it-settles : Settles settle-at count' x' l'
-        it-settles = f settle-at
+        it_settles : Settles settle_at count' x' l'
+        it_settles = f settle_at
 
         pub slot : count' < 5
-        unfolding settle-at
+        unfolding settle_at
         slot =
-            omega (arith, it-settles.left, under-few (tightness o.op) (treeLeft tight g.waits g.tree) (tightness-range o.op).0 left-under, (tightness-range o.op).1)
+            omega (arith, it_settles.left, under_few (tightness o.op) (tree_left tight g.waits g.tree) (tightness_range o.op).0 left_under, (tightness_range o.op).1)
 
-        pub going-faults : {a : Evaluated} {y : ℕ} → OperandTold records values carriers (q + 1) depth a → a ≡ faulted y → ChainAnswer v (faulted y)
-        unfolding evaluate settle-at next-in
-        going-faults {a} {y} h e =
-            ap (evaluate v.scene.table (words_of v.scene)) (sym next-builds)
-            ∙ tree-faults v.scene.table (words_of v.scene) 70 y (linksOf o.more) waits-next (leaf (factorOf o.right))
-            ((value l' x', it-settles.comes), waits-given v.scene.table (words_of v.scene) ops numbers lengths (treeLeft tight g.waits g.tree) left-waits)
-            (subst (OperandAnswer (operand_at next-in)) e (h (operand_at next-in)))
+        pub going_faults : {a : Evaluated} {y : ℕ} → OperandTold records values carriers (q + 1) depth a → a ≡ faulted y → ChainAnswer v (faulted y)
+        unfolding evaluate settle_at next_in
+        going_faults {a} {y} h e =
+            ap (evaluate v.scene.table (words_of v.scene)) (sym next_builds)
+            ∙ tree_faults v.scene.table (words_of v.scene) 70 y (links_of o.more) waits_next (leaf (factor_of o.right))
+            ((value l' x', it_settles.comes), waits_given v.scene.table (words_of v.scene) ops numbers lengths (tree_left tight g.waits g.tree) left_waits)
+            (subst (OperandAnswer (operand_at next_in)) e (h (operand_at next_in)))
 
-        pub going-turn : {ops' numbers' lengths' : List ℕ} → Waited ops numbers lengths count' x' l' c ops' numbers' lengths' → {a : Evaluated} {y z q' : ℕ}
+        pub going_turn : {ops' numbers' lengths' : List ℕ} → Waited ops numbers lengths count' x' l' c ops' numbers' lengths' → {a : Evaluated} {y z q' : ℕ}
             → OperandTold records values carriers (q + 1) depth a → a ≡ worked y z q'
             → Going v ops' numbers' lengths' (count' + 1) y z q'
-        unfolding evaluate settle-at next-in tail_at
-        going-turn w {a} {y} {z} {q'} h e = rw (w.op, w.number, w.bits) (record {
-          waits = waits-next;
-          tree = leaf (factorOf o.right);
+        unfolding evaluate settle_at next_in tail_at
+        going_turn w {a} {y} {z} {q'} h e = rw (w.op, w.number, w.bits) (record {
+          waits = waits_next;
+          tree = leaf (factor_of o.right);
           tail = o.more;
-          counts = omega (arith, it-settles.left);
-          ops-room = length-set ops count' c ∙ g.ops-room;
-          numbers-room = length-set numbers count' x' ∙ g.numbers-room;
-          lengths-room = length-set lengths count' l' ∙ g.lengths-room;
+          counts = omega (arith, it_settles.left);
+          ops_room = length-set ops count' c ∙ g.ops_room;
+          numbers_room = length-set numbers count' x' ∙ g.numbers_room;
+          lengths_room = length-set lengths count' l' ∙ g.lengths_room;
           waiting =
-              wait-push v.scene.table (words_of v.scene) ops numbers lengths count' c x' l' _ (treeLeft tight g.waits g.tree) it-settles.left
-              (omega (arith, slot, g.ops-room)) (omega (arith, slot, g.numbers-room)) (omega (arith, slot, g.lengths-room))
-              (record { kind = is ∙ o.kind; left = it-settles.comes }) left-waits;
-          under = (omega (arith, (tightness-range o.op).1), left-under);
+              wait_push v.scene.table (words_of v.scene) ops numbers lengths count' c x' l' _ (tree_left tight g.waits g.tree) it_settles.left
+              (omega (arith, slot, g.ops_room)) (omega (arith, slot, g.numbers_room)) (omega (arith, slot, g.lengths_room))
+              (record { kind = is ∙ o.kind; left = it_settles.comes }) left_waits;
+          under = (omega (arith, (tightness_range o.op).1), left_under);
           comes = (next_known h e).comes;
           past = omega (arith, g.past, (next_known h e).past);
-          reads = (tail_at next-in (next_known h e)).reads;
-          shallow = omega (arith, g.shallow, ap tailNest o.are);
-          builds = next-builds;
+          reads = (tail_at next_in (next_known h e)).reads;
+          shallow = omega (arith, g.shallow, ap tail_nest o.are);
+          builds = next_builds;
         })

@@ -4,68 +4,68 @@ use Rattle.std.specs.Prelude.{ℕ, suc, ◌+◌, ◌-◌, ◌*◌, ◌<◌, ◌�
 use Rattle.std.proofs.Math.Path.{sym, ap, subst}
 use Rattle.std.proofs.Common.{◌∙◌, arith, eq-eqb, ne_eqb}
 use Rattle.std.proofs.Math.ListN.{length}
-use Rattle.rules.specs.Text.Tokens.{Name, Const, LPar, RPar, NOT, kindNo, Info, Token, tk}
-use Rattle.rules.specs.Limits.{mostTokens}
-use Rattle.rules.specs.Grammar.Trees.{Bits, Operand, constant, access, parens, negated, operandTokens, Tail, Subscript}
-use Rattle.rules.specs.Grammar.Precedence.{factorOf, exprOf}
+use Rattle.rules.specs.Text.Tokens.{Name, Const, LPar, RPar, NOT, kind_no, Info, Token, tk}
+use Rattle.rules.specs.Limits.{most_tokens}
+use Rattle.rules.specs.Grammar.Trees.{Bits, Operand, constant, access, parens, negated, operand_tokens, Tail, Subscript}
+use Rattle.rules.specs.Grammar.Precedence.{factor_of, expr_of}
 use Rattle.rules.specs.Values.{truth}
-use Rattle.rules.specs.Declarations.{totalWords}
+use Rattle.rules.specs.Declarations.{total_words}
 use Rattle.rules.specs.Steps.Actions as actions
-use Rattle.rules.specs.Steps.Evaluation.{gives, Field, evaluateFactor, evaluateAccess}
-use Rattle.laws_grammar.specs.Cited.Nesting.{operandNest, tailNest}
+use Rattle.rules.specs.Steps.Evaluation.{gives, Field, evaluate_factor, evaluate_access}
+use Rattle.laws_grammar.specs.Cited.Nesting.{operand_nest, tail_nest}
 use Rattle.laws_accepted.specs.Cited.Lengths.{SizedFactor}
-use Rattle.records.specs.Holds.{kindByte, sizeByte, valueCell}
-use Rattle.table.specs.Laws.Positions.{Here, here, kind-here, record-within, value-within}
+use Rattle.records.specs.Holds.{kind_byte, size_byte, value_cell_of}
+use Rattle.table.specs.Laws.Positions.{Here, here, kind_here, record_within, value_within}
 use Rattle.operands.specs.declared.accesses.Located.{Located}
 use Rattle.operands.specs.declared.accesses.Located.TheVariants.{Field as located, Fault as outside}
 use Rattle.operands.specs.declared.expressions.Evaluated.{Evaluated}
 use Rattle.operands.specs.declared.expressions.Evaluated.TheVariants.{Value as worked, Fault as faulted}
-use Rattle.operands.specs.Answers.{Readable, readAt, Closable, closed, Invertible, inverted}
+use Rattle.operands.specs.Answers.{Readable, read_at, Closable, closed, Invertible, inverted}
 use Rattle.operands.specs.Scene.{words_of, ExpressionAt, ExpressionAnswer, OperandAt, OperandAnswer, AccessAt, AccessAnswer}
 use Rattle.operands.specs.Laws.Scene.{ExpressionTold, OperandTold, AccessTold}
 use Rattle.nots.specs.Nots.{bare, nots, OperandIn, Bared}
-use Rattle.nots.specs.Laws.Nots.{bare-nest, bare-first, firstKind, firstInfo, behindFirst, operand-first, a-constant, an-access, a-group}
-use Rattle.operands.specs.Laws.Nots.{bare-sized, nots-given, nots-faulty}
+use Rattle.nots.specs.Laws.Nots.{bare_nest, bare_first, first_kind_of, first_info, behind_first, operand_first, a_constant, an_access, a_group}
+use Rattle.operands.specs.Laws.Nots.{bare_sized, nots_given, nots_faulty}
 use Rattle.operands.specs.Worths.{Within}
-use Rattle.operands.specs.Laws.Worths.{factor-bits, access-within, read-comes, read-faults, read_word}
+use Rattle.operands.specs.Laws.Worths.{factor_bits, access_within, read_comes, read_faults, read_word}
 use Rattle.operands.specs.Operands.{NestedAt}
 
 -- 1 for a NOT, else 0: what is left of an operand falls where NOTs are passed
-abbrev pub notFirst : List ℕ → ℕ → ℕ
-notFirst records i = truth (eqb (kindByte records i) (kindNo NOT))
+abbrev pub not_first : List ℕ → ℕ → ℕ
+not_first records i = truth (eqb (kind_byte records i) (kind_no NOT))
 
-pub not-first-small : (records : List ℕ) (i : ℕ) → notFirst records i ≤ 1
-not-first-small records i = by (eqb (kindByte records i) (kindNo NOT))
+pub not_first_small : (records : List ℕ) (i : ℕ) → not_first records i ≤ 1
+not_first_small records i = by (eqb (kind_byte records i) (kind_no NOT))
   where
     by : (t : Bool) → truth t ≤ 1
     by true = omega arith
     by false = omega arith
 
 module _ {records values carriers : List ℕ} {i depth : ℕ} (v : OperandAt records values carriers i depth) where
-  first-here : Here v.scene.tokens i (tk (firstKind v.operand) (firstInfo v.operand)) (behindFirst v.operand (v.next ∷ v.rest))
-  first-here = here v.scene.tokens i _ _ (v.reads ∙ operand-first v.operand (v.next ∷ v.rest))
+  first_here : Here v.scene.tokens i (tk (first_kind_of v.operand) (first_info v.operand)) (behind_first v.operand (v.next ∷ v.rest))
+  first_here = here v.scene.tokens i _ _ (v.reads ∙ operand_first v.operand (v.next ∷ v.rest))
 
-  pub operand-room : 8 * i + 8 ≤ length records
-  operand-room = record-within v.scene.holds i first-here.within
+  pub operand_room : 8 * i + 8 ≤ length records
+  operand_room = record_within v.scene.holds i first_here.within
 
-  pub operand_small : i < mostTokens
-  operand_small = omega (arith, first-here.within, v.scene.holds.few)
+  pub operand_small : i < most_tokens
+  operand_small = omega (arith, first_here.within, v.scene.holds.few)
 
-  first_kind : kindByte records i ≡ kindNo (firstKind v.operand)
-  first_kind = kind-here v.scene.holds i _ first-here.within first-here.token
+  first_kind : kind_byte records i ≡ kind_no (first_kind_of v.operand)
+  first_kind = kind_here v.scene.holds i _ first_here.within first_here.token
 
   -- an access
   record Named : Type 0 where
     view : AccessAt records values carriers i depth
     readable : (r : Located) → AccessTold records values carriers i depth r → Readable carriers r
-    answer : (r : Located) {q : Evaluated} → AccessTold records values carriers i depth r → q ≡ readAt carriers r → OperandAnswer v q
+    answer : (r : Located) {q : Evaluated} → AccessTold records values carriers i depth r → q ≡ read_at carriers r → OperandAnswer v q
 
-  named : {k : ℕ} → k ≡ kindByte records i → k ≡ kindNo Name → Named
-  unfolding factorOf actions.access
+  named : {k : ℕ} → k ≡ kind_byte records i → k ≡ kind_no Name → Named
+  unfolding factor_of actions.access
   named e n = record { view = view; readable = λ r f. readable r (f view); answer = λ r f q. subst (OperandAnswer v) (sym q) (answer r (f view)) }
     where
       q : (n : Info) × (s : Subscript) × (b : Bits) × (v.operand ≡ access n s b)
-      q = an-access v.operand (sym first_kind ∙ sym e ∙ n)
+      q = an_access v.operand (sym first_kind ∙ sym e ∙ n)
 
       view : AccessAt records values carriers i depth
       view = record {
@@ -75,14 +75,14 @@ module _ {records values carriers : List ℕ} {i depth : ℕ} (v : OperandAt rec
         bits = q.2;
         next = v.next;
         rest = v.rest;
-        reads = v.reads ∙ ap (λ o. operandTokens o (v.next ∷ v.rest)) q.3;
+        reads = v.reads ∙ ap (λ o. operand_tokens o (v.next ∷ v.rest)) q.3;
         ends = v.ends;
-        shallow = omega (arith, ap operandNest q.3, v.shallow);
-        sized = subst (λ o. SizedFactor v.scene.outer v.scene.table (factorOf o)) q.3 v.sized;
+        shallow = omega (arith, ap operand_nest q.3, v.shallow);
+        sized = subst (λ o. SizedFactor v.scene.outer v.scene.table (factor_of o)) q.3 v.sized;
       }
 
-      within : (f : Field) → evaluateAccess v.scene.table (words_of v.scene) (actions.access q.0 q.1 q.2) ≡ gives f → Within v.scene.table f
-      within f = access-within v.scene.declares (words_of v.scene) (actions.access q.0 q.1 q.2) f view.sized
+      within : (f : Field) → evaluate_access v.scene.table (words_of v.scene) (actions.access q.0 q.1 q.2) ≡ gives f → Within v.scene.table f
+      within f = access_within v.scene.declares (words_of v.scene) (actions.access q.0 q.1 q.2) f view.sized
 
       readable : (r : Located) → AccessAnswer view r → Readable carriers r
       readable (located w l n p) a =
@@ -90,48 +90,48 @@ module _ {records values carriers : List ℕ} {i depth : ℕ} (v : OperandAt rec
           (omega (arith, g.word, v.scene.words), (omega (arith, g.some, g.fits), g.fits))
       readable (outside p) a = tt
 
-      whole : evaluateFactor v.scene.table (words_of v.scene) (factorOf v.operand) ≡ evaluateFactor v.scene.table (words_of v.scene) (factorOf (access q.0 q.1 q.2))
-      whole = ap (λ o. evaluateFactor v.scene.table (words_of v.scene) (factorOf o)) q.3
+      whole : evaluate_factor v.scene.table (words_of v.scene) (factor_of v.operand) ≡ evaluate_factor v.scene.table (words_of v.scene) (factor_of (access q.0 q.1 q.2))
+      whole = ap (λ o. evaluate_factor v.scene.table (words_of v.scene) (factor_of o)) q.3
 
-      answer : (r : Located) → AccessAnswer view r → OperandAnswer v (readAt carriers r)
+      answer : (r : Located) → AccessAnswer view r → OperandAnswer v (read_at carriers r)
       answer (located w l n p) a =
           let f : Field = record { word = w; low = l; size = n } in
           record {
             comes =
-                whole ∙ read-comes v.scene.table (words_of v.scene) q.0 q.1 q.2 f a.comes
-                ∙ ap gives (read_word (totalWords v.scene.table) carriers f (within f a.comes).word);
+                whole ∙ read_comes v.scene.table (words_of v.scene) q.0 q.1 q.2 f a.comes
+                ∙ ap gives (read_word (total_words v.scene.table) carriers f (within f a.comes).word);
             past = a.past;
             behind = a.behind;
           }
-      answer (outside p) a = whole ∙ read-faults v.scene.table (words_of v.scene) q.0 q.1 q.2 70 p a
+      answer (outside p) a = whole ∙ read_faults v.scene.table (words_of v.scene) q.0 q.1 q.2 70 p a
 
-  module _ {k : ℕ} (e : k ≡ kindByte records i) (n : k ≡ kindNo Name) where
-    pub name-view : AccessAt records values carriers i depth
-    name-view = (named e n).view
+  module _ {k : ℕ} (e : k ≡ kind_byte records i) (n : k ≡ kind_no Name) where
+    pub name_view : AccessAt records values carriers i depth
+    name_view = (named e n).view
 
-    pub name-readable : (r : Located) → AccessTold records values carriers i depth r → Readable carriers r
-    name-readable r f = (named e n).readable r f
+    pub name_readable : (r : Located) → AccessTold records values carriers i depth r → Readable carriers r
+    name_readable r f = (named e n).readable r f
 
-    pub name-answer : (r : Located) {q : Evaluated} → AccessTold records values carriers i depth r → q ≡ readAt carriers r → OperandAnswer v q
-    name-answer r f q = (named e n).answer r f q
+    pub name_answer : (r : Located) {q : Evaluated} → AccessTold records values carriers i depth r → q ≡ read_at carriers r → OperandAnswer v q
+    name_answer r f q = (named e n).answer r f q
 
   -- a constant
   pub value_room : 8 * i + 8 ≤ length values
-  value_room = value-within v.scene.holds i first-here.within
+  value_room = value_within v.scene.holds i first_here.within
 
-  pub constant-answer : {k : ℕ} → k ≡ kindByte records i → k ≡ kindNo Const → {x n : ℕ} → x ≡ valueCell values i → n ≡ sizeByte records i → OperandAnswer v (worked x n (i + 1))
-  unfolding factorOf evaluateFactor
-  constant-answer e c {x} {n} d m =
-      let q = a-constant v.operand (sym first_kind ∙ sym e ∙ c) in
-      let t = first-here.token ∙ ap (λ o. tk (firstKind o) (firstInfo o)) q.1 in
-      let h = v.scene.holds.entry i first-here.within in
+  pub constant_answer : {k : ℕ} → k ≡ kind_byte records i → k ≡ kind_no Const → {x n : ℕ} → x ≡ value_cell_of values i → n ≡ size_byte records i → OperandAnswer v (worked x n (i + 1))
+  unfolding factor_of evaluate_factor
+  constant_answer e c {x} {n} d m =
+      let q = a_constant v.operand (sym first_kind ∙ sym e ∙ c) in
+      let t = first_here.token ∙ ap (λ o. tk (first_kind_of o) (first_info o)) q.1 in
+      let h = v.scene.holds.entry i first_here.within in
       let w = h.constant (ap (λ (t : Token). t.kind) t) in
       let y : x ≡ q.0.value = d ∙ w.value ∙ ap (λ (t : Token). t.info.value) t in
       let z : n ≡ q.0.bits = omega (arith, m, h.size, ap length w.wordless, ap (λ (t : Token). t.info.bits) t) in
       record {
-        comes = ap (λ o. evaluateFactor v.scene.table (words_of v.scene) (factorOf o)) q.1 ∙ rw (y, z) refl;
+        comes = ap (λ o. evaluate_factor v.scene.table (words_of v.scene) (factor_of o)) q.1 ∙ rw (y, z) refl;
         past = omega arith;
-        behind = first-here.behind ∙ ap (λ o. behindFirst o (v.next ∷ v.rest)) q.1;
+        behind = first_here.behind ∙ ap (λ o. behind_first o (v.next ∷ v.rest)) q.1;
       }
 
   -- a parenthesis
@@ -141,8 +141,8 @@ module _ {records values carriers : List ℕ} {i depth : ℕ} (v : OperandAt rec
     closable : (r : Evaluated) → ExpressionTold records values carriers (i + 1) (depth - 1) r → Closable r
     answer : (r : Evaluated) {q : Evaluated} → ExpressionTold records values carriers (i + 1) (depth - 1) r → q ≡ closed r → OperandAnswer v q
 
-  group : {k : ℕ} → k ≡ kindByte records i → k ≡ kindNo LPar → Group
-  unfolding factorOf evaluateFactor exprOf
+  group : {k : ℕ} → k ≡ kind_byte records i → k ≡ kind_no LPar → Group
+  unfolding factor_of evaluate_factor expr_of
   group e c = record {
     deep = omega (arith, nest);
     view = view;
@@ -151,10 +151,10 @@ module _ {records values carriers : List ℕ} {i depth : ℕ} (v : OperandAt rec
   }
     where
       q : (l : Info) × (p : Operand) × (t : Tail) × (r : Info) × (v.operand ≡ parens l p t r)
-      q = a-group v.operand (sym first_kind ∙ sym e ∙ c)
+      q = a_group v.operand (sym first_kind ∙ sym e ∙ c)
 
-      nest : suc (max (operandNest q.1) (tailNest q.2)) ≤ depth
-      nest = omega (arith, ap operandNest q.4, v.shallow)
+      nest : suc (max (operand_nest q.1) (tail_nest q.2)) ≤ depth
+      nest = omega (arith, ap operand_nest q.4, v.shallow)
 
       view : ExpressionAt records values carriers (i + 1) (depth - 1)
       view = record {
@@ -163,15 +163,15 @@ module _ {records values carriers : List ℕ} {i depth : ℕ} (v : OperandAt rec
         tail = q.2;
         next = tk RPar q.3;
         rest = v.next ∷ v.rest;
-        reads = first-here.behind ∙ ap (λ o. behindFirst o (v.next ∷ v.rest)) q.4;
+        reads = first_here.behind ∙ ap (λ o. behind_first o (v.next ∷ v.rest)) q.4;
         ends = refl;
         shallow = omega (arith, nest);
-        sized = subst (λ o. SizedFactor v.scene.outer v.scene.table (factorOf o)) q.4 v.sized;
+        sized = subst (λ o. SizedFactor v.scene.outer v.scene.table (factor_of o)) q.4 v.sized;
       }
 
-      whole : evaluateFactor v.scene.table (words_of v.scene) (factorOf v.operand)
-          ≡ evaluateFactor v.scene.table (words_of v.scene) (factorOf (parens q.0 q.1 q.2 q.3))
-      whole = ap (λ o. evaluateFactor v.scene.table (words_of v.scene) (factorOf o)) q.4
+      whole : evaluate_factor v.scene.table (words_of v.scene) (factor_of v.operand)
+          ≡ evaluate_factor v.scene.table (words_of v.scene) (factor_of (parens q.0 q.1 q.2 q.3))
+      whole = ap (λ o. evaluate_factor v.scene.table (words_of v.scene) (factor_of o)) q.4
 
       closable : (r : Evaluated) → ExpressionAnswer view r → Closable r
       closable (worked x n p) a = omega (arith, (here v.scene.tokens p _ _ a.behind).within, v.scene.holds.few)
@@ -195,14 +195,14 @@ module _ {records values carriers : List ℕ} {i depth : ℕ} (v : OperandAt rec
 
   record Negated (p : ℕ) : Type 0 where
     before : i ≤ p
-    falls : notFirst records p < notFirst records i
+    falls : not_first records p < not_first records i
     view : OperandAt records values carriers p depth
     invertible : (r : Evaluated) → OperandTold records values carriers p depth r → Invertible r
     answer : (r : Evaluated) {q : Evaluated} → OperandTold records values carriers p depth r → q ≡ inverted (p - i) r → OperandAnswer v q
 
-  all-nots : (kindByte records i ≡ kindNo Name → ⊥) → (kindByte records i ≡ kindNo Const → ⊥) → {k : ℕ} → k ≡ kindByte records i → (k ≡ kindNo LPar → ⊥)
+  all_nots : (kind_byte records i ≡ kind_no Name → ⊥) → (kind_byte records i ≡ kind_no Const → ⊥) → {k : ℕ} → k ≡ kind_byte records i → (k ≡ kind_no LPar → ⊥)
       → {p : ℕ} → ((o : OperandIn records i) → Bared o p) → Negated p
-  all-nots n c e l {p} f = record {
+  all_nots n c e l {p} f = record {
     before = omega (arith, b.past);
     falls = falls;
     view = view;
@@ -213,19 +213,19 @@ module _ {records values carriers : List ℕ} {i depth : ℕ} (v : OperandAt rec
       b : Bared operand_in p
       b = f operand_in
 
-      is-not : (o : Operand) → kindByte records i ≡ kindNo (firstKind o) → kindByte records i ≡ kindNo NOT
-      is-not (constant j) e = absurd (c e)
-      is-not (access j s b) e = absurd (n e)
-      is-not (parens j o t r) z = absurd (l (e ∙ z))
-      is-not (negated j o) e = e
+      is_not : (o : Operand) → kind_byte records i ≡ kind_no (first_kind_of o) → kind_byte records i ≡ kind_no NOT
+      is_not (constant j) e = absurd (c e)
+      is_not (access j s b) e = absurd (n e)
+      is_not (parens j o t r) z = absurd (l (e ∙ z))
+      is_not (negated j o) e = e
 
-      bare-here : Here v.scene.tokens p (tk (firstKind (bare v.operand)) (firstInfo (bare v.operand))) (behindFirst (bare v.operand) (v.next ∷ v.rest))
-      bare-here = here v.scene.tokens p _ _ (b.reads ∙ operand-first (bare v.operand) (v.next ∷ v.rest))
+      bare_here : Here v.scene.tokens p (tk (first_kind_of (bare v.operand)) (first_info (bare v.operand))) (behind_first (bare v.operand) (v.next ∷ v.rest))
+      bare_here = here v.scene.tokens p _ _ (b.reads ∙ operand_first (bare v.operand) (v.next ∷ v.rest))
 
-      falls : notFirst records p < notFirst records i
+      falls : not_first records p < not_first records i
       falls =
-          let k = kind-here v.scene.holds p _ bare-here.within bare-here.token in
-          rw (eq-eqb (kindByte records i) (kindNo NOT) (is-not v.operand first_kind), ne_eqb (kindByte records p) (kindNo NOT) (λ e. bare-first v.operand (sym k ∙ e)))
+          let k = kind_here v.scene.holds p _ bare_here.within bare_here.token in
+          rw (eq-eqb (kind_byte records i) (kind_no NOT) (is_not v.operand first_kind), ne_eqb (kind_byte records p) (kind_no NOT) (λ e. bare_first v.operand (sym k ∙ e)))
           (omega arith)
 
       view : OperandAt records values carriers p depth
@@ -236,73 +236,73 @@ module _ {records values carriers : List ℕ} {i depth : ℕ} (v : OperandAt rec
         rest = v.rest;
         reads = b.reads;
         ends = v.ends;
-        shallow = omega (arith, bare-nest v.operand, v.shallow);
-        sized = bare-sized v.scene.outer v.scene.table v.operand v.sized;
+        shallow = omega (arith, bare_nest v.operand, v.shallow);
+        sized = bare_sized v.scene.outer v.scene.table v.operand v.sized;
       }
 
       invertible : (r : Evaluated) → OperandAnswer view r → Invertible r
       invertible (worked x n q) a =
-          let w = factor-bits v.scene.declares (words_of v.scene) (factorOf (bare v.operand)) n x view.sized a.comes in
+          let w = factor_bits v.scene.declares (words_of v.scene) (factor_of (bare v.operand)) n x view.sized a.comes in
           (w.length.short, w.fits)
       invertible (faulted q) a = tt
 
       answer : (r : Evaluated) → OperandAnswer view r → OperandAnswer v (inverted (p - i) r)
       answer (worked x n q) a =
-          let so-many : p - i ≡ nots v.operand = omega (arith, b.past) in
+          let so_many : p - i ≡ nots v.operand = omega (arith, b.past) in
           record {
-            comes = rw so-many (nots-given v.scene.table (words_of v.scene) v.operand n x (invertible (worked x n q) a).1 a.comes);
+            comes = rw so_many (nots_given v.scene.table (words_of v.scene) v.operand n x (invertible (worked x n q) a).1 a.comes);
             past = omega (arith, a.past, b.past);
             behind = a.behind;
           }
-      answer (faulted q) a = nots-faulty v.scene.table (words_of v.scene) v.operand 70 q a
+      answer (faulted q) a = nots_faulty v.scene.table (words_of v.scene) v.operand 70 q a
 
 module _ {records values carriers : List ℕ} {i depth : ℕ} (v : NestedAt records values carriers i depth) where
-  pub nested-room : 8 * i + 8 ≤ length records
-  nested-room = operand-room v.view
+  pub nested_room : 8 * i + 8 ≤ length records
+  nested_room = operand_room v.view
 
-  pub nested-small : i < mostTokens
-  nested-small = operand_small v.view
+  pub nested_small : i < most_tokens
+  nested_small = operand_small v.view
 
-  pub nested-in : OperandIn records i
-  nested-in = operand_in v.view
+  pub nested_in : OperandIn records i
+  nested_in = operand_in v.view
 
-  module _ {k : ℕ} (e : k ≡ kindByte records i) (c : k ≡ kindNo LPar) where
-    pub group-deep : 0 < depth
-    group-deep = (group v.view e c).deep
+  module _ {k : ℕ} (e : k ≡ kind_byte records i) (c : k ≡ kind_no LPar) where
+    pub group_deep : 0 < depth
+    group_deep = (group v.view e c).deep
 
-    pub group-view : ExpressionAt records values carriers (i + 1) (depth - 1)
-    group-view = (group v.view e c).view
+    pub group_view : ExpressionAt records values carriers (i + 1) (depth - 1)
+    group_view = (group v.view e c).view
 
-    pub group-closable : (r : Evaluated) → ExpressionTold records values carriers (i + 1) (depth - 1) r → Closable r
-    group-closable r f = (group v.view e c).closable r f
+    pub group_closable : (r : Evaluated) → ExpressionTold records values carriers (i + 1) (depth - 1) r → Closable r
+    group_closable r f = (group v.view e c).closable r f
 
-    pub group-answer : (r : Evaluated) {q : Evaluated} → ExpressionTold records values carriers (i + 1) (depth - 1) r → q ≡ closed r → OperandAnswer v.view q
-    group-answer r f q = (group v.view e c).answer r f q
+    pub group_answer : (r : Evaluated) {q : Evaluated} → ExpressionTold records values carriers (i + 1) (depth - 1) r → q ≡ closed r → OperandAnswer v.view q
+    group_answer r f q = (group v.view e c).answer r f q
 
-  module _ {k p : ℕ} (e : k ≡ kindByte records i) (l : k ≡ kindNo LPar → ⊥) (f : (o : OperandIn records i) → Bared o p) where
-    negated-by : Negated v.view p
-    negated-by = all-nots v.view v.no_name v.no-constant e l f
+  module _ {k p : ℕ} (e : k ≡ kind_byte records i) (l : k ≡ kind_no LPar → ⊥) (f : (o : OperandIn records i) → Bared o p) where
+    negated_by : Negated v.view p
+    negated_by = all_nots v.view v.no_name v.no_constant e l f
 
-    pub nots-before : i ≤ p
-    nots-before = negated-by.before
+    pub nots_before : i ≤ p
+    nots_before = negated_by.before
 
-    pub nots-fall : notFirst records p < notFirst records i
-    nots-fall = negated-by.falls
+    pub nots_fall : not_first records p < not_first records i
+    nots_fall = negated_by.falls
 
-    pub nots-view : OperandAt records values carriers p depth
-    nots-view = negated-by.view
+    pub nots_view : OperandAt records values carriers p depth
+    nots_view = negated_by.view
 
-    pub nots-invertible : (r : Evaluated) → OperandTold records values carriers p depth r → Invertible r
-    nots-invertible r g = negated-by.invertible r g
+    pub nots_invertible : (r : Evaluated) → OperandTold records values carriers p depth r → Invertible r
+    nots_invertible r g = negated_by.invertible r g
 
-    pub nots-answer : (r : Evaluated) {q : Evaluated} → OperandTold records values carriers p depth r → q ≡ inverted (p - i) r → OperandAnswer v.view q
-    nots-answer r g q = negated-by.answer r g q
+    pub nots_answer : (r : Evaluated) {q : Evaluated} → OperandTold records values carriers p depth r → q ≡ inverted (p - i) r → OperandAnswer v.view q
+    nots_answer r g q = negated_by.answer r g q
 
-module _ {records values carriers : List ℕ} {i depth : ℕ} (v : OperandAt records values carriers i depth) {k : ℕ} (e : k ≡ kindByte records i)
-    (n : k ≡ kindNo Name → ⊥) (c : k ≡ kindNo Const → ⊥) where
-  pub nested-at : NestedAt records values carriers i depth
-  nested-at = record { view = v; no_name = λ z. n (e ∙ z); no-constant = λ z. c (e ∙ z) }
+module _ {records values carriers : List ℕ} {i depth : ℕ} (v : OperandAt records values carriers i depth) {k : ℕ} (e : k ≡ kind_byte records i)
+    (n : k ≡ kind_no Name → ⊥) (c : k ≡ kind_no Const → ⊥) where
+  pub nested_at : NestedAt records values carriers i depth
+  nested_at = record { view = v; no_name = λ z. n (e ∙ z); no_constant = λ z. c (e ∙ z) }
 
-  pub nested-answers : (r : Evaluated) → ((x : NestedAt records values carriers i depth) → OperandAnswer x.view r) → OperandAnswer v r
-  unfolding nested-at
-  nested-answers r f = f nested-at
+  pub nested_answers : (r : Evaluated) → ((x : NestedAt records values carriers i depth) → OperandAnswer x.view r) → OperandAnswer v r
+  unfolding nested_at
+  nested_answers r f = f nested_at

@@ -4,43 +4,43 @@ use Rattle.std.specs.Prelude.{ℕ, ◌-◌, ◌<◌, ◌≤◌, ◌≡◌, refl,
 use Rattle.std.proofs.Common.{sym, ap₂, ◌∙◌, subst, arith, get_or-set_same, get_or-set_other}
 use Rattle.std.proofs.Math.Path.{ap}
 use Rattle.std.proofs.Math.ListN.{length}
-use Rattle.rules.specs.Text.Tokens.{opKind, kindNo}
+use Rattle.rules.specs.Text.Tokens.{op_kind, kind_no}
 use Rattle.rules.specs.Grammar.Precedence.{tightness, Expr, leaf, node}
-use Rattle.rules.specs.Values.{value, opBits, opNumber}
-use Rattle.rules.specs.Limits.{mostBits}
+use Rattle.rules.specs.Values.{value, op_bits, op_number}
+use Rattle.rules.specs.Limits.{most_bits}
 use Rattle.rules.specs.Declarations.{Table}
 use Rattle.rules.specs.Steps.Evaluation.{Carriers, gives, evaluate}
 use Rattle.laws_grammar.specs.Cited.Shunting.{Waiting, looser, settled}
 use Rattle.laws_accepted.specs.Cited.Lengths.{Sized}
 use Rattle.values.specs.Operands.{Operands}
-use Rattle.values.specs.Operators.{opAt}
-use Rattle.values.specs.Laws.Operators.{opAt-kind}
-use Rattle.table.specs.Operators.{tightnessAt}
-use Rattle.table.specs.Laws.Operators.{tightness-at}
-use Rattle.operands.specs.Laws.Waits.{looser-pass, settled-pass, looser-stop, settled-stop}
-use Rattle.operands.specs.Trees.{Waits, treeLeft, treeSettled}
-use Rattle.operands.specs.Laws.Trees.{both, sized-settled, Given}
-use Rattle.operands.specs.Laws.Worths.{tree-bits, node-comes, node-operands}
+use Rattle.values.specs.Operators.{op_at}
+use Rattle.values.specs.Laws.Operators.{op_at_kind}
+use Rattle.table.specs.Operators.{tightness_at}
+use Rattle.table.specs.Laws.Operators.{tightness_at_lem}
+use Rattle.operands.specs.Laws.Waits.{looser_pass, settled_pass, looser_stop, settled_stop}
+use Rattle.operands.specs.Trees.{Waits, tree_left, tree_settled}
+use Rattle.operands.specs.Laws.Trees.{both, sized_settled, Given}
+use Rattle.operands.specs.Laws.Worths.{tree_bits, node_comes, node_operands}
 use Rattle.operands.specs.Settling.{Wait, WaitsAt, SettleAt, Settles}
 
 module _ (ds : Table) (s : Carriers) where
-  pub waits-given : (ops numbers lengths : List ℕ) (ws : Waits) → Wait ds s ops numbers lengths ws → Given ds s ws
-  waits-given ops numbers lengths [] h = tt
-  waits-given ops numbers lengths (w ∷ ws) h = ((value _ _, h.0.left), waits-given ops numbers lengths ws h.1)
+  pub waits_given : (ops numbers lengths : List ℕ) (ws : Waits) → Wait ds s ops numbers lengths ws → Given ds s ws
+  waits_given ops numbers lengths [] h = tt
+  waits_given ops numbers lengths (w ∷ ws) h = ((value _ _, h.0.left), waits_given ops numbers lengths ws h.1)
 
   -- a store above them leaves them
   module _ (ops numbers lengths : List ℕ) (n k a m : ℕ) where
-    wait-set : (ws : Waits) → length ws ≤ n → Wait ds s ops numbers lengths ws → Wait ds s (set ops n k) (set numbers n a) (set lengths n m) ws
-    wait-set [] h w = tt
-    wait-set (u ∷ us) h w =
+    wait_set : (ws : Waits) → length ws ≤ n → Wait ds s ops numbers lengths ws → Wait ds s (set ops n k) (set numbers n a) (set lengths n m) ws
+    wait_set [] h w = tt
+    wait_set (u ∷ us) h w =
         let other : (l : List ℕ) (x : ℕ) → get_or (set l n x) (length us) 0 ≡ get_or l (length us) 0 = λ l x. get_or-set_other l n (length us) x 0 (λ e. omega arith) in
-        (rw (other ops k, other numbers a, other lengths m) w.0, wait-set us (omega arith) w.1)
+        (rw (other ops k, other numbers a, other lengths m) w.0, wait_set us (omega arith) w.1)
 
-    pub wait-push : (w : Waiting Expr) (ws : Waits) → n ≡ length ws → n < length ops → n < length numbers → n < length lengths → WaitsAt ds s k a m w
+    pub wait_push : (w : Waiting Expr) (ws : Waits) → n ≡ length ws → n < length ops → n < length numbers → n < length lengths → WaitsAt ds s k a m w
         → Wait ds s ops numbers lengths ws → Wait ds s (set ops n k) (set numbers n a) (set lengths n m) (w ∷ ws)
-    wait-push w ws e ho hn hl x y =
+    wait_push w ws e ho hn hl x y =
         let same : (l : List ℕ) (v : ℕ) → n < length l → get_or (set l n v) (length ws) 0 ≡ v = λ l v h. ap (λ i. get_or (set l n v) i 0) (sym e) ∙ get_or-set_same l n v 0 h in
-        (rw (same ops k ho, same numbers a hn, same lengths m hl) x, wait-set ws (omega arith) y)
+        (rw (same ops k ho, same numbers a hn, same lengths m hl) x, wait_set ws (omega arith) y)
 
 -- on the way: settling the rest comes to the same
 pub record Settling {ops numbers lengths : List ℕ} {count₀ b₀ n₀ tight : ℕ} (v : SettleAt ops numbers lengths count₀ b₀ n₀ tight) (count b n : ℕ) : Type 0 where
@@ -50,13 +50,13 @@ pub record Settling {ops numbers lengths : List ℕ} {count₀ b₀ n₀ tight :
   pub few : count ≤ 5
   pub waiting : Wait v.table v.words ops numbers lengths waits
   pub comes : evaluate v.table v.words tree ≡ gives (value n b)
-  pub sized : Sized v.outer v.table (treeSettled tight waits tree)
-  pub same_left : treeLeft tight waits tree ≡ treeLeft tight v.waits v.tree
-  pub same-settled : treeSettled tight waits tree ≡ treeSettled tight v.waits v.tree
+  pub sized : Sized v.outer v.table (tree_settled tight waits tree)
+  pub same_left : tree_left tight waits tree ≡ tree_left tight v.waits v.tree
+  pub same_settled : tree_settled tight waits tree ≡ tree_settled tight v.waits v.tree
 
-none-wait : (ws : Waits) → length ws ≡ 0 → ws ≡ []
-none-wait [] e = refl
-none-wait (w ∷ ws) e = absurd (omega arith)
+none_wait : (ws : Waits) → length ws ≡ 0 → ws ≡ []
+none_wait [] e = refl
+none_wait (w ∷ ws) e = absurd (omega arith)
 
 module _ {ops numbers lengths : List ℕ} {count₀ b₀ n₀ tight : ℕ} (v : SettleAt ops numbers lengths count₀ b₀ n₀ tight) where
   pub settling : Settling v count₀ b₀ n₀
@@ -69,7 +69,7 @@ module _ {ops numbers lengths : List ℕ} {count₀ b₀ n₀ tight : ℕ} (v : 
     comes = v.comes;
     sized = v.sized;
     same_left = refl;
-    same-settled = refl;
+    same_settled = refl;
   }
 
 module _ {ops numbers lengths : List ℕ} {count₀ b₀ n₀ tight : ℕ} {v : SettleAt ops numbers lengths count₀ b₀ n₀ tight} {count b n : ℕ} (s : Settling v count b n) where
@@ -88,13 +88,13 @@ module _ {ops numbers lengths : List ℕ} {count₀ b₀ n₀ tight : ℕ} {v : 
       go [] e c w = absurd (omega arith)
       go (u ∷ us) e c w = let q : count - 1 ≡ length us = omega arith in record { last = u; below = us; are = e; at = rw q w.0; waiting = w.1 }
 
-  pub settled-none : count ≤ 0 → Settles v count b n
+  pub settled_none : count ≤ 0 → Settles v count b n
   unfolding looser settled
-  settled-none z =
-      let e = none-wait s.waits (omega (arith, s.counts)) in
+  settled_none z =
+      let e = none_wait s.waits (omega (arith, s.counts)) in
       record {
-        left = s.counts ∙ ap length (e ∙ ap (λ ws. treeLeft tight ws s.tree) (sym e) ∙ s.same_left);
-        comes = rw (sym s.same-settled ∙ ap (λ ws. treeSettled tight ws s.tree) e) s.comes;
+        left = s.counts ∙ ap length (e ∙ ap (λ ws. tree_left tight ws s.tree) (sym e) ∙ s.same_left);
+        comes = rw (sym s.same_settled ∙ ap (λ ws. tree_settled tight ws s.tree) e) s.comes;
       }
 
   -- the last has the kind k and the left operand a, of m bits
@@ -102,59 +102,59 @@ module _ {ops numbers lengths : List ℕ} {count₀ b₀ n₀ tight : ℕ} {v : 
     t : Top
     t = top p
 
-    kind-is : k ≡ kindNo (opKind t.last.op)
-    kind-is = ek ∙ t.at.kind
+    kind_is : k ≡ kind_no (op_kind t.last.op)
+    kind_is = ek ∙ t.at.kind
 
-    op-is : opAt k ≡ t.last.op
-    op-is = ap opAt kind-is ∙ opAt-kind t.last.op
+    op_is : op_at k ≡ t.last.op
+    op_is = ap op_at kind_is ∙ op_at_kind t.last.op
 
-    binds : tightnessAt k ≡ tightness t.last.op
-    binds = ap tightnessAt kind-is ∙ tightness-at t.last.op
+    binds : tightness_at k ≡ tightness t.last.op
+    binds = ap tightness_at kind_is ∙ tightness_at_lem t.last.op
 
-    left-comes : evaluate v.table v.words t.last.left ≡ gives (value m a)
-    left-comes = t.at.left ∙ ap₂ (λ m a. gives (value m a)) (sym em) (sym ea)
+    left_comes : evaluate v.table v.words t.last.left ≡ gives (value m a)
+    left_comes = t.at.left ∙ ap₂ (λ m a. gives (value m a)) (sym em) (sym ea)
 
-    pub settled-stopped : tightnessAt k < tight → Settles v count b n
-    settled-stopped h =
+    pub settled_stopped : tightness_at k < tight → Settles v count b n
+    settled_stopped h =
         let l : tightness t.last.op < tight = omega (arith, binds) in
         record {
-          left = s.counts ∙ ap length (t.are ∙ sym (looser-stop node leaf tight t.last t.below s.tree l)
-              ∙ ap (λ ws. treeLeft tight ws s.tree) (sym t.are) ∙ s.same_left);
-          comes = rw (sym s.same-settled ∙ ap (λ ws. treeSettled tight ws s.tree) t.are ∙ settled-stop node leaf tight t.last t.below s.tree l) s.comes;
+          left = s.counts ∙ ap length (t.are ∙ sym (looser_stop node leaf tight t.last t.below s.tree l)
+              ∙ ap (λ ws. tree_left tight ws s.tree) (sym t.are) ∙ s.same_left);
+          comes = rw (sym s.same_settled ∙ ap (λ ws. tree_settled tight ws s.tree) t.are ∙ settled_stop node leaf tight t.last t.below s.tree l) s.comes;
         }
 
-    module _ (h : tight ≤ tightnessAt k) where
+    module _ (h : tight ≤ tightness_at k) where
       passes : tight ≤ tightness t.last.op
       passes = omega (arith, binds)
 
-      whole : treeSettled tight s.waits s.tree ≡ treeSettled tight t.below (both t.last s.tree)
-      whole = ap (λ ws. treeSettled tight ws s.tree) t.are ∙ settled-pass node leaf tight t.last t.below s.tree passes
+      whole : tree_settled tight s.waits s.tree ≡ tree_settled tight t.below (both t.last s.tree)
+      whole = ap (λ ws. tree_settled tight ws s.tree) t.are ∙ settled_pass node leaf tight t.last t.below s.tree passes
 
-      both-sized : Sized v.outer v.table (treeSettled tight t.below (both t.last s.tree))
-      both-sized = subst (Sized v.outer v.table) whole s.sized
+      both_sized : Sized v.outer v.table (tree_settled tight t.below (both t.last s.tree))
+      both_sized = subst (Sized v.outer v.table) whole s.sized
 
-      pub settle-operands : Operands (opAt k) m a n b
-      settle-operands =
-          rw op-is (node-operands v.declares v.words t.last.op t.last.info t.last.left s.tree m a n b left-comes s.comes
-          (sized-settled v.outer v.table tight t.below (both t.last s.tree) both-sized))
+      pub settle_operands : Operands (op_at k) m a n b
+      settle_operands =
+          rw op_is (node_operands v.declares v.words t.last.op t.last.info t.last.left s.tree m a n b left_comes s.comes
+          (sized_settled v.outer v.table tight t.below (both t.last s.tree) both_sized))
 
-      pub settle-lengths : (m ≤ mostBits) × (n ≤ mostBits)
-      settle-lengths =
-          let q = sized-settled v.outer v.table tight t.below (both t.last s.tree) both-sized in (
-            (tree-bits v.declares v.words t.last.left m a q.1 left-comes).length.short,
-            (tree-bits v.declares v.words s.tree n b q.2 s.comes).length.short,
+      pub settle_lengths : (m ≤ most_bits) × (n ≤ most_bits)
+      settle_lengths =
+          let q = sized_settled v.outer v.table tight t.below (both t.last s.tree) both_sized in (
+            (tree_bits v.declares v.words t.last.left m a q.1 left_comes).length.short,
+            (tree_bits v.declares v.words s.tree n b q.2 s.comes).length.short,
           )
 
-      pub settled-turn : {x l : ℕ} → x ≡ opNumber (opAt k) m a n b → l ≡ opBits (opAt k) m n → Settling v (count - 1) x l
-      settled-turn {x} {l} ex el = record {
+      pub settled_turn : {x l : ℕ} → x ≡ op_number (op_at k) m a n b → l ≡ op_bits (op_at k) m n → Settling v (count - 1) x l
+      settled_turn {x} {l} ex el = record {
         waits = t.below;
         tree = both t.last s.tree;
         counts = omega (arith, s.counts, ap length t.are);
         few = omega (arith, s.few);
         waiting = t.waiting;
-        comes = rw (ex ∙ ap (λ o. opNumber o m a n b) op-is, el ∙ ap (λ o. opBits o m n) op-is)
-            (node-comes v.declares v.words t.last.op t.last.info t.last.left s.tree m a n b left-comes s.comes);
-        sized = both-sized;
-        same_left = sym (looser-pass node leaf tight t.last t.below s.tree passes) ∙ ap (λ ws. treeLeft tight ws s.tree) (sym t.are) ∙ s.same_left;
-        same-settled = sym whole ∙ s.same-settled;
+        comes = rw (ex ∙ ap (λ o. op_number o m a n b) op_is, el ∙ ap (λ o. op_bits o m n) op_is)
+            (node_comes v.declares v.words t.last.op t.last.info t.last.left s.tree m a n b left_comes s.comes);
+        sized = both_sized;
+        same_left = sym (looser_pass node leaf tight t.last t.below s.tree passes) ∙ ap (λ ws. tree_left tight ws s.tree) (sym t.are) ∙ s.same_left;
+        same_settled = sym whole ∙ s.same_settled;
       }

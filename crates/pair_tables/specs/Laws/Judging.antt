@@ -5,17 +5,17 @@ use Rattle.std.proofs.Common.{sym, ◌∙◌, subst, arith}
 use Rattle.std.proofs.Math.Path.{ap}
 use Rattle.std.proofs.Math.Option.{none}
 use borrow.Author.Tests.{le-leb, lt-leb, eq-eqb, ne_eqb}
-use Rattle.rules.specs.Declarations.{Table, totalWords}
-use Rattle.rules.specs.Limits.{mostWords}
-use Rattle.rules.specs.Faults.Fault.{byPlace, least}
+use Rattle.rules.specs.Declarations.{Table, total_words}
+use Rattle.rules.specs.Limits.{most_words}
+use Rattle.rules.specs.Faults.Fault.{by_place_of, least}
 use Rattle.rules.specs.Keeping.{fault60, fault61}
-use Rattle.rules.specs.Pair.{faults80, fault32, joint, pairOn}
-use Rattle.keys.specs.Keys.{noKey, Smalls}
-use Rattle.keys.specs.Laws.Keys.{by_place, no-fault, place-first, place-near}
+use Rattle.rules.specs.Pair.{faults80, fault32, joint, pair_on}
+use Rattle.keys.specs.Keys.{no_key, Smalls}
+use Rattle.keys.specs.Laws.Keys.{by_place, no_fault, place_first, place_near}
 use Rattle.starts.specs.declared.Started.{Started}
 use Rattle.starts.specs.declared.Started.TheVariants.{Fine, Refused}
 use Rattle.pair_tables.specs.Joining.{Joins}
-use Rattle.pair_tables.specs.Lengths.{Carried, longJoint, Fits, none-long, one-long}
+use Rattle.pair_tables.specs.Lengths.{Carried, long_joint, Fits, none_long, one_long}
 use Rattle.pair_tables.specs.Turns.{FirstBad}
 use Rattle.pair_tables.specs.Judging.{Carriers, Uncarried, Carries, carried, uncarried, Begins, Declines, Judges, begins, declines}
 use Rattle.pair_tables.specs.declared.judging.Judged.{Judged}
@@ -23,112 +23,112 @@ use Rattle.pair_tables.specs.declared.judging.Judged.TheVariants.{Fine as Taken,
 
 -- 32, 60 and 61
 module _ {first second : Table} {firsts : List ℕ} {key total : ℕ} (j : Joins first second firsts key total) (b : List ℕ) where
-  pub over-32 : mostWords < total → Carries first second b (Refused 32 0)
+  pub over_32 : most_words < total → Carries first second b (Refused 32 0)
   unfolding fault32
-  over-32 l =
-      let large : mostWords < totalWords (joint first second) = omega (arith, j.words) in
+  over_32 l =
+      let large : most_words < total_words (joint first second) = omega (arith, j.words) in
       uncarried {number = 32} {place = 0} record {
-        refuses = λ x. rw (fault32, lt-leb (totalWords (joint first second)) mostWords large);
+        refuses = λ x. rw (fault32, lt-leb (total_words (joint first second)) most_words large);
         near = omega arith;
       }
 
-  module _ (l : total ≤ mostWords) where
-    few_words : totalWords (joint first second) ≤ mostWords
+  module _ (l : total ≤ most_words) where
+    few_words : total_words (joint first second) ≤ most_words
     few_words = omega (arith, j.words)
 
-    passed-32 : fault32 (joint first second) ≡ none
+    passed_32 : fault32 (joint first second) ≡ none
     unfolding fault32
-    passed-32 = rw (fault32, le-leb (totalWords (joint first second)) mostWords few_words)
+    passed_32 = rw (fault32, le-leb (total_words (joint first second)) most_words few_words)
 
-    pub other-60 : (length b ≡ 8 * total → ⊥) → Carries first second b (Refused 60 0)
+    pub other_60 : (length b ≡ 8 * total → ⊥) → Carries first second b (Refused 60 0)
     unfolding fault60
-    other-60 n =
+    other_60 n =
         uncarried {number = 60} {place = 0} record {
-          refuses = λ x. rw (passed-32, fault60, ne_eqb (length b) (8 * totalWords (joint first second)) (λ e. n (e ∙ ap (λ (k : ℕ). 8 * k) (sym j.words))));
+          refuses = λ x. rw (passed_32, fault60, ne_eqb (length b) (8 * total_words (joint first second)) (λ e. n (e ∙ ap (λ (k : ℕ). 8 * k) (sym j.words))));
           near = omega arith;
         }
 
     module _ (long : length b ≡ 8 * total) where
-      long-all : length b ≡ 8 * totalWords (joint first second)
-      long-all = long ∙ ap (λ (k : ℕ). 8 * k) j.words
+      long_all : length b ≡ 8 * total_words (joint first second)
+      long_all = long ∙ ap (λ (k : ℕ). 8 * k) j.words
 
-      passed-60 : fault60 (joint first second) b ≡ none
+      passed_60 : fault60 (joint first second) b ≡ none
       unfolding fault60
-      passed-60 = rw (fault60, eq-eqb (length b) (8 * totalWords (joint first second)) long-all)
+      passed_60 = rw (fault60, eq-eqb (length b) (8 * total_words (joint first second)) long_all)
 
-      pub to-carry : {words : ℕ} → words ≡ totalWords first → 2 * length second ≤ length firsts → Carried first second firsts words b
-      to-carry is room = record { cells = j.cells; room = room; front = is; long = long-all; few = few_words }
+      pub to_carry : {words : ℕ} → words ≡ total_words first → 2 * length second ≤ length firsts → Carried first second firsts words b
+      to_carry is room = record { cells = j.cells; room = room; front = is; long = long_all; few = few_words }
 
-      pub carries-by : {r : Started} → Fits (longJoint first second b) r → Carries first second b r
+      pub carries_by : {r : Started} → Fits (long_joint first second b) r → Carries first second b r
       unfolding fault61
-      carries-by (none-long e) = carried record { few = few_words; long = long-all; fit = rw (fault61, e) }
-      carries-by (one-long {place = p} e near) =
-          uncarried {number = 61} {place = p} record { refuses = λ x. rw (passed-32, passed-60, fault61, e); near = near }
+      carries_by (none_long e) = carried record { few = few_words; long = long_all; fit = rw (fault61, e) }
+      carries_by (one_long {place = p} e near) =
+          uncarried {number = 61} {place = p} record { refuses = λ x. rw (passed_32, passed_60, fault61, e); near = near }
 
 -- 80, then 81, then those
 module _ {first second : Table} {firsts : List ℕ} {key total : ℕ} (j : Joins first second firsts key total) (smalls : Smalls (faults80 first second))
     (b turns : List ℕ) where
-  pub clash-80 : {n p : ℕ} → n ≡ key % 128 → p ≡ key / 128 → (key ≡ noKey → ⊥) → Judges first second firsts b turns (Down 1 n p)
-  unfolding pairOn
-  clash-80 {n} {p} number place h =
+  pub clash_80 : {n p : ℕ} → n ≡ key % 128 → p ≡ key / 128 → (key ≡ no_key → ⊥) → Judges first second firsts b turns (Down 1 n p)
+  unfolding pair_on
+  clash_80 {n} {p} number place h =
       declines {side = 1} {number = n} {place = p} record {
-        refuses = λ budget. rw (pairOn, number, place, place-first (faults80 first second) key smalls j.keys h);
-        near = λ m. omega (arith, place-near (faults80 first second) key smalls j.keys h);
+        refuses = λ budget. rw (pair_on, number, place, place_first (faults80 first second) key smalls j.keys h);
+        near = λ m. omega (arith, place_near (faults80 first second) key smalls j.keys h);
       }
 
-  module _ (none-80 : key ≡ noKey) where
-    passed-80 : least byPlace (faults80 first second) ≡ none
+  module _ (none_80 : key ≡ no_key) where
+    passed_80 : least by_place_of (faults80 first second) ≡ none
     unfolding least
-    passed-80 = ap (least byPlace) (no-fault by_place (faults80 first second) smalls (sym j.keys ∙ none-80))
+    passed_80 = ap (least by_place_of) (no_fault by_place (faults80 first second) smalls (sym j.keys ∙ none_80))
 
     module _ {r : ℕ} (bad : FirstBad turns r) where
-      pub bad-81 : r < length turns → Judges first second firsts b turns (Down 0 81 r)
-      unfolding pairOn
-      bad-81 l = declines {side = 0} {number = 81} {place = r} record { refuses = λ budget. rw (pairOn, passed-80, bad.bad l); near = λ n. absurd (n refl) }
+      pub bad_81 : r < length turns → Judges first second firsts b turns (Down 0 81 r)
+      unfolding pair_on
+      bad_81 l = declines {side = 0} {number = 81} {place = r} record { refuses = λ budget. rw (pair_on, passed_80, bad.bad l); near = λ n. absurd (n refl) }
 
       module _ (l : length turns ≤ r) where
-        pub uncarried-down : {m p : ℕ} → Uncarried first second b m p → Judges first second firsts b turns (Down 0 m p)
-        unfolding pairOn
-        uncarried-down {m} {p} u =
+        pub uncarried_down : {m p : ℕ} → Uncarried first second b m p → Judges first second firsts b turns (Down 0 m p)
+        unfolding pair_on
+        uncarried_down {m} {p} u =
             declines {side = 0} {number = m} {place = p} record {
-              refuses = λ budget. rw (pairOn, passed-80, bad.none-bad l) (u.refuses _);
+              refuses = λ budget. rw (pair_on, passed_80, bad.none_bad l) (u.refuses _);
               near = λ n. u.near;
             }
 
-        pub carried-taken : Carriers first second b → Judges first second firsts b turns Taken
-        unfolding pairOn fault32 fault60
-        carried-taken c =
-            let none-32 : fault32 (joint first second) ≡ none = rw (fault32, le-leb (totalWords (joint first second)) mostWords c.few) in
-            let none-60 : fault60 (joint first second) b ≡ none = rw (fault60, eq-eqb (length b) (8 * totalWords (joint first second)) c.long) in
+        pub carried_taken : Carriers first second b → Judges first second firsts b turns Taken
+        unfolding pair_on fault32 fault60
+        carried_taken c =
+            let none_32 : fault32 (joint first second) ≡ none = rw (fault32, le-leb (total_words (joint first second)) most_words c.few) in
+            let none_60 : fault60 (joint first second) b ≡ none = rw (fault60, eq-eqb (length b) (8 * total_words (joint first second)) c.long) in
             begins record {
               carriers = c;
               firsts_at = j.cells;
-              sides = bad.none-bad l;
-              pairs = λ budget. rw (pairOn, passed-80, bad.none-bad l, none-32, none-60, c.fit);
+              sides = bad.none_bad l;
+              pairs = λ budget. rw (pair_on, passed_80, bad.none_bad l, none_32, none_60, c.fit);
             }
 
 -- by the answer of the carriers
-pub uncarried-by : {first second : Table} {b : List ℕ} {r : Started} {m p : ℕ} → Carries first second b r → r ≡ Refused m p → Uncarried first second b m p
-uncarried-by (carried h) e = let z : ◌≡◌ {A = ℕ} 0 1 = cc in absurd (omega arith)
-uncarried-by {first} {second} {b} {m = m} {p} (uncarried {number = k} {place = q} h) e =
+pub uncarried_by : {first second : Table} {b : List ℕ} {r : Started} {m p : ℕ} → Carries first second b r → r ≡ Refused m p → Uncarried first second b m p
+uncarried_by (carried h) e = let z : ◌≡◌ {A = ℕ} 0 1 = cc in absurd (omega arith)
+uncarried_by {first} {second} {b} {m = m} {p} (uncarried {number = k} {place = q} h) e =
     let x : k ≡ m = cc in let y : q ≡ p = cc in subst (λ (z : ℕ). Uncarried first second b z p) x (subst (Uncarried first second b k) y h)
 
-pub carried-by : {first second : Table} {b : List ℕ} {r : Started} → Carries first second b r → r ≡ Fine → Carriers first second b
-carried-by (carried h) e = h
-carried-by (uncarried h) e = let z : ◌≡◌ {A = ℕ} 0 1 = cc in absurd (omega arith)
+pub carried_by : {first second : Table} {b : List ℕ} {r : Started} → Carries first second b r → r ≡ Fine → Carriers first second b
+carried_by (carried h) e = h
+carried_by (uncarried h) e = let z : ◌≡◌ {A = ℕ} 0 1 = cc in absurd (omega arith)
 
 -- by the answer of all
-pub declines-by : {first second : Table} {firsts b turns : List ℕ} {r : Judged} {i m p : ℕ} → Judges first second firsts b turns r → r ≡ Down i m p
+pub declines_by : {first second : Table} {firsts b turns : List ℕ} {r : Judged} {i m p : ℕ} → Judges first second firsts b turns r → r ≡ Down i m p
     → Declines first second b turns i m p
-declines-by (begins h) e = let z : ◌≡◌ {A = ℕ} 0 1 = cc in absurd (omega arith)
-declines-by {first} {second} {b = b} {turns} {i = i} {m} {p} (declines {side = o} {number = k} {place = q} h) e =
+declines_by (begins h) e = let z : ◌≡◌ {A = ℕ} 0 1 = cc in absurd (omega arith)
+declines_by {first} {second} {b = b} {turns} {i = i} {m} {p} (declines {side = o} {number = k} {place = q} h) e =
     let x : o ≡ i = cc in
     let y : k ≡ m = cc in
     let z : q ≡ p = cc in
     subst (λ (n : ℕ). Declines first second b turns n m p) x
     (subst (λ (n : ℕ). Declines first second b turns o n p) y (subst (Declines first second b turns o k) z h))
 
-pub begins-by : {first second : Table} {firsts b turns : List ℕ} {r : Judged} → Judges first second firsts b turns r → r ≡ Taken
+pub begins_by : {first second : Table} {firsts b turns : List ℕ} {r : Judged} → Judges first second firsts b turns r → r ≡ Taken
     → Begins first second firsts b turns
-begins-by (begins h) e = h
-begins-by (declines h) e = let z : ◌≡◌ {A = ℕ} 0 1 = cc in absurd (omega arith)
+begins_by (begins h) e = h
+begins_by (declines h) e = let z : ◌≡◌ {A = ℕ} 0 1 = cc in absurd (omega arith)

@@ -5,80 +5,80 @@ use Rattle.std.proofs.Common.{sym, ap, ap₂, ◌∙◌, arith, eq-eqb, ne_eqb}
 use Rattle.std.proofs.Math.Option.{Option, none, some}
 use Rattle.std.proofs.lemmas.Bool.{not-true, not-false}
 use Rattle.rules.specs.Grammar.Trees.{Tokens}
-use Rattle.rules.specs.Declarations.{Names as Span-of, BitNames, one-unnamed, these, Target, declaredOf}
-use Rattle.rules.specs.Pair.{hasStorage, isStorage, same_words, sameOwnBits, same_shape}
-use Rattle.table.specs.Shown.{shownWords, shownBits}
+use Rattle.rules.specs.Declarations.{Names as Span-of, BitNames, one_unnamed, these, Target, declared_of}
+use Rattle.rules.specs.Pair.{has_storage, is_storage_of, same_words, same_own_bits, same_shape}
+use Rattle.table.specs.Shown.{shown_words, shown_bits}
 use Rattle.table.specs.Views.{View, TargetAt}
 use Rattle.table.specs.declared.views.Names.{Names}
-use Rattle.spans.specs.Spans.{missingShown}
+use Rattle.spans.specs.Spans.{missing_shown}
 use Rattle.table.specs.declared.views.Names.TheVariants.{Span}
-use Rattle.pair_tables.specs.Shapes.{spanShown, sameShown}
+use Rattle.pair_tables.specs.Shapes.{span_shown, same_shown}
 
 -- names from l to r, against those from `left` to `right`
 module _ {x : Names} {l r : ℕ} (left right : ℕ) (is : x ≡ Span l r) where
-  pub other-left : (l ≡ left → ⊥) → false ≡ spanShown x left right
-  other-left n = rw (is, ne_eqb l left n)
+  pub other_left : (l ≡ left → ⊥) → false ≡ span_shown x left right
+  other_left n = rw (is, ne_eqb l left n)
 
-  pub same_left : l ≡ left → eqb r right ≡ spanShown x left right
+  pub same_left : l ≡ left → eqb r right ≡ span_shown x left right
   same_left e = rw (is, eq-eqb l left e)
 
-pub span_same : (a : Names) {b : Names} {t : Bool} (left right : ℕ) → b ≡ Span left right → t ≡ spanShown a left right → t ≡ sameShown a b
-span_same a left right e q = q ∙ ap (sameShown a) (sym e)
+pub span_same : (a : Names) {b : Names} {t : Bool} (left right : ℕ) → b ≡ Span left right → t ≡ span_shown a left right → t ≡ same_shown a b
+span_same a left right e q = q ∙ ap (same_shown a) (sym e)
 
-words-shown : (a b : Option Span-of) → sameShown (shownWords a) (shownWords b) ≡ same_words a b
-words-shown none none = refl
-words-shown none (some b) = refl
-words-shown (some a) none = refl
-words-shown (some a) (some b) = refl
+words_shown : (a b : Option Span-of) → same_shown (shown_words a) (shown_words b) ≡ same_words a b
+words_shown none none = refl
+words_shown none (some b) = refl
+words_shown (some a) none = refl
+words_shown (some a) (some b) = refl
 
-bits-shown : (a b : Option BitNames) → sameShown (shownBits a) (shownBits b) ≡ sameOwnBits a b
-bits-shown none none = refl
-bits-shown none (some one-unnamed) = refl
-bits-shown none (some (these b)) = refl
-bits-shown (some one-unnamed) none = refl
-bits-shown (some one-unnamed) (some one-unnamed) = refl
-bits-shown (some one-unnamed) (some (these b)) = refl
-bits-shown (some (these a)) none = refl
-bits-shown (some (these a)) (some one-unnamed) = refl
-bits-shown (some (these a)) (some (these b)) = refl
+bits_shown : (a b : Option BitNames) → same_shown (shown_bits a) (shown_bits b) ≡ same_own_bits a b
+bits_shown none none = refl
+bits_shown none (some one_unnamed) = refl
+bits_shown none (some (these b)) = refl
+bits_shown (some one_unnamed) none = refl
+bits_shown (some one_unnamed) (some one_unnamed) = refl
+bits_shown (some one_unnamed) (some (these b)) = refl
+bits_shown (some (these a)) none = refl
+bits_shown (some (these a)) (some one_unnamed) = refl
+bits_shown (some (these a)) (some (these b)) = refl
 
 -- storage, by the token of a mapping's target and by the bits
-mapping-none : (ts : Tokens) (t : ℕ) (o : Option Target) (b : Option BitNames) → TargetAt ts t o → (t ≡ 0 → ⊥) → hasStorage o b ≡ false
-mapping-none ts t none b e n = absurd (n e)
-mapping-none ts t (some x) b e n = refl
+mapping_none : (ts : Tokens) (t : ℕ) (o : Option Target) (b : Option BitNames) → TargetAt ts t o → (t ≡ 0 → ⊥) → has_storage o b ≡ false
+mapping_none ts t none b e n = absurd (n e)
+mapping_none ts t (some x) b e n = refl
 
-storage-bits : (ts : Tokens) (t : ℕ) (o : Option Target) (b : Option BitNames) → TargetAt ts t o → t ≡ 0 → not (missingShown (shownBits b)) ≡ hasStorage o b
-storage-bits ts t none none e z = refl
-storage-bits ts t none (some one-unnamed) e z = refl
-storage-bits ts t none (some (these b)) e z = refl
-storage-bits ts t (some x) b e z = absurd (omega (arith, e.past))
+storage_bits : (ts : Tokens) (t : ℕ) (o : Option Target) (b : Option BitNames) → TargetAt ts t o → t ≡ 0 → not (missing_shown (shown_bits b)) ≡ has_storage o b
+storage_bits ts t none none e z = refl
+storage_bits ts t none (some one_unnamed) e z = refl
+storage_bits ts t none (some (these b)) e z = refl
+storage_bits ts t (some x) b e z = absurd (omega (arith, e.past))
 
 module _ {records values : List ℕ} {p t : ℕ}
-    (at : (values : List ℕ) (v : View records values p) → TargetAt v.tokens t (declaredOf v.declaration).target) (v : View records values p) where
-  pub no-storage : (t ≡ 0 → ⊥) → false ≡ isStorage (declaredOf v.declaration)
-  no-storage n = sym (mapping-none v.tokens t (declaredOf v.declaration).target (declaredOf v.declaration).bits (at values v) n)
+    (at : (values : List ℕ) (v : View records values p) → TargetAt v.tokens t (declared_of v.declaration).target) (v : View records values p) where
+  pub no_storage : (t ≡ 0 → ⊥) → false ≡ is_storage_of (declared_of v.declaration)
+  no_storage n = sym (mapping_none v.tokens t (declared_of v.declaration).target (declared_of v.declaration).bits (at values v) n)
 
-  pub with-storage : {x : Names} {r : Bool} → t ≡ 0 → ((v : View records values p) → x ≡ shownBits (declaredOf v.declaration).bits) → r ≡ missingShown x
-      → not r ≡ isStorage (declaredOf v.declaration)
-  with-storage z bits is =
-      ap not (is ∙ ap missingShown (bits v))
-      ∙ storage-bits v.tokens t (declaredOf v.declaration).target (declaredOf v.declaration).bits (at values v) z
+  pub with_storage : {x : Names} {r : Bool} → t ≡ 0 → ((v : View records values p) → x ≡ shown_bits (declared_of v.declaration).bits) → r ≡ missing_shown x
+      → not r ≡ is_storage_of (declared_of v.declaration)
+  with_storage z bits is =
+      ap not (is ∙ ap missing_shown (bits v))
+      ∙ storage_bits v.tokens t (declared_of v.declaration).target (declared_of v.declaration).bits (at values v) z
 
 -- the same names of words, then of bits
 module _ {records₀ values₀ records₁ values₁ : List ℕ} {p q : ℕ} {a b : Names} {r : Bool}
-    (words₀ : (v : View records₀ values₀ p) → a ≡ shownWords (declaredOf v.declaration).words)
-    (words₁ : (v : View records₁ values₁ q) → b ≡ shownWords (declaredOf v.declaration).words) (is : r ≡ sameShown a b)
+    (words₀ : (v : View records₀ values₀ p) → a ≡ shown_words (declared_of v.declaration).words)
+    (words₁ : (v : View records₁ values₁ q) → b ≡ shown_words (declared_of v.declaration).words) (is : r ≡ same_shown a b)
     (v : View records₀ values₀ p) (w : View records₁ values₁ q) where
-  same-words : r ≡ same_words (declaredOf v.declaration).words (declaredOf w.declaration).words
-  same-words = is ∙ ap₂ sameShown (words₀ v) (words₁ w) ∙ words-shown (declaredOf v.declaration).words (declaredOf w.declaration).words
+  same_words_lem : r ≡ same_words (declared_of v.declaration).words (declared_of w.declaration).words
+  same_words_lem = is ∙ ap₂ same_shown (words₀ v) (words₁ w) ∙ words_shown (declared_of v.declaration).words (declared_of w.declaration).words
 
-  pub other-words : not r ≡ true → false ≡ same_shape (declaredOf v.declaration) (declaredOf w.declaration)
-  other-words n =
-      ap (λ (x : Bool). x && sameOwnBits (declaredOf v.declaration).bits (declaredOf w.declaration).bits) (sym (not-true r n) ∙ same-words)
+  pub other_words : not r ≡ true → false ≡ same_shape (declared_of v.declaration) (declared_of w.declaration)
+  other_words n =
+      ap (λ (x : Bool). x && same_own_bits (declared_of v.declaration).bits (declared_of w.declaration).bits) (sym (not-true r n) ∙ same_words_lem)
 
-  pub by_bits : {c d : Names} {s : Bool} → not r ≡ false → ((v : View records₀ values₀ p) → c ≡ shownBits (declaredOf v.declaration).bits)
-      → ((v : View records₁ values₁ q) → d ≡ shownBits (declaredOf v.declaration).bits) → s ≡ sameShown c d
-      → s ≡ same_shape (declaredOf v.declaration) (declaredOf w.declaration)
+  pub by_bits : {c d : Names} {s : Bool} → not r ≡ false → ((v : View records₀ values₀ p) → c ≡ shown_bits (declared_of v.declaration).bits)
+      → ((v : View records₁ values₁ q) → d ≡ shown_bits (declared_of v.declaration).bits) → s ≡ same_shown c d
+      → s ≡ same_shape (declared_of v.declaration) (declared_of w.declaration)
   by_bits y bits₀ bits₁ e =
-      e ∙ ap₂ sameShown (bits₀ v) (bits₁ w) ∙ bits-shown (declaredOf v.declaration).bits (declaredOf w.declaration).bits
-      ∙ ap (λ (x : Bool). x && sameOwnBits (declaredOf v.declaration).bits (declaredOf w.declaration).bits) (sym (not-false r y) ∙ same-words)
+      e ∙ ap₂ same_shown (bits₀ v) (bits₁ w) ∙ bits_shown (declared_of v.declaration).bits (declared_of w.declaration).bits
+      ∙ ap (λ (x : Bool). x && same_own_bits (declared_of v.declaration).bits (declared_of w.declaration).bits) (sym (not-false r y) ∙ same_words_lem)

@@ -3,15 +3,15 @@
 -- RESTART lead only to what is reached already.
 use Rattle.std.specs.Prelude.{ℕ, zero, suc, min, Bool, true, false, cond, not, ◌||◌, ◌&&◌, List, [], ◌∷◌, ◌++◌}
 use Rattle.std.proofs.Math.Option.{Option, none, some}
-use Rattle.rules.specs.Text.Scan.{sameBytes}
+use Rattle.rules.specs.Text.Scan.{same_bytes}
 use Rattle.rules.specs.Grammar.Trees.{Action}
 use Rattle.rules.specs.Declarations.{Word, Table, body_of}
-use Rattle.rules.specs.Steps.Actions.{Access, Act, seq, par, label, ins, Ins, iff, decode, repeat, leave, restart, call, stop, noop, transfer, Alts, no-alts, alt, transferPlace}
-use Rattle.rules.specs.Steps.Runs.{bodyAct}
+use Rattle.rules.specs.Steps.Actions.{Access, Act, seq, par, label, ins, Ins, iff, decode, repeat, leave, restart, call, stop, noop, transfer, Alts, no_alts, alt, transfer_place}
+use Rattle.rules.specs.Steps.Runs.{body_act}
 use Rattle.rules.specs.Whole.Sets.{member, stores}
-use Rattle.rules.specs.Limits.{longestChain}
-use Rattle.rules.specs.Faults.Whole.{mainName}
-use Rattle.rules.specs.Paths.{storageOf, Profile, passes, fails}
+use Rattle.rules.specs.Limits.{longest_chain}
+use Rattle.rules.specs.Faults.Whole.{main_name}
+use Rattle.rules.specs.Paths.{storage_of, Profile, passes, fails}
 
 pub record Report : Type 0 where
   pub places : List ℕ
@@ -43,7 +43,7 @@ beside x y = report (x.places ++ y.places) (x.ends && y.ends) (λ k. x.leaves k 
 
 -- a label, or a body's own name: a LEAVE of it comes to its end
 abbrev pub inside : Word → Report → Report
-inside l x = report x.places (x.ends || x.leaves l) (λ k. not (sameBytes k l) && x.leaves k)
+inside l x = report x.places (x.ends || x.leaves l) (λ k. not (same_bytes k l) && x.leaves k)
 
 -- REPEAT has no end
 abbrev pub turning : Report → Report
@@ -52,10 +52,10 @@ turning x = report x.places false x.leaves
 module _ (test : Word) where
   -- an activation, by the report of the body
   abbrev pub activation : Word → Report → Report
-  activation p x = report x.places (not (sameBytes p test) && x.ends) (λ k. false)
+  activation p x = report x.places (not (same_bytes p test) && x.ends) (λ k. false)
 
 abbrev pub written : Table → ℕ → List Access → List ℕ
-written ds output d = cond (member output (stores ds d)) (transferPlace d ∷ []) []
+written ds output d = cond (member output (stores ds d)) (transfer_place d ∷ []) []
 
 module _ (ds : Table) (test : Word) (output : ℕ) where
   -- with what is known of the bodies
@@ -65,31 +65,31 @@ module _ (ds : Table) (test : Word) (output : ℕ) where
       early (seq a b) = in_turn (early a) (early b)
       early (par a b) = beside (early a) (early b)
       early (label l a) = inside l (early a)
-      early (ins i) = earlyI i
+      early (ins i) = early_i i
 
-      pub earlyI : Ins → Report
-      earlyI (iff e a) = either passed (early a)
-      earlyI (decode p e bs) = earlyAlts bs
-      earlyI (repeat a) = turning (early a)
-      earlyI (leave l) = report [] false (λ k. sameBytes k l)
-      earlyI (restart l) = nowhere
-      earlyI (call p) = activation test p (known p)
-      earlyI stop = nowhere
-      earlyI noop = passed
-      earlyI (transfer d e) = report (written ds output d) true (λ k. false)
+      pub early_i : Ins → Report
+      early_i (iff e a) = either passed (early a)
+      early_i (decode p e bs) = early_alts bs
+      early_i (repeat a) = turning (early a)
+      early_i (leave l) = report [] false (λ k. same_bytes k l)
+      early_i (restart l) = nowhere
+      early_i (call p) = activation test p (known p)
+      early_i stop = nowhere
+      early_i noop = passed
+      early_i (transfer d e) = report (written ds output d) true (λ k. false)
 
-      pub earlyAlts : Alts → Report
-      earlyAlts no-alts = nowhere
-      earlyAlts (alt c a bs) = either (early a) (earlyAlts bs)
+      pub early_alts : Alts → Report
+      early_alts no_alts = nowhere
+      early_alts (alt c a bs) = either (early a) (early_alts bs)
 
   -- of a body, down a chain of at most k bodies
-  unfoldable pub bodyEarly : ℕ → Word → Report
-  bodyEarly zero n = nowhere
-  bodyEarly (suc k) n = inside n (early (bodyEarly k) (bodyAct ds n))
+  unfoldable pub body_early : ℕ → Word → Report
+  body_early zero n = nowhere
+  body_early (suc k) n = inside n (early (body_early k) (body_act ds n))
 
   -- the places of the transfers that are too early
-  unfoldable pub earlyPlaces : List ℕ
-  earlyPlaces = (bodyEarly longestChain (mainName ds)).places
+  unfoldable pub early_places : List ℕ
+  early_places = (body_early longest_chain (main_name ds)).places
 
 -- the lowest of them
 unfoldable pub lowest : ℕ → List ℕ → ℕ
@@ -100,13 +100,13 @@ abbrev pub verdict : List ℕ → Profile
 verdict [] = passes
 verdict (p ∷ ps) = fails 92 (lowest p ps)
 
-abbrev pub onStorage : Table → Word → Option ℕ → Profile
-onStorage ds test none = fails 91 0
-onStorage ds test (some o) = verdict (earlyPlaces ds test o)
+abbrev pub on_storage : Table → Word → Option ℕ → Profile
+on_storage ds test none = fails 91 0
+on_storage ds test (some o) = verdict (early_places ds test o)
 
-abbrev pub onBody : Table → Word → Word → Option Action → Profile
-onBody ds test output none = fails 90 0
-onBody ds test output (some a) = onStorage ds test (storageOf ds output)
+abbrev pub on_body : Table → Word → Word → Option Action → Profile
+on_body ds test output none = fails 90 0
+on_body ds test output (some a) = on_storage ds test (storage_of ds output)
 
 unfoldable pub profile : Table → Word → Word → Profile
-profile ds test output = onBody ds test output (body_of ds test)
+profile ds test output = on_body ds test output (body_of ds test)

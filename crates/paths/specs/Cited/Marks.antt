@@ -1,7 +1,7 @@
 -- What a walk of a body's tree keeps: flags for the ends of what is open, by their numbers, the places so far, and the labels that it is inside.
 use Rattle.std.specs.Prelude.{ℕ, Bool, false, cond, not, ◌||◌, ◌&&◌, List, [], ◌∷◌, ◌++◌, eqb}
 use Rattle.std.proofs.Math.Option.{Option, none, some}
-use Rattle.rules.specs.Text.Scan.{sameBytes}
+use Rattle.rules.specs.Text.Scan.{same_bytes}
 use Rattle.rules.specs.Declarations.{Word}
 
 abbrev pub Flags : Type 0
@@ -33,10 +33,10 @@ abbrev pub added : List ℕ → Marks → Marks
 added ps w = record { flags = w.flags; places = w.places ++ ps }
 
 -- the innermost label of a name
-abbrev pub flagOf : List Slot → Word → Option ℕ
-flagOf [] l = none
-flagOf (s ∷ ls) l = cond (sameBytes l s.name) (some s.flag) (flagOf ls l)
+abbrev pub flag_of : List Slot → Word → Option ℕ
+flag_of [] l = none
+flag_of (s ∷ ls) l = cond (same_bytes l s.name) (some s.flag) (flag_of ls l)
 
-abbrev pub markedAt : Option ℕ → Bool → Marks → Marks
-markedAt none b w = w
-markedAt (some k) b w = marked k b w
+abbrev pub marked_at : Option ℕ → Bool → Marks → Marks
+marked_at none b w = w
+marked_at (some k) b w = marked k b w

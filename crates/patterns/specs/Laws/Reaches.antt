@@ -6,13 +6,13 @@ use Rattle.rules.specs.Faults.Bodies.{reaches}
 use Rattle.patterns.specs.Reaches.{may, either_way}
 
 module _ (n v f l h : ℕ) where
-  pub both-have : 2 ^ n ≤ l → reaches (suc n) v f l h ≡ may 1 n v f && reaches n (v % 2 ^ n) (f % 2 ^ n) (l - 2 ^ n) (h - 2 ^ n)
+  pub both_have : 2 ^ n ≤ l → reaches (suc n) v f l h ≡ may 1 n v f && reaches n (v % 2 ^ n) (f % 2 ^ n) (l - 2 ^ n) (h - 2 ^ n)
   unfolding reaches
-  both-have le = rw (reaches, le-leb (2 ^ n) l le)
+  both_have le = rw (reaches, le-leb (2 ^ n) l le)
 
-  pub neither-has : l < 2 ^ n → h < 2 ^ n → reaches (suc n) v f l h ≡ may 0 n v f && reaches n (v % 2 ^ n) (f % 2 ^ n) l h
+  pub neither_has : l < 2 ^ n → h < 2 ^ n → reaches (suc n) v f l h ≡ may 0 n v f && reaches n (v % 2 ^ n) (f % 2 ^ n) l h
   unfolding reaches
-  neither-has lt lt' = rw (reaches, lt-leb (2 ^ n) l lt, lt-ltb h (2 ^ n) lt')
+  neither_has lt lt' = rw (reaches, lt-leb (2 ^ n) l lt, lt-ltb h (2 ^ n) lt')
 
   pub one_has : l < 2 ^ n → 2 ^ n ≤ h → reaches (suc n) v f l h ≡ either_way (may 0 n v f) (may 1 n v f) (v % 2 ^ n) (f % 2 ^ n) l (h - 2 ^ n)
   unfolding reaches

@@ -4,11 +4,11 @@ use Rattle.std.specs.Prelude.{ℕ, zero, suc, ◌+◌, ◌<◌, ◌≡◌, refl,
 use Rattle.std.proofs.Common.{sym, ap, ◌∙◌, arith, add-one}
 use Rattle.std.proofs.lemmas.Bool.{false≢true}
 use Rattle.rules.specs.Text.Tokens.{Kind, tk, same, Name, Masked, Becomes}
-use Rattle.rules.specs.Grammar.Trees.{Tokens, Action, block, labelled, if-then, decode, repeat, leave, restart, activate, stop, no-op, transfer, actionTokens, Members, end, also, next, membersTokens, Alternatives, counted, selected, alternativesTokens, Counted, counted-end, counted-more, countedTokens, Selected, select, otherwise, selectedTokens, SelectedMore, selected-end, selected-more, selectedMoreTokens, Meaning, body, mapped, meaningTokens, Given, carrier, given, givenTokens, Form, words, with-bits, bare-body, formTokens, Declaration, plain, main, declarationTokens, Heading, no-heading, heading, headingTokens, Declarations, declared-all, declared-also, declarationsTokens, Description, description, flatten}
+use Rattle.rules.specs.Grammar.Trees.{Tokens, Action, block, labelled, if_then, decode, repeat, leave, restart, activate, stop, no_op, transfer, action_tokens, Members, end, also, next, members_tokens, Alternatives, counted, selected, alternatives_tokens, Counted, counted_end, counted_more, counted_tokens, Selected, select, otherwise, selected_tokens, SelectedMore, selected_end, selected_more, selected_more_tokens, Meaning, body, mapped, meaning_tokens, Given, carrier, given, given_tokens, Form, words, with_bits, bare_body, form_tokens, Declaration, plain, main, declaration_tokens, Heading, no_heading, heading, heading_tokens, Declarations, declared_all, declared_also, declarations_tokens, Description, description, flatten}
 use Rattle.trees.specs.Written.{nothing, token, then, level}
-use Rattle.trees.specs.Expressions.{Expressed, expression-equal, bits-end-written, access-written, joined-written, expression-written, own-bits-written, main-bits-written}
-use Rattle.trees.specs.Selectors.{Chosen, choosing-equal, selector-written}
-use Rattle.records.specs.Holds.{tokenAt}
+use Rattle.trees.specs.Expressions.{Expressed, expression_equal, bits_end_written, access_written, joined_written, expression_written, own_bits_written, main_bits_written}
+use Rattle.trees.specs.Selectors.{Chosen, choosing_equal, selector_written}
+use Rattle.records.specs.Holds.{token_at}
 
 abbrev Nameless : Tokens → Type 0
 Nameless [] = Unit {0}
@@ -28,88 +28,88 @@ on n b = (other Masked n refl, b)
 
 expressed : {m n : ℕ} {f : Tokens → Tokens} → Expressed level level level m f n → (ts : Tokens) → Apart ts → Apart (f ts)
 expressed nothing ts h = h
-expressed (token s i w) ts h = on (expression-equal (λ k. same k Masked) (λ k. false) refl s) (expressed w ts h)
+expressed (token s i w) ts h = on (expression_equal (λ k. same k Masked) (λ k. false) refl s) (expressed w ts h)
 
 -- the tokens of a selector are no names, and none stands behind them
 chosen : {m n : ℕ} {f : Tokens → Tokens} → Chosen level m f n → (ts : Tokens) → Nameless ts → Apart ts → Nameless (f ts) × Apart (f ts)
 chosen nothing ts n h = (n, h)
 chosen (token s i w) ts n h =
-    let b = chosen w ts n h in (other Name (choosing-equal (λ k. same k Name) (λ k. false) refl refl s) refl, ((λ e. b.0), b.1))
+    let b = chosen w ts n h in (other Name (choosing_equal (λ k. same k Name) (λ k. false) refl refl s) refl, ((λ e. b.0), b.1))
 
 mutual
-  action-apart : (a : Action) (ts : Tokens) → Apart ts → Apart (actionTokens a ts)
-  action-apart (block b a m) ts h = on refl (action-apart a _ (members-apart m ts h))
-  action-apart (labelled n b a) ts h = on refl (on refl (action-apart a ts h))
-  action-apart (if-then i o t w a) ts h = on refl (expressed (expression-written o t 0) _ (on refl (action-apart a ts h)))
-  action-apart (decode i o t w b v) ts h =
-      on refl (expressed (expression-written o t 0) _ (on refl (on refl (alternatives-apart v ts h))))
-  action-apart (repeat i a) ts h = on refl (action-apart a ts h)
-  action-apart (leave i n) ts h = on refl (on refl h)
-  action-apart (restart i n) ts h = on refl (on refl h)
-  action-apart (activate n l r) ts h = on refl (on refl (on refl h))
-  action-apart (stop i l r) ts h = on refl (on refl (on refl h))
-  action-apart (no-op i l r) ts h = on refl (on refl (on refl h))
-  action-apart (transfer n s b j q o t) ts h =
-      on refl (expressed (then (access-written s b 0) (joined-written j 0)) _ (on refl (expressed (expression-written o t 0) ts h)))
+  action_apart : (a : Action) (ts : Tokens) → Apart ts → Apart (action_tokens a ts)
+  action_apart (block b a m) ts h = on refl (action_apart a _ (members_apart m ts h))
+  action_apart (labelled n b a) ts h = on refl (on refl (action_apart a ts h))
+  action_apart (if_then i o t w a) ts h = on refl (expressed (expression_written o t 0) _ (on refl (action_apart a ts h)))
+  action_apart (decode i o t w b v) ts h =
+      on refl (expressed (expression_written o t 0) _ (on refl (on refl (alternatives_apart v ts h))))
+  action_apart (repeat i a) ts h = on refl (action_apart a ts h)
+  action_apart (leave i n) ts h = on refl (on refl h)
+  action_apart (restart i n) ts h = on refl (on refl h)
+  action_apart (activate n l r) ts h = on refl (on refl (on refl h))
+  action_apart (stop i l r) ts h = on refl (on refl (on refl h))
+  action_apart (no_op i l r) ts h = on refl (on refl (on refl h))
+  action_apart (transfer n s b j q o t) ts h =
+      on refl (expressed (then (access_written s b 0) (joined_written j 0)) _ (on refl (expressed (expression_written o t 0) ts h)))
 
-  members-apart : (m : Members) (ts : Tokens) → Apart ts → Apart (membersTokens m ts)
-  members-apart (end i) ts h = on refl h
-  members-apart (also i a m) ts h = on refl (action-apart a _ (members-apart m ts h))
-  members-apart (next i a m) ts h = on refl (action-apart a _ (members-apart m ts h))
+  members_apart : (m : Members) (ts : Tokens) → Apart ts → Apart (members_tokens m ts)
+  members_apart (end i) ts h = on refl h
+  members_apart (also i a m) ts h = on refl (action_apart a _ (members_apart m ts h))
+  members_apart (next i a m) ts h = on refl (action_apart a _ (members_apart m ts h))
 
-  alternatives-apart : (v : Alternatives) (ts : Tokens) → Apart ts → Apart (alternativesTokens v ts)
-  alternatives-apart (counted a c) ts h = action-apart a _ (counted-apart c ts h)
-  alternatives-apart (selected s) ts h = selected-apart s ts h
+  alternatives_apart : (v : Alternatives) (ts : Tokens) → Apart ts → Apart (alternatives_tokens v ts)
+  alternatives_apart (counted a c) ts h = action_apart a _ (counted_apart c ts h)
+  alternatives_apart (selected s) ts h = selected_apart s ts h
 
-  counted-apart : (c : Counted) (ts : Tokens) → Apart ts → Apart (countedTokens c ts)
-  counted-apart (counted-end i) ts h = on refl h
-  counted-apart (counted-more i a c) ts h = on refl (action-apart a _ (counted-apart c ts h))
+  counted_apart : (c : Counted) (ts : Tokens) → Apart ts → Apart (counted_tokens c ts)
+  counted_apart (counted_end i) ts h = on refl h
+  counted_apart (counted_more i a c) ts h = on refl (action_apart a _ (counted_apart c ts h))
 
-  selected-apart : (s : Selected) (ts : Tokens) → Apart ts → Apart (selectedTokens s ts)
-  selected-apart (select s b a m) ts h =
-      (chosen (selector-written s 0) (tk Becomes b ∷ actionTokens a (selectedMoreTokens m ts)) (other Name refl refl) (on refl (action-apart a _ (more-apart m ts h)))).1
-  selected-apart (otherwise i b a q) ts h = on refl (on refl (action-apart a _ (on refl h)))
+  selected_apart : (s : Selected) (ts : Tokens) → Apart ts → Apart (selected_tokens s ts)
+  selected_apart (select s b a m) ts h =
+      (chosen (selector_written s 0) (tk Becomes b ∷ action_tokens a (selected_more_tokens m ts)) (other Name refl refl) (on refl (action_apart a _ (more_apart m ts h)))).1
+  selected_apart (otherwise i b a q) ts h = on refl (on refl (action_apart a _ (on refl h)))
 
-  more-apart : (m : SelectedMore) (ts : Tokens) → Apart ts → Apart (selectedMoreTokens m ts)
-  more-apart (selected-end i) ts h = on refl h
-  more-apart (selected-more i s) ts h = on refl (selected-apart s ts h)
+  more_apart : (m : SelectedMore) (ts : Tokens) → Apart ts → Apart (selected_more_tokens m ts)
+  more_apart (selected_end i) ts h = on refl h
+  more_apart (selected_more i s) ts h = on refl (selected_apart s ts h)
 
-meaning-apart : (m : Meaning) (ts : Tokens) → Apart ts → Apart (meaningTokens m ts)
-meaning-apart (body b a m) ts h = on refl (action-apart a _ (members-apart m ts h))
-meaning-apart (mapped n l c e) ts h = on refl (on refl (on refl (expressed (bits-end-written e 0) ts h)))
+meaning_apart : (m : Meaning) (ts : Tokens) → Apart ts → Apart (meaning_tokens m ts)
+meaning_apart (body b a m) ts h = on refl (action_apart a _ (members_apart m ts h))
+meaning_apart (mapped n l c e) ts h = on refl (on refl (on refl (expressed (bits_end_written e 0) ts h)))
 
-given-apart : (g : Given) (ts : Tokens) → Apart ts → Apart (givenTokens g ts)
-given-apart carrier ts h = h
-given-apart (given b m) ts h = on refl (meaning-apart m ts h)
+given_apart : (g : Given) (ts : Tokens) → Apart ts → Apart (given_tokens g ts)
+given_apart carrier ts h = h
+given_apart (given b m) ts h = on refl (meaning_apart m ts h)
 
-form-apart : (f : Form) (ts : Tokens) → Apart ts → Apart (formTokens f ts)
-form-apart (words l m c n r b o) ts h =
-    on refl (on refl (on refl (on refl (on refl (on refl (expressed (own-bits-written o 0) ts h))))))
-form-apart (with-bits l o g) ts h = on refl (expressed (own-bits-written o 0) _ (given-apart g ts h))
-form-apart (bare-body q b a m) ts h = on refl (on refl (action-apart a _ (members-apart m ts h)))
+form_apart : (f : Form) (ts : Tokens) → Apart ts → Apart (form_tokens f ts)
+form_apart (words l m c n r b o) ts h =
+    on refl (on refl (on refl (on refl (on refl (on refl (expressed (own_bits_written o 0) ts h))))))
+form_apart (with_bits l o g) ts h = on refl (expressed (own_bits_written o 0) _ (given_apart g ts h))
+form_apart (bare_body q b a m) ts h = on refl (on refl (action_apart a _ (members_apart m ts h)))
 
-declaration-apart : (d : Declaration) (ts : Tokens) → Apart ts → Apart (declarationTokens d ts)
-declaration-apart (plain n f) ts h = on refl (form-apart f ts h)
-declaration-apart (main i n o q b a m) ts h =
-    on refl (on refl (expressed (main-bits-written o 0) _ (on refl (on refl (action-apart a _ (members-apart m ts h))))))
+declaration_apart : (d : Declaration) (ts : Tokens) → Apart ts → Apart (declaration_tokens d ts)
+declaration_apart (plain n f) ts h = on refl (form_apart f ts h)
+declaration_apart (main i n o q b a m) ts h =
+    on refl (on refl (expressed (main_bits_written o 0) _ (on refl (on refl (action_apart a _ (members_apart m ts h))))))
 
-heading-apart : (g : Heading) (ts : Tokens) → Apart ts → Apart (headingTokens g ts)
-heading-apart no-heading ts h = h
-heading-apart (heading l n r) ts h = on refl (on refl (on refl h))
+heading_apart : (g : Heading) (ts : Tokens) → Apart ts → Apart (heading_tokens g ts)
+heading_apart no_heading ts h = h
+heading_apart (heading l n r) ts h = on refl (on refl (on refl h))
 
-declarations-apart : (ds : Declarations) (ts : Tokens) → Apart ts → Apart (declarationsTokens ds ts)
-declarations-apart (declared-all q) ts h = on refl h
-declarations-apart (declared-also c g d ds) ts h = on refl (heading-apart g _ (declaration-apart d _ (declarations-apart ds ts h)))
+declarations_apart : (ds : Declarations) (ts : Tokens) → Apart ts → Apart (declarations_tokens ds ts)
+declarations_apart (declared_all q) ts h = on refl h
+declarations_apart (declared_also c g d ds) ts h = on refl (heading_apart g _ (declaration_apart d _ (declarations_apart ds ts h)))
 
-description-apart : (d : Description) → Apart (flatten d)
-description-apart (description n q b g d ds) =
-    on refl (on refl (on refl (heading-apart g _ (declaration-apart d _ (declarations-apart ds [] tt)))))
+description_apart : (d : Description) → Apart (flatten d)
+description_apart (description n q b g d ds) =
+    on refl (on refl (on refl (heading_apart g _ (declaration_apart d _ (declarations_apart ds [] tt)))))
 
-apart-at : (ts : Tokens) (j : ℕ) → Apart ts → suc j < length ts → (tokenAt ts j).kind ≡ Masked → (tokenAt ts (suc j)).kind ≡ Name → ⊥
-apart-at [] j h l e f = omega arith
-apart-at (t ∷ []) zero h l e f = omega arith
-apart-at (t ∷ u ∷ ts) zero h l e f = h.0 e f
-apart-at (t ∷ ts) (suc j) h l e f = apart-at ts j h.1 (omega arith) e f
+apart_at : (ts : Tokens) (j : ℕ) → Apart ts → suc j < length ts → (token_at ts j).kind ≡ Masked → (token_at ts (suc j)).kind ≡ Name → ⊥
+apart_at [] j h l e f = omega arith
+apart_at (t ∷ []) zero h l e f = omega arith
+apart_at (t ∷ u ∷ ts) zero h l e f = h.0 e f
+apart_at (t ∷ ts) (suc j) h l e f = apart_at ts j h.1 (omega arith) e f
 
-pub masked-apart : (d : Description) (ts : Tokens) → flatten d ≡ ts → (j : ℕ) → j + 1 < length ts → (tokenAt ts j).kind ≡ Masked → (tokenAt ts (j + 1)).kind ≡ Name → ⊥
-masked-apart d ts q j l e f = apart-at ts j (rw (← q) (description-apart d)) (omega arith) e (rw add-one at f)
+pub masked_apart : (d : Description) (ts : Tokens) → flatten d ≡ ts → (j : ℕ) → j + 1 < length ts → (token_at ts j).kind ≡ Masked → (token_at ts (j + 1)).kind ≡ Name → ⊥
+masked_apart d ts q j l e f = apart_at ts j (rw (← q) (description_apart d)) (omega arith) e (rw add-one at f)

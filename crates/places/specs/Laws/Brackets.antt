@@ -7,53 +7,53 @@ use Rattle.std.proofs.Common.{ap, ◌∙◌}
 use native.Mathlib.Omega.{arith}
 use Rattle.std.proofs.Math.Numerals.{add-one}
 use borrow.Author.Tests.{eq-eqb, ne_eqb}
-use Rattle.rules.specs.Text.Tokens.{kindNo, Info, Token, tk, RBra, LBra}
-use Rattle.rules.specs.Grammar.Trees.{Tokens, Operand, operandTokens, Tail, tailTokens}
+use Rattle.rules.specs.Text.Tokens.{kind_no, Info, Token, tk, RBra, LBra}
+use Rattle.rules.specs.Grammar.Trees.{Tokens, Operand, operand_tokens, Tail, tail_tokens}
 use Rattle.trees.specs.Written.{level}
-use Rattle.trees.specs.Expressions.{Expressed, passes, expression-written}
+use Rattle.trees.specs.Expressions.{Expressed, passes, expression_written}
 use Rattle.places.specs.Brackets.{past, opened, down}
 
 pub past_all : (d : ℕ) → past d [] ≡ []
 unfolding past
 past_all d = refl
 
-pub past-none : (d : ℕ) (ts : Tokens) → d ≡ 0 → past d ts ≡ ts
+pub past_none : (d : ℕ) (ts : Tokens) → d ≡ 0 → past d ts ≡ ts
 unfolding past
-past-none d [] e = refl
-past-none d (t ∷ ts) e = ap (λ x. past x (t ∷ ts)) e
+past_none d [] e = refl
+past_none d (t ∷ ts) e = ap (λ x. past x (t ∷ ts)) e
 
-pub past_one : (d : ℕ) (t : Token) (ts : Tokens) → (d ≡ 0 → ⊥) → past d (t ∷ ts) ≡ past (opened d (kindNo t.kind)) ts
+pub past_one : (d : ℕ) (t : Token) (ts : Tokens) → (d ≡ 0 → ⊥) → past d (t ∷ ts) ≡ past (opened d (kind_no t.kind)) ts
 unfolding past
 past_one zero t ts n = absurd (n refl)
 past_one (suc d) t ts n = refl
 
 -- the arms of the function that counts
 module _ (d k : ℕ) where
-  pub opened-more : k ≡ kindNo LBra → d + 1 ≡ opened d k
+  pub opened_more : k ≡ kind_no LBra → d + 1 ≡ opened d k
   unfolding opened
-  opened-more e = add-one d ∙ sym (rw (eq-eqb k 5 e, opened))
+  opened_more e = add-one d ∙ sym (rw (eq-eqb k 5 e, opened))
 
-  pub opened-none : (k ≡ kindNo LBra → ⊥) → k ≡ kindNo RBra → d ≡ 0 → 0 ≡ opened d k
+  pub opened_none : (k ≡ kind_no LBra → ⊥) → k ≡ kind_no RBra → d ≡ 0 → 0 ≡ opened d k
   unfolding opened
-  opened-none n e z = sym (rw (ne_eqb k 5 n, eq-eqb k 6 e, opened) (ap down z))
+  opened_none n e z = sym (rw (ne_eqb k 5 n, eq-eqb k 6 e, opened) (ap down z))
 
-  pub opened-fewer : (k ≡ kindNo LBra → ⊥) → k ≡ kindNo RBra → (d ≡ 0 → ⊥) → d - 1 ≡ opened d k
+  pub opened_fewer : (k ≡ kind_no LBra → ⊥) → k ≡ kind_no RBra → (d ≡ 0 → ⊥) → d - 1 ≡ opened d k
   unfolding opened
-  opened-fewer n e z = below d z ∙ sym (rw (ne_eqb k 5 n, eq-eqb k 6 e, opened))
+  opened_fewer n e z = below d z ∙ sym (rw (ne_eqb k 5 n, eq-eqb k 6 e, opened))
     where
       below : (d : ℕ) → (d ≡ 0 → ⊥) → d - 1 ≡ down d
       below zero z = absurd (z refl)
       below (suc d) z = omega arith
 
-  pub opened-same : (k ≡ kindNo LBra → ⊥) → (k ≡ kindNo RBra → ⊥) → d ≡ opened d k
+  pub opened_same : (k ≡ kind_no LBra → ⊥) → (k ≡ kind_no RBra → ⊥) → d ≡ opened d k
   unfolding opened
-  opened-same n e = sym (rw (ne_eqb k 5 n, ne_eqb k 6 e, opened))
+  opened_same n e = sym (rw (ne_eqb k 5 n, ne_eqb k 6 e, opened))
 
-past-inside : {m n : ℕ} {f : Tokens → Tokens} → Expressed level level suc m f n → (ts : Tokens) → past (suc m) (f ts) ≡ past (suc n) ts
+past_inside : {m n : ℕ} {f : Tokens → Tokens} → Expressed level level suc m f n → (ts : Tokens) → past (suc m) (f ts) ≡ past (suc n) ts
 unfolding past opened
-past-inside = passes (λ m. past (suc m)) level level suc refl
+past_inside = passes (λ m. past (suc m)) level level suc refl
 
 -- behind the `[` of a subscript one comes to what follows its `]`
-pub past_index : (o : Operand) (t : Tail) (r : Info) (ts : Tokens) → past 1 (operandTokens o (tailTokens t (tk RBra r ∷ ts))) ≡ ts
+pub past_index : (o : Operand) (t : Tail) (r : Info) (ts : Tokens) → past 1 (operand_tokens o (tail_tokens t (tk RBra r ∷ ts))) ≡ ts
 unfolding past opened
-past_index o t r ts = past-inside (expression-written o t 0) (tk RBra r ∷ ts) ∙ past-none 0 ts refl
+past_index o t r ts = past_inside (expression_written o t 0) (tk RBra r ∷ ts) ∙ past_none 0 ts refl

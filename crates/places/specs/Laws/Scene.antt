@@ -7,47 +7,47 @@ use Rattle.std.proofs.Math.Option.{some}
 use Rattle.std.proofs.Math.ListN.{get_elem?}
 use Rattle.cells.specs.Cells.{cell}
 use Rattle.rules.specs.Text.Tokens.{Name, Info, Token, tk}
-use Rattle.rules.specs.Text.Scan.{sameBytes}
-use Rattle.rules.specs.Declarations.{Declared, Table, declaredOf, number_of}
+use Rattle.rules.specs.Text.Scan.{same_bytes}
+use Rattle.rules.specs.Declarations.{Declared, Table, declared_of, number_of}
 use Rattle.laws_accepted.specs.Accepted.Named.{found}
 use Rattle.laws_accepted.specs.Cited.Declared.{Declares}
 use Rattle.laws_accepted.specs.Accepted.Declared.{declares}
-use Rattle.records.specs.Holds.{tokenAt, insideCell}
-use Rattle.table.specs.Ready.{outerOf, table_of, Scene}
+use Rattle.records.specs.Holds.{token_at, inside_cell}
+use Rattle.table.specs.Ready.{outer_of, table_of, Scene}
 use Rattle.table.specs.Views.{View}
-use Rattle.table.specs.Meaning.{meaningBy, meaningOf}
-use Rattle.table.specs.Laws.Kth.{table-length, kth-room, kth-view}
-use Rattle.table.specs.Kth.{kth, kth-found}
+use Rattle.table.specs.Meaning.{meaning_by, meaning_of}
+use Rattle.table.specs.Laws.Kth.{table_length, kth_room, kth_view}
+use Rattle.table.specs.Kth.{kth, kth_found}
 
-there-below : (ds : Table) (k : ℕ) (d : Declared) → get_elem? ds k ≡ some d → k < length ds
-there-below [] k d e = absurd (let z : ◌≡◌ {A = ℕ} 0 1 = cc in omega arith)
-there-below (x ∷ ds) zero d e = omega arith
-there-below (x ∷ ds) (suc k) d e = omega (arith, there-below ds k d e)
+there_below : (ds : Table) (k : ℕ) (d : Declared) → get_elem? ds k ≡ some d → k < length ds
+there_below [] k d e = absurd (let z : ◌≡◌ {A = ℕ} 0 1 = cc in omega arith)
+there_below (x ∷ ds) zero d e = omega arith
+there_below (x ∷ ds) (suc k) d e = omega (arith, there_below ds k d e)
 
 module _ {records values decls : List ℕ} {m : ℕ} (s : Scene records values decls m) where
-  pub lawful : Declares (outerOf s) (table_of s)
+  pub lawful : Declares (outer_of s) (table_of s)
   lawful = declares s.description s.ready.lawful
 
   -- the declaration of the number k, and where its name stands
   module _ {k : ℕ} (l : k < m) where
-    abbrev pub declared-here : Declared
-    declared-here = declaredOf (kth s.ready l).declaration
+    abbrev pub declared_here : Declared
+    declared_here = declared_of (kth s.ready l).declaration
 
-    pub listed_here : get_elem? (table_of s) k ≡ some declared-here
-    listed_here = kth-found s.ready l
+    pub listed_here : get_elem? (table_of s) k ≡ some declared_here
+    listed_here = kth_found s.ready l
 
     pub cell_room : 2 * k + 2 ≤ length decls
-    cell_room = kth-room s.ready l
+    cell_room = kth_room s.ready l
 
-    abbrev pub view-here : {p : ℕ} → p ≡ cell 2 decls k → View records values p
-    view-here e = kth-view s.ready l e
+    abbrev pub view_here : {p : ℕ} → p ≡ cell 2 decls k → View records values p
+    view_here e = kth_view s.ready l e
 
   -- the cell of a name has the number of its declaration
-  pub numbered : (i : ℕ) (x : Info) (k : ℕ) → i < length s.tokens → tokenAt s.tokens i ≡ tk Name x → number_of (table_of s) x.word ≡ some k
-      → (insideCell records i ≡ k) × (k < m)
-  unfolding meaningOf
+  pub numbered : (i : ℕ) (x : Info) (k : ℕ) → i < length s.tokens → token_at s.tokens i ≡ tk Name x → number_of (table_of s) x.word ≡ some k
+      → (inside_cell records i ≡ k) × (k < m)
+  unfolding meaning_of
   numbered i x k h e q =
-      let means : insideCell records i ≡ meaningOf (outerOf s) (table_of s) x.word
-      = s.ready.means.means i h (ap (λ (t : Token). t.kind) e) ∙ ap (λ (t : Token). meaningOf (outerOf s) (table_of s) t.info.word) e in
+      let means : inside_cell records i ≡ meaning_of (outer_of s) (table_of s) x.word
+      = s.ready.means.means i h (ap (λ (t : Token). t.kind) e) ∙ ap (λ (t : Token). meaning_of (outer_of s) (table_of s) t.info.word) e in
       let f = found (table_of s) x.word k q in
-      (means ∙ ap (λ n. meaningBy n (sameBytes (outerOf s) x.word)) q, omega (arith, there-below (table_of s) k f.declared f.there, table-length s.ready))
+      (means ∙ ap (λ n. meaning_by n (same_bytes (outer_of s) x.word)) q, omega (arith, there_below (table_of s) k f.declared f.there, table_length s.ready))

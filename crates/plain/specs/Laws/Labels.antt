@@ -4,35 +4,35 @@ use Rattle.std.specs.Prelude.{ℕ, ◌≡◌, refl, Bool, true, false, ◌&&◌,
 use Rattle.std.proofs.Common.{ap, ◌∙◌}
 use Rattle.std.proofs.Math.Bool.{and-false}
 use Rattle.rules.specs.Text.Tokens.{Kind, Info, Token, tk, same, Name, LPar, RPar, Becomes, Equals, Arrow, BEGIN, END}
-use Rattle.rules.specs.Grammar.Trees.{Tokens, Bits, Operand, operandTokens, Tail, tailTokens, Subscript, Joined}
-use Rattle.rules.specs.Grammar.Trees.{Action, block, labelled, if-then, decode, repeat, leave, restart, activate, stop, no-op, transfer, actionTokens, Members, end, also, next, membersTokens}
-use Rattle.rules.specs.Grammar.Trees.{Alternatives, counted, selected, alternativesTokens, Counted, counted-end, counted-more, countedTokens}
-use Rattle.rules.specs.Grammar.Trees.{Selected, select, otherwise, selectedTokens, SelectedMore, selected-end, selected-more, selectedMoreTokens}
+use Rattle.rules.specs.Grammar.Trees.{Tokens, Bits, Operand, operand_tokens, Tail, tail_tokens, Subscript, Joined}
+use Rattle.rules.specs.Grammar.Trees.{Action, block, labelled, if_then, decode, repeat, leave, restart, activate, stop, no_op, transfer, action_tokens, Members, end, also, next, members_tokens}
+use Rattle.rules.specs.Grammar.Trees.{Alternatives, counted, selected, alternatives_tokens, Counted, counted_end, counted_more, counted_tokens}
+use Rattle.rules.specs.Grammar.Trees.{Selected, select, otherwise, selected_tokens, SelectedMore, selected_end, selected_more, selected_more_tokens}
 use Rattle.trees.specs.Written.{nothing, token, level}
-use Rattle.trees.specs.Expressions.{Expressed, expression-equal, access-written, joined-written, expression-written}
-use Rattle.trees.specs.Selectors.{Chosen, chosen-passes, selector-written}
-use Rattle.rules.specs.Faults.Bodies.{labels, memberLabels, alternativeLabels, countedLabels, selectedLabels, moreLabels}
+use Rattle.trees.specs.Expressions.{Expressed, expression_equal, access_written, joined_written, expression_written}
+use Rattle.trees.specs.Selectors.{Chosen, chosen_passes, selector_written}
+use Rattle.rules.specs.Faults.Bodies.{labels, member_labels, alternative_labels, counted_labels, selected_labels, more_labels}
 
 -- whether `:=` is the first token
-abbrev pub startsBecomes : Tokens → Bool
-startsBecomes [] = false
-startsBecomes (t ∷ ts) = same t.kind Becomes
+abbrev pub starts_becomes : Tokens → Bool
+starts_becomes [] = false
+starts_becomes (t ∷ ts) = same t.kind Becomes
 
-abbrev pub isLabel : Token → Tokens → Bool
-isLabel t ts = same t.kind Name && startsBecomes ts
+abbrev pub is_label : Token → Tokens → Bool
+is_label t ts = same t.kind Name && starts_becomes ts
 
-abbrev pub withLabel : Bool → Info → List Info → List Info
-withLabel true i ls = i ∷ ls
-withLabel false i ls = ls
+abbrev pub with_label : Bool → Info → List Info → List Info
+with_label true i ls = i ∷ ls
+with_label false i ls = ls
 
-unfoldable pub labelsIn : Tokens → List Info
-labelsIn [] = []
-labelsIn (t ∷ ts) = withLabel (isLabel t ts) t.info (labelsIn ts)
+unfoldable pub labels_in : Tokens → List Info
+labels_in [] = []
+labels_in (t ∷ ts) = with_label (is_label t ts) t.info (labels_in ts)
 
 -- f writes no label, and begins with no `:=`; what follows begins with none either
 record Plain (f : Tokens → Tokens) : Type 0 where
-  passes : (ts : Tokens) → startsBecomes ts ≡ false → labelsIn (f ts) ≡ labelsIn ts
-  starts : (ts : Tokens) → startsBecomes ts ≡ false → startsBecomes (f ts) ≡ false
+  passes : (ts : Tokens) → starts_becomes ts ≡ false → labels_in (f ts) ≡ labels_in ts
+  starts : (ts : Tokens) → starts_becomes ts ≡ false → starts_becomes (f ts) ≡ false
 
 empty : Plain (λ ts. ts)
 empty = record { passes = λ ts h. refl; starts = λ ts h. h }
@@ -45,84 +45,84 @@ then {f} {g} p q = record {
 
 -- a name is a label in front of `:=` only
 mark : (k : Kind) (i : Info) → same k Becomes ≡ false → {g : Tokens → Tokens} → Plain g → Plain (λ ts. tk k i ∷ g ts)
-unfolding labelsIn
+unfolding labels_in
 mark k i b {g} q = record {
   passes = λ ts h.
-      ap (λ x. withLabel (same k Name && x) i (labelsIn (g ts))) (q.starts ts h)
-      ∙ (ap (λ x. withLabel x i (labelsIn (g ts))) (and-false (same k Name)) ∙ q.passes ts h);
+      ap (λ x. with_label (same k Name && x) i (labels_in (g ts))) (q.starts ts h)
+      ∙ (ap (λ x. with_label x i (labels_in (g ts))) (and-false (same k Name)) ∙ q.passes ts h);
   starts = λ ts h. b;
 }
 
 expressed : {m n : ℕ} {f : Tokens → Tokens} → Expressed level level level m f n → Plain f
 expressed nothing = empty
-expressed (token {k = k} s i w) = mark k i (expression-equal (λ k. same k Becomes) (λ k. false) refl s) (expressed w)
+expressed (token {k = k} s i w) = mark k i (expression_equal (λ k. same k Becomes) (λ k. false) refl s) (expressed w)
 
 -- the tokens of a selector are no names, so `:=` may follow
-nameless : {m n : ℕ} {f : Tokens → Tokens} → Chosen level m f n → (ts : Tokens) → labelsIn (f ts) ≡ labelsIn ts
-unfolding labelsIn
-nameless = chosen-passes (λ m. labelsIn) level refl
+nameless : {m n : ℕ} {f : Tokens → Tokens} → Chosen level m f n → (ts : Tokens) → labels_in (f ts) ≡ labels_in ts
+unfolding labels_in
+nameless = chosen_passes (λ m. labels_in) level refl
 
 -- THE LABELS OF A TREE
-members-starts : (m : Members) (ts : Tokens) → startsBecomes (membersTokens m ts) ≡ false
-members-starts (end i) ts = refl
-members-starts (also i a m) ts = refl
-members-starts (next i a m) ts = refl
+members_starts : (m : Members) (ts : Tokens) → starts_becomes (members_tokens m ts) ≡ false
+members_starts (end i) ts = refl
+members_starts (also i a m) ts = refl
+members_starts (next i a m) ts = refl
 
-counted-starts : (c : Counted) (ts : Tokens) → startsBecomes (countedTokens c ts) ≡ false
-counted-starts (counted-end i) ts = refl
-counted-starts (counted-more i a c) ts = refl
+counted_starts : (c : Counted) (ts : Tokens) → starts_becomes (counted_tokens c ts) ≡ false
+counted_starts (counted_end i) ts = refl
+counted_starts (counted_more i a c) ts = refl
 
-more-starts : (m : SelectedMore) (ts : Tokens) → startsBecomes (selectedMoreTokens m ts) ≡ false
-more-starts (selected-end i) ts = refl
-more-starts (selected-more i s) ts = refl
+more_starts : (m : SelectedMore) (ts : Tokens) → starts_becomes (selected_more_tokens m ts) ≡ false
+more_starts (selected_end i) ts = refl
+more_starts (selected_more i s) ts = refl
 
-expression-plain : (o : Operand) (t : Tail) → Plain (λ ts. operandTokens o (tailTokens t ts))
-expression-plain o t = expressed (expression-written o t 0)
+expression_plain : (o : Operand) (t : Tail) → Plain (λ ts. operand_tokens o (tail_tokens t ts))
+expression_plain o t = expressed (expression_written o t 0)
 
-transfer-plain : (n : Info) (s : Subscript) (b : Bits) (j : Joined) (e : Info) (o : Operand) (t : Tail) → Plain (actionTokens (transfer n s b j e o t))
-transfer-plain n s b j e o t =
-    mark Name n refl (then (expressed (access-written s b 0)) (then (expressed (joined-written j 0)) (mark Equals e refl (expression-plain o t))))
+transfer_plain : (n : Info) (s : Subscript) (b : Bits) (j : Joined) (e : Info) (o : Operand) (t : Tail) → Plain (action_tokens (transfer n s b j e o t))
+transfer_plain n s b j e o t =
+    mark Name n refl (then (expressed (access_written s b 0)) (then (expressed (joined_written j 0)) (mark Equals e refl (expression_plain o t))))
 
-call-plain : (n l r : Info) → Plain (actionTokens (activate n l r))
-call-plain n l r = mark Name n refl (mark LPar l refl (mark RPar r refl empty))
+call_plain : (n l r : Info) → Plain (action_tokens (activate n l r))
+call_plain n l r = mark Name n refl (mark LPar l refl (mark RPar r refl empty))
 
 mutual
-  unfolding labelsIn labels
+  unfolding labels_in labels
 
-  pub action-labels : (a : Action) (ts : Tokens) → startsBecomes ts ≡ false → labelsIn (actionTokens a ts) ≡ labels a (labelsIn ts)
-  action-labels (block b a m) ts h =
-      action-labels a (membersTokens m ts) (members-starts m ts) ∙ ap (labels a) (members-labels m ts h)
-  action-labels (labelled n b a) ts h = ap (λ ls. n ∷ ls) (action-labels a ts h)
-  action-labels (if-then i o t w a) ts h = (expression-plain o t).passes (tk Arrow w ∷ actionTokens a ts) refl ∙ action-labels a ts h
-  action-labels (decode i o t w b v) ts h =
-      (expression-plain o t).passes (tk Arrow w ∷ tk BEGIN b ∷ alternativesTokens v ts) refl ∙ alternatives-labels v ts h
-  action-labels (repeat i a) ts h = action-labels a ts h
-  action-labels (leave i n) ts h = (mark Name n refl empty).passes ts h
-  action-labels (restart i n) ts h = (mark Name n refl empty).passes ts h
-  action-labels (activate n l r) ts h = (call-plain n l r).passes ts h
-  action-labels (stop i l r) ts h = refl
-  action-labels (no-op i l r) ts h = refl
-  action-labels (transfer n s b j e o t) ts h = (transfer-plain n s b j e o t).passes ts h
+  pub action_labels : (a : Action) (ts : Tokens) → starts_becomes ts ≡ false → labels_in (action_tokens a ts) ≡ labels a (labels_in ts)
+  action_labels (block b a m) ts h =
+      action_labels a (members_tokens m ts) (members_starts m ts) ∙ ap (labels a) (members_labels m ts h)
+  action_labels (labelled n b a) ts h = ap (λ ls. n ∷ ls) (action_labels a ts h)
+  action_labels (if_then i o t w a) ts h = (expression_plain o t).passes (tk Arrow w ∷ action_tokens a ts) refl ∙ action_labels a ts h
+  action_labels (decode i o t w b v) ts h =
+      (expression_plain o t).passes (tk Arrow w ∷ tk BEGIN b ∷ alternatives_tokens v ts) refl ∙ alternatives_labels v ts h
+  action_labels (repeat i a) ts h = action_labels a ts h
+  action_labels (leave i n) ts h = (mark Name n refl empty).passes ts h
+  action_labels (restart i n) ts h = (mark Name n refl empty).passes ts h
+  action_labels (activate n l r) ts h = (call_plain n l r).passes ts h
+  action_labels (stop i l r) ts h = refl
+  action_labels (no_op i l r) ts h = refl
+  action_labels (transfer n s b j e o t) ts h = (transfer_plain n s b j e o t).passes ts h
 
-  members-labels : (m : Members) (ts : Tokens) → startsBecomes ts ≡ false → labelsIn (membersTokens m ts) ≡ memberLabels m (labelsIn ts)
-  members-labels (end i) ts h = refl
-  members-labels (also i a m) ts h = action-labels a (membersTokens m ts) (members-starts m ts) ∙ ap (labels a) (members-labels m ts h)
-  members-labels (next i a m) ts h = action-labels a (membersTokens m ts) (members-starts m ts) ∙ ap (labels a) (members-labels m ts h)
+  members_labels : (m : Members) (ts : Tokens) → starts_becomes ts ≡ false → labels_in (members_tokens m ts) ≡ member_labels m (labels_in ts)
+  members_labels (end i) ts h = refl
+  members_labels (also i a m) ts h = action_labels a (members_tokens m ts) (members_starts m ts) ∙ ap (labels a) (members_labels m ts h)
+  members_labels (next i a m) ts h = action_labels a (members_tokens m ts) (members_starts m ts) ∙ ap (labels a) (members_labels m ts h)
 
-  alternatives-labels : (v : Alternatives) (ts : Tokens) → startsBecomes ts ≡ false → labelsIn (alternativesTokens v ts) ≡ alternativeLabels v (labelsIn ts)
-  alternatives-labels (counted a c) ts h = action-labels a (countedTokens c ts) (counted-starts c ts) ∙ ap (labels a) (counted-labels c ts h)
-  alternatives-labels (selected s) ts h = selected-labels s ts h
+  alternatives_labels : (v : Alternatives) (ts : Tokens) → starts_becomes ts ≡ false → labels_in (alternatives_tokens v ts) ≡ alternative_labels v (labels_in ts)
+  alternatives_labels (counted a c) ts h = action_labels a (counted_tokens c ts) (counted_starts c ts) ∙ ap (labels a) (counted_labels_lem c ts h)
+  alternatives_labels (selected s) ts h = selected_labels_lem s ts h
 
-  counted-labels : (c : Counted) (ts : Tokens) → startsBecomes ts ≡ false → labelsIn (countedTokens c ts) ≡ countedLabels c (labelsIn ts)
-  counted-labels (counted-end i) ts h = refl
-  counted-labels (counted-more i a c) ts h = action-labels a (countedTokens c ts) (counted-starts c ts) ∙ ap (labels a) (counted-labels c ts h)
+  counted_labels_lem : (c : Counted) (ts : Tokens) → starts_becomes ts ≡ false → labels_in (counted_tokens c ts) ≡ counted_labels c (labels_in ts)
+  counted_labels_lem (counted_end i) ts h = refl
+  counted_labels_lem (counted_more i a c) ts h = action_labels a (counted_tokens c ts) (counted_starts c ts) ∙ ap (labels a) (counted_labels_lem c ts h)
 
-  selected-labels : (s : Selected) (ts : Tokens) → startsBecomes ts ≡ false → labelsIn (selectedTokens s ts) ≡ selectedLabels s (labelsIn ts)
-  selected-labels (select s b a m) ts h =
-      nameless (selector-written s 0) (tk Becomes b ∷ actionTokens a (selectedMoreTokens m ts))
-      ∙ action-labels a (selectedMoreTokens m ts) (more-starts m ts) ∙ ap (labels a) (more-labels m ts h)
-  selected-labels (otherwise i b a e) ts h = action-labels a (tk END e ∷ ts) refl
+  selected_labels_lem : (s : Selected) (ts : Tokens) → starts_becomes ts ≡ false → labels_in (selected_tokens s ts) ≡ selected_labels s (labels_in ts)
+  selected_labels_lem (select s b a m) ts h =
+      nameless (selector_written s 0) (tk Becomes b ∷ action_tokens a (selected_more_tokens m ts))
+      ∙ action_labels a (selected_more_tokens m ts) (more_starts m ts) ∙ ap (labels a) (more_labels_lem m ts h)
+  selected_labels_lem (otherwise i b a e) ts h = action_labels a (tk END e ∷ ts) refl
 
-  more-labels : (m : SelectedMore) (ts : Tokens) → startsBecomes ts ≡ false → labelsIn (selectedMoreTokens m ts) ≡ moreLabels m (labelsIn ts)
-  more-labels (selected-end i) ts h = refl
-  more-labels (selected-more i s) ts h = selected-labels s ts h
+  more_labels_lem : (m : SelectedMore) (ts : Tokens) → starts_becomes ts ≡ false → labels_in (selected_more_tokens m ts) ≡ more_labels m (labels_in ts)
+  more_labels_lem (selected_end i) ts h = refl
+  more_labels_lem (selected_more i s) ts h = selected_labels_lem s ts h

@@ -2,7 +2,7 @@
 use Rattle.std.specs.Prelude.{ℕ, ◌*◌, ◌≤◌, List, length}
 use Rattle.records.specs.Words.{NameAt}
 use Rattle.stacks.specs.Stacks.{Stacked, NameView}
-use Rattle.room.specs.Bodies.{indexEnd}
+use Rattle.room.specs.Bodies.{index_end}
 use Rattle.patterns.specs.Stands.{Held}
 use Rattle.accesses.specs.Scene.{Scene}
 use Rattle.plain.specs.Stage.{Stage}
@@ -16,12 +16,12 @@ module _ {text records values decls : List ℕ} (s : Stage text records values d
   held_of = record { text = text; holds = s.ready.holds; fixed = s.fixed }
 
   -- a name under those that are stacked
-  abbrev pub name-view : {room : List ℕ} {count i : ℕ} → Stacked records s.tokens room count → NameAt s.tokens i → 2 * indexEnd ≤ length room
+  abbrev pub name_view : {room : List ℕ} {count i : ℕ} → Stacked records s.tokens room count → NameAt s.tokens i → 2 * index_end ≤ length room
       → NameView records room count i
-  name-view stacked name large = record {
+  name_view stacked name large = record {
     tokens = s.tokens;
     few = s.ready.holds.few;
-    record-room = s.ready.holds.record-room;
+    record_room = s.ready.holds.record_room;
     spelled = s.spelled;
     stacked = stacked;
     name = name;

@@ -3,36 +3,36 @@
 use Rattle.std.specs.Prelude.{ℕ, ◌+◌, ◌<◌, ◌≤◌, ◌≡◌, refl, List, length, get_or}
 use Rattle.std.proofs.Common.{sym, ap, ◌∙◌, arith}
 use Rattle.std.proofs.Math.Decide.{ℕ_discrete}
-use Rattle.rules.specs.Positions.{Position, lineEnd, behind, further, origin, positionAt}
-use Rattle.positions.specs.Cursors.{cursor, positionHere, onward, Near}
-use Rattle.laws.specs.Positions.{line-ended, line-goes-on, after_one}
+use Rattle.rules.specs.Positions.{Position, line_end, behind, further, origin, position_at}
+use Rattle.positions.specs.Cursors.{cursor, position_here, onward, Near}
+use Rattle.laws.specs.Positions.{line_ended, line_goes_on, after_one}
 use Rattle.positions.specs.declared.cursors.Cursor.{Cursor}
 
 -- a cursor that has walked a text up to its offset
 pub record Walked (text : List ℕ) (c : Cursor) : Type 0 where
-  pub here : positionHere c ≡ positionAt text c.offset
+  pub here : position_here c ≡ position_at text c.offset
   pub line : c.line ≤ c.offset + 1
   pub column : c.column ≤ c.offset + 1
 
-pub walk-near : {text : List ℕ} {c : Cursor} → Walked text c → c.offset < 65536 → Near c
-walk-near w l = record { offset = l; line = w.line; column = w.column }
+pub walk_near : {text : List ℕ} {c : Cursor} → Walked text c → c.offset < 65536 → Near c
+walk_near w l = record { offset = l; line = w.line; column = w.column }
 
-pub walk-starts : (text : List ℕ) {c : Cursor} → c ≡ cursor 0 origin → Walked text c
+pub walk_starts : (text : List ℕ) {c : Cursor} → c ≡ cursor 0 origin → Walked text c
 unfolding further
-walk-starts text e = rw e (record { here = refl; line = omega arith; column = omega arith })
+walk_starts text e = rw e (record { here = refl; line = omega arith; column = omega arith })
 
 -- behind a byte no number grows by more than 1
 small : (b l : ℕ) (p : Position) → p.line ≤ l → p.column ≤ l → ((behind b p).line ≤ l + 1) × ((behind b p).column ≤ l + 1)
 small b l p x y =
-    elim (ℕ_discrete b lineEnd) [
-      | yes e ↦ rw (line-ended b p e) (omega arith, omega arith)
-      | no n ↦ rw (line-goes-on b p n) (omega arith, omega arith)
+    elim (ℕ_discrete b line_end) [
+      | yes e ↦ rw (line_ended b p e) (omega arith, omega arith)
+      | no n ↦ rw (line_goes_on b p n) (omega arith, omega arith)
     ]
 
-pub walk-goes-on : {text : List ℕ} {c d : Cursor} → Walked text c → c.offset < length text → d ≡ onward (get_or text c.offset 0) c → Walked text d
-walk-goes-on {text} {c} w l e =
+pub walk_goes_on : {text : List ℕ} {c d : Cursor} → Walked text c → c.offset < length text → d ≡ onward (get_or text c.offset 0) c → Walked text d
+walk_goes_on {text} {c} w l e =
     let byte = get_or text c.offset 0 in
-    let few = small byte (c.offset + 1) (positionHere c) w.line w.column in
+    let few = small byte (c.offset + 1) (position_here c) w.line w.column in
     rw e (record {
       here = ap (behind byte) w.here ∙ sym (after_one origin text c.offset l);
       line = few.0;

@@ -6,7 +6,7 @@ use Rattle.std.proofs.Math.Option.{some}
 use Rattle.rules.specs.Selectors.{takes}
 use Rattle.rules.specs.Declarations.{Table}
 use Rattle.laws_orders.specs.Orders.Tests.{impossible}
-use Rattle.laws_orders.specs.Cited.Flat.{Link, at, exit, Entries, no-entry, entry, Instr, ifI, decodeI, goI, callI, stopI, moveI, Code, At, pc, return, go, push, find, picked, nextM}
+use Rattle.laws_orders.specs.Cited.Flat.{Link, at, exit, Entries, no_entry, entry, Instr, if_i, decode_i, go_i, call_i, stop_i, move_i, Code, At, pc, return, go, push, find, picked, next_m}
 use Rattle.promise.specs.Reached.{Reached, EntryAt, onward, Leads}
 
 module _ (ds : Table) (C : Code) where
@@ -19,15 +19,15 @@ module _ (ds : Table) (C : Code) where
   abbrev Somewhere : At → Type 0
   Somewhere x = (n : ℕ) (σ : List ℕ) → x ≡ pc n σ → Reached ds C n × AllReached σ
 
-  at-pc : (g : ℕ) (τ : List ℕ) → Reached ds C g → AllReached τ → Somewhere (pc g τ)
-  at-pc g τ r s n σ e = let p : g ≡ n = cc in let q : τ ≡ σ = cc in (rw (← p) r, rw (← q) s)
+  at_pc : (g : ℕ) (τ : List ℕ) → Reached ds C g → AllReached τ → Somewhere (pc g τ)
+  at_pc g τ r s n σ e = let p : g ≡ n = cc in let q : τ ≡ σ = cc in (rw (← p) r, rw (← q) s)
 
   returns : (τ : List ℕ) → AllReached τ → Somewhere (return τ)
   returns [] s = λ n σ e. impossible (cc)
-  returns (g ∷ τ) s = at-pc g τ s.0 s.1
+  returns (g ∷ τ) s = at_pc g τ s.0 s.1
 
   goes : (k : Link) (τ : List ℕ) → ((g : ℕ) → k ≡ at g → Reached ds C g) → AllReached τ → Somewhere (go k τ)
-  goes (at g) τ r s = at-pc g τ (r g refl) s
+  goes (at g) τ r s = at_pc g τ (r g refl) s
   goes exit τ r s = returns τ s
 
   pushes : (k : Link) (τ : List ℕ) → ((g : ℕ) → k ≡ at g → Reached ds C g) → AllReached τ → AllReached (push k τ)
@@ -36,22 +36,22 @@ module _ (ds : Table) (C : Code) where
 
   picks : (p : ℕ) (t : Entries) (v : ℕ) (τ : List ℕ) → ((g : ℕ) → EntryAt t g → Reached ds C g) → AllReached τ → Somewhere (picked p τ (find t v))
   unfolding find
-  picks p no-entry v τ r s = λ n σ e. impossible (cc)
+  picks p no_entry v τ r s = λ n σ e. impossible (cc)
   picks p (entry c f t) v τ r s = by (takes c v) (picks p t v τ (λ g h. r g (inr h)) s)
     where
       by : (b : Bool) → Somewhere (picked p τ (find t v)) → Somewhere (picked p τ (cond b (some f) (find t v)))
-      by true h = at-pc f τ (r f (inl refl)) s
+      by true h = at_pc f τ (r f (inl refl)) s
       by false h = h
 
   -- a step from a reached instruction comes to one, with reached return addresses
-  pub reached-next : (n : ℕ) (τ : List ℕ) (v n' : ℕ) (σ : List ℕ) → Reached ds C n → AllReached τ → nextM C (C.instr n) τ v ≡ pc n' σ → Reached ds C n' × AllReached σ
-  reached-next n τ v n' σ r s e = by (C.instr n) (λ g h. onward n g r h) v n' σ e
+  pub reached_next : (n : ℕ) (τ : List ℕ) (v n' : ℕ) (σ : List ℕ) → Reached ds C n → AllReached τ → next_m C (C.instr n) τ v ≡ pc n' σ → Reached ds C n' × AllReached σ
+  reached_next n τ v n' σ r s e = by (C.instr n) (λ g h. onward n g r h) v n' σ e
     where
-      by : (x : Instr) → ((g : ℕ) → Leads C x g → Reached ds C g) → (v : ℕ) → Somewhere (nextM C x τ v)
-      by (ifI e f k) h zero = goes k τ (λ g q. h g (inr q)) s
-      by (ifI e f k) h (suc v) = at-pc f τ (h f (inl refl)) s
-      by (decodeI p e t) h v = picks p t v τ h s
-      by (goI k) h v = goes k τ h s
-      by (callI p k) h v = at-pc (C.first p) (push k τ) (h (C.first p) (inl refl)) (pushes k τ (λ g q. h g (inr q)) s)
-      by stopI h v = λ n σ e. impossible (cc)
-      by (moveI to e k) h v = goes k τ h s
+      by : (x : Instr) → ((g : ℕ) → Leads C x g → Reached ds C g) → (v : ℕ) → Somewhere (next_m C x τ v)
+      by (if_i e f k) h zero = goes k τ (λ g q. h g (inr q)) s
+      by (if_i e f k) h (suc v) = at_pc f τ (h f (inl refl)) s
+      by (decode_i p e t) h v = picks p t v τ h s
+      by (go_i k) h v = goes k τ h s
+      by (call_i p k) h v = at_pc (C.first p) (push k τ) (h (C.first p) (inl refl)) (pushes k τ (λ g q. h g (inr q)) s)
+      by stop_i h v = λ n σ e. impossible (cc)
+      by (move_i to e k) h v = goes k τ h s

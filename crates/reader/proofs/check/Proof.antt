@@ -5,8 +5,8 @@ use Rattle.reader.specs.Judged.{refuses}
 use Rattle.reader.proofs.check.Statement.{statement}
 use Rattle.reader.proofs.check.Tie as tie
 
-judge-requires : tie.Need-judge-requires
-judge-requires c κs =
+judge_requires : tie.Need-judge-requires
+judge_requires c κs =
     let m = c.before.before.before.before.before in
     let r = m.before.before.before.before.before.before.before.before in
     (rw m.m.given.1 at r.read.ensures, search rules)
@@ -15,14 +15,14 @@ returns : tie.Need-returns
 returns c =
     refuses (rw c.before.number.given.1 at c.before.before.before.before.before.before.before.before.before.read.ensures)
 
-pub check-spec : {M : Type 1} → statement M
-check-spec =
+pub check_spec : {M : Type 1} → statement M
+check_spec =
     tie.close
     (tie.spec
     (λ c κs. search rules)
     (λ c. search rules)
     (λ c. search rules)
-    judge-requires
+    judge_requires
     (λ c. search rules)
     (λ c. search rules)
     (λ c. search rules)

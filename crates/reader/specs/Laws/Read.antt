@@ -5,8 +5,8 @@ use Rattle.std.proofs.Common.{subst}
 use Rattle.std.proofs.Math.Option.{some}
 use Rattle.rules.specs.Text.Scan.{scan}
 use Rattle.rules.specs.Grammar.Trees.{Description}
-use Rattle.rules.specs.Declarations.{declarations, outerName, totalWords}
-use Rattle.rules.specs.Faults.Fault.{fault, byPlace, byNumber, least}
+use Rattle.rules.specs.Declarations.{declarations, outer_name, total_words}
+use Rattle.rules.specs.Faults.Fault.{fault, by_place_of, by_number_of, least}
 use Rattle.rules.specs.Faults.Declared.{faults30}
 use Rattle.rules.specs.Faults.Bodies.{faults40}
 use Rattle.rules.specs.Faults.Whole.{faults50}
@@ -20,9 +20,9 @@ use Rattle.reader.specs.declared.declaring.Standing.{Standing}
 use Rattle.reader.specs.declared.declaring.Standing.TheVariants.{Fine, Refused}
 use Rattle.reader.specs.Read.{Reads}
 
-abbrev pub standingOf : ℕ → Declared → Standing
-standingOf n (DeclaredRefused m p) = Refused m p
-standingOf n (DeclaredFine m) = Fine m n
+abbrev pub standing_of : ℕ → Declared → Standing
+standing_of n (DeclaredRefused m p) = Refused m p
+standing_of n (DeclaredFine m) = Fine m n
 
 -- what stands is described
 abbrev pub described : {text records values : List ℕ} {n : ℕ} → Stands text records values n → Described text records values n
@@ -33,14 +33,14 @@ module _ {text records values : List ℕ} {n : ℕ} (s : Stands text records val
   verdict : Checks text (judgement s.description)
   verdict = judged s.description s.short s.readable s.reads s.shallow
 
-  first-30 : (d : Description) (m p : ℕ) → least byPlace (faults30 (outerName d).word (declarations d)) ≡ some (fault m p) → judgement d ≡ refused m p
+  first_30 : (d : Description) (m p : ℕ) → least by_place_of (faults30 (outer_name d).word (declarations d)) ≡ some (fault m p) → judgement d ≡ refused m p
   unfolding judgement
-  first-30 d m p e =
+  first_30 d m p e =
       let ds = declarations d in
-      ap (λ o. or_else o (or_else (least byPlace (faults40 (outerName d).word ds ds)) (or_else (least byNumber (faults50 ds)) (accepted (length ds) (totalWords ds))))) e
+      ap (λ o. or_else o (or_else (least by_place_of (faults40 (outer_name d).word ds ds)) (or_else (least by_number_of (faults50 ds)) (accepted (length ds) (total_words ds))))) e
 
   -- what the declarations' pass tells is what Check may answer, or the table is ready
   pub told : (records' decls : List ℕ) (r : Declared) → Told text records' values decls (scan text).tokens s.description r
-      → Reads text records' values decls (standingOf n r)
-  told records' decls (DeclaredRefused m p) h = record { checks = subst (Checks text) (first-30 s.description m p h.is) verdict; near = h.near }
+      → Reads text records' values decls (standing_of n r)
+  told records' decls (DeclaredRefused m p) h = record { checks = subst (Checks text) (first_30 s.description m p h.is) verdict; near = h.near }
   told records' decls (DeclaredFine m) h = record { description = s.description; reads = s.reads; verdict = verdict; ready = h.ready; spelled = h.spelled; count = s.count }

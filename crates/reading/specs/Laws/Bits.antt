@@ -11,8 +11,8 @@ use Rattle.std.proofs.Math.Pow.{pow-lt}
 use Rattle.rules.specs.Whole.Sets.{member, meet}
 use Rattle.reading.specs.Bits.{bit, holds, Common}
 
-abbrev pub none-held : List ℕ
-none-held = 0 ∷ 0 ∷ 0 ∷ 0 ∷ []
+abbrev pub none_held : List ℕ
+none_held = 0 ∷ 0 ∷ 0 ∷ 0 ∷ []
 
 -- word by word
 abbrev pub each : (ℕ → ℕ → ℕ) → List ℕ → List ℕ → List ℕ
@@ -26,7 +26,7 @@ each_at f a b (suc (suc zero)) h = refl
 each_at f a b (suc (suc (suc zero))) h = refl
 each_at f a b (suc (suc (suc (suc q)))) h = absurd (omega arith)
 
-zeros : (q : ℕ) → get_or none-held q 0 ≡ 0
+zeros : (q : ℕ) → get_or none_held q 0 ≡ 0
 zeros zero = refl
 zeros (suc zero) = refl
 zeros (suc (suc zero)) = refl
@@ -46,9 +46,9 @@ unfolding holds
 past w k h = ap (λ b. b && eqb (bit (get_or w (k / 64) 0) (k % 64)) 1) (le-ltb k 256 h)
 
 -- only the four words count
-pub same-words : (a b : List ℕ) → get_or a 0 0 ≡ get_or b 0 0 → get_or a 1 0 ≡ get_or b 1 0 → get_or a 2 0 ≡ get_or b 2 0 → get_or a 3 0 ≡ get_or b 3 0 → (k : ℕ) → holds a k
+pub same_words_lem : (a b : List ℕ) → get_or a 0 0 ≡ get_or b 0 0 → get_or a 1 0 ≡ get_or b 1 0 → get_or a 2 0 ≡ get_or b 2 0 → get_or a 3 0 ≡ get_or b 3 0 → (k : ℕ) → holds a k
     ≡ holds b k
-same-words a b e₀ e₁ e₂ e₃ k = by (dec_lt k 256)
+same_words_lem a b e₀ e₁ e₂ e₃ k = by (dec_lt k 256)
   where
     each_same : (q : ℕ) → q < 4 → get_or a q 0 ≡ get_or b q 0
     each_same zero h = e₀
@@ -61,72 +61,72 @@ same-words a b e₀ e₁ e₂ e₃ k = by (dec_lt k 256)
     by (yes h) = held a k h ∙ (ap (λ (x : ℕ). eqb (bit x (k % 64)) 1) (each_same (k / 64) (omega arith)) ∙ sym (held b k h))
     by (no n) = past a k (omega arith) ∙ sym (past b k (omega arith))
 
-pub holds-none : (k : ℕ) → holds none-held k ≡ false
-holds-none k = by (dec_lt k 256)
+pub holds_none : (k : ℕ) → holds none_held k ≡ false
+holds_none k = by (dec_lt k 256)
   where
-    by : Dec (k < 256) → holds none-held k ≡ false
-    by (yes h) = held none-held k h ∙ ap (λ (x : ℕ). eqb x 1) (ap (λ (x : ℕ). bit x (k % 64)) (zeros (k / 64)) ∙ zero_bit (k % 64))
-    by (no n) = past none-held k (omega arith)
+    by : Dec (k < 256) → holds none_held k ≡ false
+    by (yes h) = held none_held k h ∙ ap (λ (x : ℕ). eqb x 1) (ap (λ (x : ℕ). bit x (k % 64)) (zeros (k / 64)) ∙ zero_bit (k % 64))
+    by (no n) = past none_held k (omega arith)
 
-pub words-empty : (w : List ℕ) → get_or w 0 0 ≡ 0 → get_or w 1 0 ≡ 0 → get_or w 2 0 ≡ 0 → get_or w 3 0 ≡ 0 → (k : ℕ) → holds w k ≡ false
-words-empty w e₀ e₁ e₂ e₃ k = same-words w none-held e₀ e₁ e₂ e₃ k ∙ holds-none k
+pub words_empty : (w : List ℕ) → get_or w 0 0 ≡ 0 → get_or w 1 0 ≡ 0 → get_or w 2 0 ≡ 0 → get_or w 3 0 ≡ 0 → (k : ℕ) → holds w k ≡ false
+words_empty w e₀ e₁ e₂ e₃ k = same_words_lem w none_held e₀ e₁ e₂ e₃ k ∙ holds_none k
 
 -- a bit of the words' union and intersection
 low : (z q m : ℕ) → z ≡ q * 2 + m → m < 2 → z % 2 ≡ m
 low z q m e h = omega arith
 
-or-bit : (a b k : ℕ) → bit (bit_or a b) k ≡ max (bit a k) (bit b k)
-or-bit a b k = rw or_shr (low _ _ _ (or_step (a / 2 ^ k) (b / 2 ^ k)) (omega arith))
+or_bit : (a b k : ℕ) → bit (bit_or a b) k ≡ max (bit a k) (bit b k)
+or_bit a b k = rw or_shr (low _ _ _ (or_step (a / 2 ^ k) (b / 2 ^ k)) (omega arith))
 
-and-bit : (a b k : ℕ) → bit (bit_and a b) k ≡ min (bit a k) (bit b k)
-and-bit a b k = rw and_shr (low _ _ _ (and_step (a / 2 ^ k) (b / 2 ^ k)) (omega arith))
+and_bit : (a b k : ℕ) → bit (bit_and a b) k ≡ min (bit a k) (bit b k)
+and_bit a b k = rw and_shr (low _ _ _ (and_step (a / 2 ^ k) (b / 2 ^ k)) (omega arith))
 
-either-one : (x y : ℕ) → x < 2 → y < 2 → eqb (max x y) 1 ≡ (eqb x 1 || eqb y 1)
-either-one zero zero h k = refl
-either-one zero (suc zero) h k = refl
-either-one (suc zero) zero h k = refl
-either-one (suc zero) (suc zero) h k = refl
-either-one zero (suc (suc y)) h k = absurd (omega arith)
-either-one (suc zero) (suc (suc y)) h k = absurd (omega arith)
-either-one (suc (suc x)) y h k = absurd (omega arith)
+either_one : (x y : ℕ) → x < 2 → y < 2 → eqb (max x y) 1 ≡ (eqb x 1 || eqb y 1)
+either_one zero zero h k = refl
+either_one zero (suc zero) h k = refl
+either_one (suc zero) zero h k = refl
+either_one (suc zero) (suc zero) h k = refl
+either_one zero (suc (suc y)) h k = absurd (omega arith)
+either_one (suc zero) (suc (suc y)) h k = absurd (omega arith)
+either_one (suc (suc x)) y h k = absurd (omega arith)
 
-pub holds-or : (a b : List ℕ) (k : ℕ) → holds (each bit_or a b) k ≡ (holds a k || holds b k)
-holds-or a b k = by (dec_lt k 256)
+pub holds_or : (a b : List ℕ) (k : ℕ) → holds (each bit_or a b) k ≡ (holds a k || holds b k)
+holds_or a b k = by (dec_lt k 256)
   where
     by : Dec (k < 256) → holds (each bit_or a b) k ≡ (holds a k || holds b k)
     by (yes h) =
         let x = get_or a (k / 64) 0 in
         let y = get_or b (k / 64) 0 in
         held (each bit_or a b) k h
-        ∙ (ap (λ (z : ℕ). eqb z 1) (ap (λ (z : ℕ). bit z (k % 64)) (each_at bit_or a b (k / 64) (omega arith)) ∙ or-bit x y (k % 64))
-        ∙ (either-one (bit x (k % 64)) (bit y (k % 64)) (omega arith) (omega arith) ∙ sym (ap₂ ◌||◌ (held a k h) (held b k h))))
+        ∙ (ap (λ (z : ℕ). eqb z 1) (ap (λ (z : ℕ). bit z (k % 64)) (each_at bit_or a b (k / 64) (omega arith)) ∙ or_bit x y (k % 64))
+        ∙ (either_one (bit x (k % 64)) (bit y (k % 64)) (omega arith) (omega arith) ∙ sym (ap₂ ◌||◌ (held a k h) (held b k h))))
     by (no n) = let p : 256 ≤ k = omega arith in past (each bit_or a b) k p ∙ sym (ap₂ ◌||◌ (past a k p) (past b k p))
 
 -- a power of two has one bit
-pow-bit-same : (j : ℕ) → bit (2 ^ j) j ≡ 1
-pow-bit-same j = ap (λ (x : ℕ). x % 2) (div_self (pow_pos j))
+pow_bit_same : (j : ℕ) → bit (2 ^ j) j ≡ 1
+pow_bit_same j = ap (λ (x : ℕ). x % 2) (div_self (pow_pos j))
 
-pow-bit-above : (e k : ℕ) → bit (2 ^ (suc e + k)) k ≡ 0
-pow-bit-above e k =
+pow_bit_above : (e k : ℕ) → bit (2 ^ (suc e + k)) k ≡ 0
+pow_bit_above e k =
     ap (λ (x : ℕ). x / 2 ^ k % 2) (pow-add 2 (suc e) k)
     ∙ (ap (λ (x : ℕ). x % 2) (mul-div_cancel (2 ^ suc e) (pow_pos k)) ∙ (ap (λ (x : ℕ). x % 2) (pow-succ' 2 e) ∙ mul-mod_right 2 (2 ^ e)))
 
-pow-bit-other : (j k : ℕ) → (k ≡ j → ⊥) → bit (2 ^ j) k ≡ 0
-pow-bit-other j k ne = by (dec_lt j k)
+pow_bit_other : (j k : ℕ) → (k ≡ j → ⊥) → bit (2 ^ j) k ≡ 0
+pow_bit_other j k ne = by (dec_lt j k)
   where
     by : Dec (j < k) → bit (2 ^ j) k ≡ 0
     by (yes h) = ap (λ (x : ℕ). x % 2) (div-eq_of_lt (pow-lt h))
-    by (no n) = let e : j ≡ suc (j - k - 1) + k = omega arith in ap (λ (x : ℕ). bit (2 ^ x) k) e ∙ pow-bit-above (j - k - 1) k
+    by (no n) = let e : j ≡ suc (j - k - 1) + k = omega arith in ap (λ (x : ℕ). bit (2 ^ x) k) e ∙ pow_bit_above (j - k - 1) k
 
 -- the words of one number
 abbrev pub only : ℕ → List ℕ
-only i = set none-held (i / 64) ((1 * 2 ^ (i % 64)) % 18446744073709551616)
+only i = set none_held (i / 64) ((1 * 2 ^ (i % 64)) % 18446744073709551616)
 
-only-word : (i : ℕ) → (1 * 2 ^ (i % 64)) % 18446744073709551616 ≡ 2 ^ (i % 64)
-only-word i = ap (λ (x : ℕ). x % 18446744073709551616) (one-mul (2 ^ (i % 64))) ∙ mod-eq_of_lt (pow-lt {i = i % 64} {j = 64} (omega arith))
+only_word : (i : ℕ) → (1 * 2 ^ (i % 64)) % 18446744073709551616 ≡ 2 ^ (i % 64)
+only_word i = ap (λ (x : ℕ). x % 18446744073709551616) (one-mul (2 ^ (i % 64))) ∙ mod-eq_of_lt (pow-lt {i = i % 64} {j = 64} (omega arith))
 
-pub holds-only : (i k : ℕ) → i < 256 → holds (only i) k ≡ eqb k i
-holds-only i k l = by (dec_lt k 256) (dec_lt (k / 64) (i / 64)) (dec_lt (i / 64) (k / 64)) (dec_lt k i) (dec_lt i k)
+pub holds_only : (i k : ℕ) → i < 256 → holds (only i) k ≡ eqb k i
+holds_only i k l = by (dec_lt k 256) (dec_lt (k / 64) (i / 64)) (dec_lt (i / 64) (k / 64)) (dec_lt k i) (dec_lt i k)
   where
     word : ℕ
     word = (1 * 2 ^ (i % 64)) % 18446744073709551616
@@ -134,11 +134,11 @@ holds-only i k l = by (dec_lt k 256) (dec_lt (k / 64) (i / 64)) (dec_lt (i / 64)
     elsewhere : k < 256 → (k / 64 ≡ i / 64 → ⊥) → holds (only i) k ≡ eqb k i
     elsewhere h ne =
         held (only i) k h
-        ∙ (ap (λ (x : ℕ). eqb x 1) (ap (λ (x : ℕ). bit x (k % 64)) (get_or-set_other none-held (i / 64) (k / 64) word 0 ne ∙ zeros (k / 64)) ∙ zero_bit (k % 64))
+        ∙ (ap (λ (x : ℕ). eqb x 1) (ap (λ (x : ℕ). bit x (k % 64)) (get_or-set_other none_held (i / 64) (k / 64) word 0 ne ∙ zeros (k / 64)) ∙ zero_bit (k % 64))
         ∙ sym (ne_eqb k i (λ e. ne (ap (λ (x : ℕ). x / 64) e))))
 
     there : k < 256 → k / 64 ≡ i / 64 → get_or (only i) (k / 64) 0 ≡ 2 ^ (i % 64)
-    there h e = ap (λ (x : ℕ). get_or (only i) x 0) e ∙ (get_or-set_same none-held (i / 64) word 0 (omega arith) ∙ only-word i)
+    there h e = ap (λ (x : ℕ). get_or (only i) x 0) e ∙ (get_or-set_same none_held (i / 64) word 0 (omega arith) ∙ only_word i)
 
     by : Dec (k < 256) → Dec (k / 64 < i / 64) → Dec (i / 64 < k / 64) → Dec (k < i) → Dec (i < k) → holds (only i) k ≡ eqb k i
     by (no n) _ _ _ _ = past (only i) k (omega arith) ∙ sym (ne_eqb k i (λ e. omega arith))
@@ -147,20 +147,20 @@ holds-only i k l = by (dec_lt k 256) (dec_lt (k / 64) (i / 64)) (dec_lt (i / 64)
     by (yes h) (no p) (no q) (yes r) _ =
         held (only i) k h
         ∙ (ap (λ (x : ℕ). eqb (bit x (k % 64)) 1) (there h (omega arith))
-        ∙ (ap (λ (x : ℕ). eqb x 1) (pow-bit-other (i % 64) (k % 64) (λ e. omega arith)) ∙ sym (ne_eqb k i (λ e. omega arith))))
+        ∙ (ap (λ (x : ℕ). eqb x 1) (pow_bit_other (i % 64) (k % 64) (λ e. omega arith)) ∙ sym (ne_eqb k i (λ e. omega arith))))
     by (yes h) (no p) (no q) (no _) (yes r) =
         held (only i) k h
         ∙ (ap (λ (x : ℕ). eqb (bit x (k % 64)) 1) (there h (omega arith))
-        ∙ (ap (λ (x : ℕ). eqb x 1) (pow-bit-other (i % 64) (k % 64) (λ e. omega arith)) ∙ sym (ne_eqb k i (λ e. omega arith))))
+        ∙ (ap (λ (x : ℕ). eqb x 1) (pow_bit_other (i % 64) (k % 64) (λ e. omega arith)) ∙ sym (ne_eqb k i (λ e. omega arith))))
     by (yes h) (no p) (no q) (no r) (no s) =
         let same : i % 64 ≡ k % 64 = omega arith in
         held (only i) k h
         ∙ (ap (λ (x : ℕ). eqb (bit x (k % 64)) 1) (there h (omega arith) ∙ ap (λ (x : ℕ). 2 ^ x) same)
-        ∙ (ap (λ (x : ℕ). eqb x 1) (pow-bit-same (k % 64)) ∙ sym (eq-eqb k i (omega arith))))
+        ∙ (ap (λ (x : ℕ). eqb x 1) (pow_bit_same (k % 64)) ∙ sym (eq-eqb k i (omega arith))))
 
-some-bit : (s n : ℕ) → n < 2 ^ s → (n ≡ 0 → ⊥) → (k : ℕ) × (k < s) × (bit n k ≡ 1)
-some-bit zero n h ne = absurd (ne (omega arith))
-some-bit (suc s) n h ne = by (dec_lt 0 (n % 2)) (some-bit s (n / 2))
+some_bit : (s n : ℕ) → n < 2 ^ s → (n ≡ 0 → ⊥) → (k : ℕ) × (k < s) × (bit n k ≡ 1)
+some_bit zero n h ne = absurd (ne (omega arith))
+some_bit (suc s) n h ne = by (dec_lt 0 (n % 2)) (some_bit s (n / 2))
   where
     by : Dec (0 < n % 2) → (n / 2 < 2 ^ s → (n / 2 ≡ 0 → ⊥) → (k : ℕ) × (k < s) × (bit (n / 2) k ≡ 1)) → (k : ℕ) × (k < suc s) × (bit n k ≡ 1)
     by (yes l) rest = (0, omega arith, ap (λ (x : ℕ). x % 2) (div-one n) ∙ omega arith)
@@ -172,16 +172,16 @@ some-bit (suc s) n h ne = by (dec_lt 0 (n % 2)) (some-bit s (n / 2))
               ∙ (ap (λ (x : ℕ). x % 2) (sym (div-div-eq-div-mul n 2 (2 ^ r.0))) ∙ r.2),
         )
 
-pub in-common : (a b : ℕ) → a < 2 ^ 64 → (bit_and a b ≡ 0 → ⊥) → Common true a b
-in-common a b h ne =
-    let r = some-bit 64 (bit_and a b) (omega (arith, and_le_l a b)) ne in
-    let e = and-bit a b r.0 in
+pub in_common : (a b : ℕ) → a < 2 ^ 64 → (bit_and a b ≡ 0 → ⊥) → Common true a b
+in_common a b h ne =
+    let r = some_bit 64 (bit_and a b) (omega (arith, and_le_l a b)) ne in
+    let e = and_bit a b r.0 in
     let o = r.2 in
     (r.0, r.1, omega arith, omega arith)
 
-pub not-common : (a b : ℕ) → bit_and a b ≡ 0 → Common false a b
-not-common a b e k p q =
-    let z = and-bit a b k in
+pub not_common : (a b : ℕ) → bit_and a b ≡ 0 → Common false a b
+not_common a b e k p q =
+    let z = and_bit a b k in
     let y : bit (bit_and a b) k ≡ 0 = ap (λ (x : ℕ). bit x k) e ∙ zero_bit k in
     omega arith
 
@@ -189,48 +189,48 @@ pub settled : (a b : ℕ) {r s : Bool} → r ≡ s → Common r a b → Common s
 settled a b e c = subst (λ (r : Bool). Common r a b) e c
 
 -- lists of numbers that meet
-meet-at : (k : ℕ) (xs ys : List ℕ) → member k xs ≡ true → member k ys ≡ true → meet xs ys ≡ true
+meet_at : (k : ℕ) (xs ys : List ℕ) → member k xs ≡ true → member k ys ≡ true → meet xs ys ≡ true
 unfolding meet member
-meet-at k [] ys p q = absurd (false≢true p)
-meet-at k (x ∷ xs) ys p q = by (eqb k x) refl p (λ h. meet-at k xs ys h q)
+meet_at k [] ys p q = absurd (false≢true p)
+meet_at k (x ∷ xs) ys p q = by (eqb k x) refl p (λ h. meet_at k xs ys h q)
   where
     by : (b : Bool) → eqb k x ≡ b → (b || member k xs) ≡ true → (member k xs ≡ true → meet xs ys ≡ true) → (member x ys || meet xs ys) ≡ true
     by true e h rest = ap (λ c. c || meet xs ys) (ap (λ (z : ℕ). member z ys) (sym (eqb-true k x e)) ∙ q)
     by false e h rest = ap (λ c. member x ys || c) (rest h) ∙ or-true (member x ys)
 
-meet-never : (xs ys : List ℕ) → ((k : ℕ) → member k xs ≡ true → member k ys ≡ true → ⊥) → meet xs ys ≡ false
+meet_never : (xs ys : List ℕ) → ((k : ℕ) → member k xs ≡ true → member k ys ≡ true → ⊥) → meet xs ys ≡ false
 unfolding meet member
-meet-never [] ys h = refl
-meet-never (x ∷ xs) ys h = by (member x ys) refl (meet-never xs ys (λ k p q. h k (ap (λ c. eqb k x || c) p ∙ or-true (eqb k x)) q))
+meet_never [] ys h = refl
+meet_never (x ∷ xs) ys h = by (member x ys) refl (meet_never xs ys (λ k p q. h k (ap (λ c. eqb k x || c) p ∙ or-true (eqb k x)) q))
   where
     by : (b : Bool) → member x ys ≡ b → meet xs ys ≡ false → (b || meet xs ys) ≡ false
     by true e rest = absurd (h x (ap (λ c. c || member x xs) (eq-eqb x x refl)) e)
     by false e rest = rest
 
 -- the words a and b hold the numbers of two lists
-module _ (a b : List ℕ) (xs ys : List ℕ) (shows-a : (k : ℕ) → holds a k ≡ member k xs) (shows-b : (k : ℕ) → holds b k ≡ member k ys) where
-  pub words-meet : (q : ℕ) → q < 4 → Common true (get_or a q 0) (get_or b q 0) → meet xs ys ≡ true
-  words-meet q h c =
+module _ (a b : List ℕ) (xs ys : List ℕ) (shows_a : (k : ℕ) → holds a k ≡ member k xs) (shows_b : (k : ℕ) → holds b k ≡ member k ys) where
+  pub words_meet : (q : ℕ) → q < 4 → Common true (get_or a q 0) (get_or b q 0) → meet xs ys ≡ true
+  words_meet q h c =
       let k = 64 * q + c.0 in
       let l = c.1 in
       let d : k / 64 ≡ q = omega arith in
       let m : k % 64 ≡ c.0 = omega arith in
-      meet-at k xs ys (sym (shows-a k) ∙ in-word a k (omega arith) (rw (d, m) c.2)) (sym (shows-b k) ∙ in-word b k (omega arith) (rw (d, m) c.3))
+      meet_at k xs ys (sym (shows_a k) ∙ in_word a k (omega arith) (rw (d, m) c.2)) (sym (shows_b k) ∙ in_word b k (omega arith) (rw (d, m) c.3))
     where
-      in-word : (w : List ℕ) (k : ℕ) → k < 256 → bit (get_or w (k / 64) 0) (k % 64) ≡ 1 → holds w k ≡ true
-      in-word w k h e = held w k h ∙ eq-eqb _ 1 e
+      in_word : (w : List ℕ) (k : ℕ) → k < 256 → bit (get_or w (k / 64) 0) (k % 64) ≡ 1 → holds w k ≡ true
+      in_word w k h e = held w k h ∙ eq-eqb _ 1 e
 
-  pub words-apart : Common false (get_or a 0 0) (get_or b 0 0) → Common false (get_or a 1 0) (get_or b 1 0) → Common false (get_or a 2 0) (get_or b 2 0)
+  pub words_apart : Common false (get_or a 0 0) (get_or b 0 0) → Common false (get_or a 1 0) (get_or b 1 0) → Common false (get_or a 2 0) (get_or b 2 0)
       → Common false (get_or a 3 0) (get_or b 3 0) → meet xs ys ≡ false
-  words-apart c₀ c₁ c₂ c₃ = meet-never xs ys (λ k p q. by k (shows-a k ∙ p) (shows-b k ∙ q) (dec_lt k 256))
+  words_apart c₀ c₁ c₂ c₃ = meet_never xs ys (λ k p q. by k (shows_a k ∙ p) (shows_b k ∙ q) (dec_lt k 256))
     where
-      each-apart : (j : ℕ) → j < 4 → Common false (get_or a j 0) (get_or b j 0)
-      each-apart zero l = c₀
-      each-apart (suc zero) l = c₁
-      each-apart (suc (suc zero)) l = c₂
-      each-apart (suc (suc (suc zero))) l = c₃
-      each-apart (suc (suc (suc (suc j)))) l = absurd (omega arith)
+      each_apart : (j : ℕ) → j < 4 → Common false (get_or a j 0) (get_or b j 0)
+      each_apart zero l = c₀
+      each_apart (suc zero) l = c₁
+      each_apart (suc (suc zero)) l = c₂
+      each_apart (suc (suc (suc zero))) l = c₃
+      each_apart (suc (suc (suc (suc j)))) l = absurd (omega arith)
 
       by : (k : ℕ) → holds a k ≡ true → holds b k ≡ true → Dec (k < 256) → ⊥
-      by k p q (yes l) = each-apart (k / 64) (omega arith) (k % 64) (eqb-true _ 1 (sym (held a k l) ∙ p)) (eqb-true _ 1 (sym (held b k l) ∙ q))
+      by k p q (yes l) = each_apart (k / 64) (omega arith) (k % 64) (eqb-true _ 1 (sym (held a k l) ∙ p)) (eqb-true _ 1 (sym (held b k l) ∙ q))
       by k p q (no n) = false≢true (sym (past a k (omega arith)) ∙ p)

@@ -6,74 +6,74 @@ use Rattle.std.proofs.Math.Bool.{or-false}
 use mathlib.Core.List.{List, []}
 use Rattle.std.proofs.Math.Option.{Option, none, some}
 use Rattle.cells.specs.Cells.{cell}
-use Rattle.rules.specs.Grammar.Trees.{Action, actionTokens, Declaration, plain, main, words, with-bits, bare-body, carrier, given, body, mapped}
-use Rattle.rules.specs.Declarations.{Word, declaredOf, bodyNumber}
-use Rattle.rules.specs.Steps.Actions.{actOf}
-use Rattle.rules.specs.Steps.Runs.{actOr}
-use Rattle.rules.specs.Whole.Sets.{callsIn, anyName}
+use Rattle.rules.specs.Grammar.Trees.{Action, action_tokens, Declaration, plain, main, words, with_bits, bare_body, carrier, given, body, mapped}
+use Rattle.rules.specs.Declarations.{Word, declared_of, body_number}
+use Rattle.rules.specs.Steps.Actions.{act_of}
+use Rattle.rules.specs.Steps.Runs.{act_or}
+use Rattle.rules.specs.Whole.Sets.{calls_in, any_name}
 use Rattle.table.specs.Views.{View, BodyAt}
 use Rattle.laws_orders.specs.Orders.Tests.{impossible}
 use Rattle.reading.specs.Reading.{Reading, table_of}
 use Rattle.reading.specs.Meanings.{declares}
 use Rattle.reading.specs.Laws.Meanings.{view}
 use Rattle.reading.specs.Events.{Event, heard}
-use Rattle.reading.specs.Laws.Events.{actionEvents}
-use Rattle.reading.specs.Laws.Hearing.{heard-body}
-use Rattle.reading.specs.Touches.{anyEvent}
-use Rattle.reading.specs.Laws.Touches.{anyAct, any-action, callHit, act-calls}
+use Rattle.reading.specs.Laws.Events.{action_events}
+use Rattle.reading.specs.Laws.Hearing.{heard_body}
+use Rattle.reading.specs.Touches.{any_event}
+use Rattle.reading.specs.Laws.Touches.{any_act, any_action, call_hit, act_calls}
 use Rattle.reading.specs.Calls.{calls_of}
-use Rattle.reading.specs.Laws.Calls.{any-call}
-use Rattle.reading.specs.Bodies.{Block, Body, actAt}
+use Rattle.reading.specs.Laws.Calls.{any_call}
+use Rattle.reading.specs.Bodies.{Block, Body, act_at}
 
-body-block : (d : Declaration) (a : Action) → (declaredOf d).body ≡ some a → Block a
-body-block (plain n (words l f c t r b o)) a e = impossible (cc)
-body-block (plain n (with-bits l o carrier)) a e = impossible (cc)
-body-block (plain n (with-bits l o (given e (body g x m)))) a h = record { opens = g; first = x; others = m; is = cc }
-body-block (plain n (with-bits l o (given e (mapped t x c r)))) a h = impossible (cc)
-body-block (plain n (bare-body e g x m)) a h = record { opens = g; first = x; others = m; is = cc }
-body-block (main i n o e g x m) a h = record { opens = g; first = x; others = m; is = cc }
+body_block : (d : Declaration) (a : Action) → (declared_of d).body ≡ some a → Block a
+body_block (plain n (words l f c t r b o)) a e = impossible (cc)
+body_block (plain n (with_bits l o carrier)) a e = impossible (cc)
+body_block (plain n (with_bits l o (given e (body g x m)))) a h = record { opens = g; first = x; others = m; is = cc }
+body_block (plain n (with_bits l o (given e (mapped t x c r)))) a h = impossible (cc)
+body_block (plain n (bare_body e g x m)) a h = record { opens = g; first = x; others = m; is = cc }
+body_block (main i n o e g x m) a h = record { opens = g; first = x; others = m; is = cc }
 
 module _ {records decls : List ℕ} {m n k p b : ℕ} (l : k < m) (at : p ≡ cell 2 decls k)
-    (is : (values : List ℕ) (w : View records values p) → BodyAt w.tokens b (declaredOf w.declaration).body) where
-  pub body-there : (v : Reading records decls m n) → Body v k b
-  unfolding bodyNumber
-  body-there v = by (declaredOf (declares v k l).declaration).body refl
-      (subst (λ (p : ℕ). (values : List ℕ) (w : View records values p) → BodyAt w.tokens b (declaredOf w.declaration).body) at is v.values
+    (is : (values : List ℕ) (w : View records values p) → BodyAt w.tokens b (declared_of w.declaration).body) where
+  pub body_there : (v : Reading records decls m n) → Body v k b
+  unfolding body_number
+  body_there v = by (declared_of (declares v k l).declaration).body refl
+      (subst (λ (p : ℕ). (values : List ℕ) (w : View records values p) → BodyAt w.tokens b (declared_of w.declaration).body) at is v.values
       (view v k l))
     where
-      number : bodyNumber (table_of v) (some k) ≡ (declaredOf (declares v k l).declaration).body
-      number = rw ((declares v k l).found, bodyNumber)
+      number : body_number (table_of v) (some k) ≡ (declared_of (declares v k l).declaration).body
+      number = rw ((declares v k l).found, body_number)
 
-      by : (x : Option Action) → (declaredOf (declares v k l).declaration).body ≡ x → BodyAt v.tokens b x → Body v k b
+      by : (x : Option Action) → (declared_of (declares v k l).declaration).body ≡ x → BodyAt v.tokens b x → Body v k b
       by none e z = record { missing = λ q. number ∙ e; there = λ q. absurd (q z) }
       by (some a) e z = record {
         missing = λ q. absurd (let y = z.0 in omega arith);
-        there = λ q. (a, number ∙ e, body-block (declares v k l).declaration a e, (drop z.1.0 v.tokens, z.1.1.reads));
+        there = λ q. (a, number ∙ e, body_block (declares v k l).declaration a e, (drop z.1.0 v.tokens, z.1.1.reads));
       }
 
 module _ {records decls : List ℕ} {m n k b : ℕ} {v : Reading records decls m n} (x : Body v k b) where
   -- the events of a body
-  pub body-events : (b ≡ 0 → ⊥) → (a : Action) × (actAt (table_of v) k ≡ actOf a) × (heard 0 0 (drop b v.tokens) ≡ actionEvents a [])
-  body-events q =
+  pub body_events : (b ≡ 0 → ⊥) → (a : Action) × (act_at (table_of v) k ≡ act_of a) × (heard 0 0 (drop b v.tokens) ≡ action_events a [])
+  body_events q =
       let y = x.there q in
       let z = y.2 in (
         y.0,
-        ap actOr y.1,
+        ap act_or y.1,
         ap (heard 0 0) y.3.1
-            ∙ (ap (λ (c : Action). heard 0 0 (actionTokens c y.3.0)) z.is
-            ∙ (heard-body z.opens z.first z.others y.3.0 ∙ ap (λ (c : Action). actionEvents c []) (sym z.is))),
+            ∙ (ap (λ (c : Action). heard 0 0 (action_tokens c y.3.0)) z.is
+            ∙ (heard_body z.opens z.first z.others y.3.0 ∙ ap (λ (c : Action). action_events c []) (sym z.is))),
       )
 
-  pub any-of-body : (p : Event → Bool) → (b ≡ 0 → ⊥) → anyEvent p (heard 0 0 (drop b v.tokens)) ≡ anyAct p (actAt (table_of v) k)
-  unfolding anyEvent
-  any-of-body p q =
-      let y = body-events q in
-      ap (anyEvent p) y.2 ∙ (any-action p y.0 [] ∙ (or-false (anyAct p (actOf y.0)) ∙ ap (anyAct p) (sym y.1)))
+  pub any_of_body : (p : Event → Bool) → (b ≡ 0 → ⊥) → any_event p (heard 0 0 (drop b v.tokens)) ≡ any_act p (act_at (table_of v) k)
+  unfolding any_event
+  any_of_body p q =
+      let y = body_events q in
+      ap (any_event p) y.2 ∙ (any_action p y.0 [] ∙ (or-false (any_act p (act_of y.0)) ∙ ap (any_act p) (sym y.1)))
 
   -- what it activates
-  pub body-calls : (p : Word → Bool) → (b ≡ 0 → ⊥) → anyName p (calls_of (heard 0 0 (drop b v.tokens))) ≡ anyName p (callsIn (actAt (table_of v) k))
-  body-calls p q = any-call p (heard 0 0 (drop b v.tokens)) ∙ (any-of-body (callHit p) q ∙ sym (act-calls p (actAt (table_of v) k)))
+  pub body_calls : (p : Word → Bool) → (b ≡ 0 → ⊥) → any_name p (calls_of (heard 0 0 (drop b v.tokens))) ≡ any_name p (calls_in (act_at (table_of v) k))
+  body_calls p q = any_call p (heard 0 0 (drop b v.tokens)) ∙ (any_of_body (call_hit p) q ∙ sym (act_calls p (act_at (table_of v) k)))
 
-  pub bodiless-calls : (p : Word → Bool) → b ≡ 0 → anyName p (callsIn (actAt (table_of v) k)) ≡ false
-  unfolding anyName callsIn
-  bodiless-calls p q = ap (λ (o : Option Action). anyName p (callsIn (actOr o))) (x.missing q)
+  pub bodiless_calls : (p : Word → Bool) → b ≡ 0 → any_name p (calls_in (act_at (table_of v) k)) ≡ false
+  unfolding any_name calls_in
+  bodiless_calls p q = ap (λ (o : Option Action). any_name p (calls_in (act_or o))) (x.missing q)

@@ -10,7 +10,7 @@ use Rattle.rules.specs.Declarations.{Declared, Table}
 use Rattle.rules.specs.Whole.Sets.{Sets, race}
 use Rattle.rules.specs.Truth.{RaceStands, RaceAmong, FirstConflict, RaceTrue}
 use Rattle.laws_orders.specs.Orders.Tests.{impossible}
-use Rattle.rules.specs.Reasons.{Member, earliest, Race, raceWith, raceAt, firstRace, raceFrom, raceAmong, conflict, Carrier, firstConflict, writers, no-reason, racing, raceOn, raceReason, reason53, groups_of}
+use Rattle.rules.specs.Reasons.{Member, earliest, Race, race_with, race_at, first_race, race_from, race_among, conflict, Carrier, first_conflict, writers, no_reason, racing, race_on, race_reason, reason53, groups_of}
 
 -- the earliest member of a list that races with one
 record Earliest (l : Member) (es : List Member) (e : Member) : Type 0 where
@@ -19,10 +19,10 @@ record Earliest (l : Member) (es : List Member) (e : Member) : Type 0 where
   races : race e.touches l.touches ≡ true
   before : (i : ℕ) (x : Member) → i < number → get_elem? es i ≡ some x → race x.touches l.touches ≡ false
 
-earliest-is : (l : Member) (es : List Member) (e : Member) → earliest l es ≡ some e → Earliest l es e
+earliest_is : (l : Member) (es : List Member) (e : Member) → earliest l es ≡ some e → Earliest l es e
 unfolding earliest
-earliest-is l [] e q = absurd (none-ne-some e q)
-earliest-is l (x ∷ es) e q = by (race x.touches l.touches) refl q (λ h. earliest-is l es e h)
+earliest_is l [] e q = absurd (none-ne-some e q)
+earliest_is l (x ∷ es) e q = by (race x.touches l.touches) refl q (λ h. earliest_is l es e h)
   where
     by : (b : Bool) → race x.touches l.touches ≡ b → elim b [ true ↦ some x | false ↦ earliest l es ] ≡ some e → (earliest l es ≡ some e → Earliest l es e)
         → Earliest l (x ∷ es) e
@@ -38,10 +38,10 @@ earliest-is l (x ∷ es) e q = by (race x.touches l.touches) refl q (λ h. earli
         earlier r (suc i) y o f = r.before i y (omega arith) f
 
 -- elements of two lists, one behind the other
-found-short : (xs : List Member) (i : ℕ) (e : Member) → get_elem? xs i ≡ some e → i < length xs
-found-short [] i e q = absurd (none-ne-some e q)
-found-short (x ∷ xs) zero e q = omega arith
-found-short (x ∷ xs) (suc i) e q = omega (arith, found-short xs i e q)
+found_short : (xs : List Member) (i : ℕ) (e : Member) → get_elem? xs i ≡ some e → i < length xs
+found_short [] i e q = absurd (none-ne-some e q)
+found_short (x ∷ xs) zero e q = omega arith
+found_short (x ∷ xs) (suc i) e q = omega (arith, found_short xs i e q)
 
 front : (xs ys : List Member) (i : ℕ) → i < length xs → get_elem? (xs ++ ys) i ≡ get_elem? xs i
 front [] ys i h = absurd (omega arith)
@@ -52,60 +52,60 @@ middle : (xs : List Member) (l : Member) (ys : List Member) → get_elem? (xs ++
 middle [] l ys = refl
 middle (x ∷ xs) l ys = middle xs l ys
 
-append-one : (xs : List Member) (l : Member) (ys : List Member) → (xs ++ (l ∷ [])) ++ ys ≡ xs ++ (l ∷ ys)
-append-one [] l ys = refl
-append-one (x ∷ xs) l ys = ap (λ (zs : List Member). x ∷ zs) (append-one xs l ys)
+append_one : (xs : List Member) (l : Member) (ys : List Member) → (xs ++ (l ∷ [])) ++ ys ≡ xs ++ (l ∷ ys)
+append_one [] l ys = refl
+append_one (x ∷ xs) l ys = ap (λ (zs : List Member). x ∷ zs) (append_one xs l ys)
 
 -- the race of one member with those before it
-race-at : (p : ℕ) (before : List Member) (l : Member) (ls : List Member) (r : Race) → raceAt p before l ≡ some r → RaceStands p (before ++ (l ∷ ls)) r
-unfolding raceAt
-race-at p before l ls r q = by (eqb l.place p) refl q
+race_at_lem : (p : ℕ) (before : List Member) (l : Member) (ls : List Member) (r : Race) → race_at p before l ≡ some r → RaceStands p (before ++ (l ∷ ls)) r
+unfolding race_at
+race_at_lem p before l ls r q = by (eqb l.place p) refl q
   where
-    with-earlier : (o : Option Member) → earliest l before ≡ o → l.place ≡ p → raceWith l o ≡ some r → RaceStands p (before ++ (l ∷ ls)) r
-    with-earlier none e t h = absurd (none-ne-some r h)
-    with-earlier (some x) e t h =
-        let found = earliest-is l before x e in
-        let small = found-short before found.number x found.there in
+    with_earlier : (o : Option Member) → earliest l before ≡ o → l.place ≡ p → race_with l o ≡ some r → RaceStands p (before ++ (l ∷ ls)) r
+    with_earlier none e t h = absurd (none-ne-some r h)
+    with_earlier (some x) e t h =
+        let found = earliest_is l before x e in
+        let small = found_short before found.number x found.there in
         let same = some-injective (record { earlier = x; later = l }) r h in
         subst (RaceStands p (before ++ (l ∷ ls))) same (record {
           first = found.number;
           second = length before;
           in_order = small;
-          earlier-there = front before (l ∷ ls) found.number small ∙ found.there;
-          later-there = middle before l ls;
+          earlier_there = front before (l ∷ ls) found.number small ∙ found.there;
+          later_there = middle before l ls;
           placed = t;
           races = found.races;
           earliest = λ i y o f. found.before i y o (sym (front before (l ∷ ls) i (omega arith)) ∙ f);
         })
 
-    by : (b : Bool) → eqb l.place p ≡ b → elim b [ true ↦ raceWith l (earliest l before) | false ↦ none ] ≡ some r → RaceStands p (before ++ (l ∷ ls)) r
-    by true e h = with-earlier (earliest l before) refl (eqb-true l.place p e) h
+    by : (b : Bool) → eqb l.place p ≡ b → elim b [ true ↦ race_with l (earliest l before) | false ↦ none ] ≡ some r → RaceStands p (before ++ (l ∷ ls)) r
+    by true e h = with_earlier (earliest l before) refl (eqb-true l.place p e) h
     by false e h = absurd (none-ne-some r h)
 
-race-from : (p : ℕ) (before g : List Member) (r : Race) → raceFrom p before g ≡ some r → RaceStands p (before ++ g) r
-unfolding raceFrom
-race-from p before [] r q = absurd (none-ne-some r q)
-race-from p before (l ∷ ls) r q = by (raceAt p before l) refl q (λ h. race-from p (before ++ (l ∷ [])) ls r h)
+race_from_lem : (p : ℕ) (before g : List Member) (r : Race) → race_from p before g ≡ some r → RaceStands p (before ++ g) r
+unfolding race_from
+race_from_lem p before [] r q = absurd (none-ne-some r q)
+race_from_lem p before (l ∷ ls) r q = by (race_at p before l) refl q (λ h. race_from_lem p (before ++ (l ∷ [])) ls r h)
   where
-    by : (o : Option Race) → raceAt p before l ≡ o → firstRace o (raceFrom p (before ++ (l ∷ [])) ls) ≡ some r
-        → (raceFrom p (before ++ (l ∷ [])) ls ≡ some r → RaceStands p ((before ++ (l ∷ [])) ++ ls) r) → RaceStands p (before ++ (l ∷ ls)) r
-    by (some x) e h rest = race-at p before l ls r (e ∙ h)
-    by none e h rest = subst (λ (g : List Member). RaceStands p g r) (append-one before l ls) (rest h)
+    by : (o : Option Race) → race_at p before l ≡ o → first_race o (race_from p (before ++ (l ∷ [])) ls) ≡ some r
+        → (race_from p (before ++ (l ∷ [])) ls ≡ some r → RaceStands p ((before ++ (l ∷ [])) ++ ls) r) → RaceStands p (before ++ (l ∷ ls)) r
+    by (some x) e h rest = race_at_lem p before l ls r (e ∙ h)
+    by none e h rest = subst (λ (g : List Member). RaceStands p g r) (append_one before l ls) (rest h)
 
-pub race-among : (p : ℕ) (gs : List (List Member)) (r : Race) → raceAmong p gs ≡ some r → RaceAmong p gs r
-unfolding raceAmong
-race-among p [] r q = absurd (none-ne-some r q)
-race-among p (g ∷ gs) r q = by (raceFrom p [] g) refl q (λ h. race-among p gs r h)
+pub race_among_lem : (p : ℕ) (gs : List (List Member)) (r : Race) → race_among p gs ≡ some r → RaceAmong p gs r
+unfolding race_among
+race_among_lem p [] r q = absurd (none-ne-some r q)
+race_among_lem p (g ∷ gs) r q = by (race_from p [] g) refl q (λ h. race_among_lem p gs r h)
   where
-    by : (o : Option Race) → raceFrom p [] g ≡ o → firstRace o (raceAmong p gs) ≡ some r → (raceAmong p gs ≡ some r → RaceAmong p gs r) → RaceAmong p (g ∷ gs) r
-    by (some x) e h rest = record { number = 0; group = g; there = refl; stands = race-from p [] g r (e ∙ h) }
+    by : (o : Option Race) → race_from p [] g ≡ o → first_race o (race_among p gs) ≡ some r → (race_among p gs ≡ some r → RaceAmong p gs r) → RaceAmong p (g ∷ gs) r
+    by (some x) e h rest = record { number = 0; group = g; there = refl; stands = race_from_lem p [] g r (e ∙ h) }
     by none e h rest = let x = rest h in record { number = suc x.number; group = x.group; there = x.there; stands = x.stands }
 
-abbrev carrierOf : ℕ → ℕ → Carrier
-carrierOf i j = record { number = i; place = j }
+abbrev carrier_of : ℕ → ℕ → Carrier
+carrier_of i j = record { number = i; place = j }
 
-named-apart : {e l c n w : ℕ} → no-reason ≡ racing e l c n w → ◌≡◌ {A = ℕ} 0 1
-named-apart h = cc
+named_apart : {e l c n w : ℕ} → no_reason ≡ racing e l c n w → ◌≡◌ {A = ℕ} 0 1
+named_apart h = cc
 
 record ConflictFrom (s t : Sets) (k : ℕ) (ds : Table) (c : Carrier) : Type 0 where
   declared : Declared
@@ -115,13 +115,13 @@ record ConflictFrom (s t : Sets) (k : ℕ) (ds : Table) (c : Carrier) : Type 0 w
   shared : conflict s t c.number ≡ true
   first : (i : ℕ) → k ≤ i → i < c.number → conflict s t i ≡ false
 
-conflict-from : (s t : Sets) (k : ℕ) (ds : Table) (c : Carrier) → firstConflict s t k ds ≡ some c → ConflictFrom s t k ds c
-unfolding firstConflict
-conflict-from s t k [] c q = absurd (none-ne-some c q)
-conflict-from s t k (d ∷ ds) c q = by (conflict s t k) refl q (λ h. conflict-from s t (suc k) ds c h)
+conflict_from : (s t : Sets) (k : ℕ) (ds : Table) (c : Carrier) → first_conflict s t k ds ≡ some c → ConflictFrom s t k ds c
+unfolding first_conflict
+conflict_from s t k [] c q = absurd (none-ne-some c q)
+conflict_from s t k (d ∷ ds) c q = by (conflict s t k) refl q (λ h. conflict_from s t (suc k) ds c h)
   where
-    by : (b : Bool) → conflict s t k ≡ b → elim b [ true ↦ some (record { number = k; place = d.name.place }) | false ↦ firstConflict s t (suc k) ds ] ≡ some c
-        → (firstConflict s t (suc k) ds ≡ some c → ConflictFrom s t (suc k) ds c) → ConflictFrom s t k (d ∷ ds) c
+    by : (b : Bool) → conflict s t k ≡ b → elim b [ true ↦ some (record { number = k; place = d.name.place }) | false ↦ first_conflict s t (suc k) ds ] ≡ some c
+        → (first_conflict s t (suc k) ds ≡ some c → ConflictFrom s t (suc k) ds c) → ConflictFrom s t k (d ∷ ds) c
     by true e h rest =
         subst (ConflictFrom s t k (d ∷ ds)) (some-injective _ c h) (record {
           declared = d;
@@ -153,19 +153,19 @@ conflict-from s t k (d ∷ ds) c q = by (conflict s t k) refl q (λ h. conflict-
                 above (yes h) ne = omega arith
                 above (no h) ne = absurd (ne (omega arith))
 
-pub first-conflict : (s t : Sets) (ds : Table) (c : Carrier) → firstConflict s t 0 ds ≡ some c → FirstConflict s t ds c
-first-conflict s t ds c q =
-    let x = conflict-from s t 0 ds c q in
+pub first_conflict_lem : (s t : Sets) (ds : Table) (c : Carrier) → first_conflict s t 0 ds ≡ some c → FirstConflict s t ds c
+first_conflict_lem s t ds c q =
+    let x = conflict_from s t 0 ds c q in
     record { declared = x.declared; there = ap (get_elem? ds) (let z : c.number ≡ c.number - 0 = omega arith in z) ∙ x.there; named = x.named; shared = x.shared; first = λ i o. x.first i (omega arith) o }
 
 -- WHAT A RACE SAYS IS TRUE: where the reason of 53 at p names a race, these members stand in a group of a body and the carrier is in conflict.
-pub race-true : (ds : Table) (p e l c n w : ℕ) → reason53 ds p ≡ racing e l c n w → RaceTrue ds p e l c n w
+pub race_true : (ds : Table) (p e l c n w : ℕ) → reason53 ds p ≡ racing e l c n w → RaceTrue ds p e l c n w
 unfolding reason53
-race-true ds p e l c n w q = by (raceAmong p (groups_of ds ds)) refl q
+race_true ds p e l c n w q = by (race_among p (groups_of ds ds)) refl q
   where
-    on : (r : Race) (o : Option Carrier) → raceAmong p (groups_of ds ds) ≡ some r → firstConflict r.earlier.touches r.later.touches 0 ds ≡ o
-        → raceOn r o ≡ racing e l c n w → RaceTrue ds p e l c n w
-    on r none g f h = impossible (named-apart h)
+    on : (r : Race) (o : Option Carrier) → race_among p (groups_of ds ds) ≡ some r → first_conflict r.earlier.touches r.later.touches 0 ds ≡ o
+        → race_on r o ≡ racing e l c n w → RaceTrue ds p e l c n w
+    on r none g f h = impossible (named_apart h)
     on r (some x) g f h =
         let a : r.earlier.place ≡ e = cc in
         let b : r.later.place ≡ l = cc in
@@ -174,14 +174,14 @@ race-true ds p e l c n w q = by (raceAmong p (groups_of ds ds)) refl q
         let y : writers r.earlier.touches r.later.touches x.number ≡ w = cc in
         record {
           race = r;
-          among = race-among p (groups_of ds ds) r g;
-          earlier-is = a;
-          later-is = b;
-          conflicting = subst (FirstConflict r.earlier.touches r.later.touches ds) (ap₂ (λ (i j : ℕ). carrierOf i j) k m)
-              (first-conflict r.earlier.touches r.later.touches ds x f);
-          who-is = sym (ap (writers r.earlier.touches r.later.touches) (sym k) ∙ y);
+          among = race_among_lem p (groups_of ds ds) r g;
+          earlier_is = a;
+          later_is = b;
+          conflicting = subst (FirstConflict r.earlier.touches r.later.touches ds) (ap₂ (λ (i j : ℕ). carrier_of i j) k m)
+              (first_conflict_lem r.earlier.touches r.later.touches ds x f);
+          who_is = sym (ap (writers r.earlier.touches r.later.touches) (sym k) ∙ y);
         }
 
-    by : (o : Option Race) → raceAmong p (groups_of ds ds) ≡ o → raceReason ds o ≡ racing e l c n w → RaceTrue ds p e l c n w
-    by none g h = impossible (named-apart h)
-    by (some r) g h = on r (firstConflict r.earlier.touches r.later.touches 0 ds) g refl h
+    by : (o : Option Race) → race_among p (groups_of ds ds) ≡ o → race_reason ds o ≡ racing e l c n w → RaceTrue ds p e l c n w
+    by none g h = impossible (named_apart h)
+    by (some r) g h = on r (first_conflict r.earlier.touches r.later.touches 0 ds) g refl h

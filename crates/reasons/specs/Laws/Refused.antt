@@ -11,107 +11,107 @@ use Rattle.std.proofs.Math.Option.{Option, none, some, none-ne-some, some-inject
 use Rattle.std.proofs.Math.Decide.{dec_lt}
 use Rattle.std.proofs.Math.ListN.{get_elem?}
 use Rattle.rules.specs.Text.Tokens.{Info}
-use Rattle.rules.specs.Limits.{longestChain}
-use Rattle.rules.specs.Grammar.Trees.{Action, block, labelled, if-then, decode, repeat, leave, restart, activate, stop, no-op, transfer, Members, end, also, next}
-use Rattle.rules.specs.Grammar.Trees.{Alternatives, counted, selected, Counted, counted-end, counted-more, Selected, select, otherwise, SelectedMore, selected-end, selected-more}
-use Rattle.rules.specs.Declarations.{Word, Names, BitNames, Target, Declared, Table, number_of, reach, reachNumber, reachOf, reachStorage, reachUnder, reachOn}
-use Rattle.rules.specs.Steps.Actions.{Access, Act, seq, par, label, ins, Ins, iff, call, noop, Alts, alt, actOf}
-use Rattle.rules.specs.Steps.Actions.{decode as decodes, repeat as repeats, leave as leaves, restart as restarts, stop as stops, transfer as transfers, no-alts}
-use Rattle.rules.specs.Steps.Runs.{bodyAct}
-use Rattle.rules.specs.Whole.Sets.{Sets, touched, race, member, meet, mayStop, owner, ownerIn, stores, setsOf, setsI, setsAlts, bodySets}
-use Rattle.rules.specs.Faults.Fault.{Fault, fault, when, leastFrom, least}
-use Rattle.rules.specs.Faults.Bodies.{firstPlace}
-use Rattle.rules.specs.Faults.Whole.{Scope, labelled-in, aimsOut, hasMore, racesAny, memberFaults, memberScope, groupFaults, members_of, alternativesGroups, countedGroups, selectedGroups, moreGroups, mains, beginsChain, chains, bodyGroups, groupsFaults, faults50}
-use Rattle.laws_orders.specs.Orders.Tests.{or-either, or_left, or_right, member-either}
-use Rattle.reasons.specs.Laws.Races.{race-among}
-use Rattle.rules.specs.Reasons.{Member, memberOf, others, group_of, groupsIn, groupsBehind, groupsAlternatives, groupsCounted, groupsSelected, groupsMore, groupsOfBody, groups_of, earliest, Race, raceAt, firstRace, raceFrom, raceAmong, conflict, Carrier, firstConflict, writers, racing, raceOn, raceReason, reason53}
+use Rattle.rules.specs.Limits.{longest_chain}
+use Rattle.rules.specs.Grammar.Trees.{Action, block, labelled, if_then, decode, repeat, leave, restart, activate, stop, no_op, transfer, Members, end, also, next}
+use Rattle.rules.specs.Grammar.Trees.{Alternatives, counted, selected, Counted, counted_end, counted_more, Selected, select, otherwise, SelectedMore, selected_end, selected_more}
+use Rattle.rules.specs.Declarations.{Word, Names, BitNames, Target, Declared, Table, number_of, reach, reach_number, reach_of, reach_storage, reach_under, reach_on}
+use Rattle.rules.specs.Steps.Actions.{Access, Act, seq, par, label, ins, Ins, iff, call, noop, Alts, alt, act_of}
+use Rattle.rules.specs.Steps.Actions.{decode as decodes, repeat as repeats, leave as leaves, restart as restarts, stop as stops, transfer as transfers, no_alts}
+use Rattle.rules.specs.Steps.Runs.{body_act}
+use Rattle.rules.specs.Whole.Sets.{Sets, touched, race, member, meet, may_stop, owner, owner_in, stores, sets_of, sets_i, sets_alts, body_sets}
+use Rattle.rules.specs.Faults.Fault.{Fault, fault, when, least_from, least}
+use Rattle.rules.specs.Faults.Bodies.{first_place}
+use Rattle.rules.specs.Faults.Whole.{Scope, labelled_in, aims_out, has_more, races_any, member_faults, member_scope, group_faults, members_of, alternatives_groups, counted_groups, selected_groups, more_groups, mains, begins_chain, chains, body_groups, groups_faults, faults50}
+use Rattle.laws_orders.specs.Orders.Tests.{or_either, or_left, or_right, member_either}
+use Rattle.reasons.specs.Laws.Races.{race_among_lem}
+use Rattle.rules.specs.Reasons.{Member, member_of, others, group_of, groups_in, groups_behind, groups_alternatives, groups_counted, groups_selected, groups_more, groups_of_body, groups_of, earliest, Race, race_at, first_race, race_from, race_among, conflict, Carrier, first_conflict, writers, racing, race_on, race_reason, reason53}
 
 -- a fault of a list
 abbrev pub Among : Fault → List Fault → Type 0
 Among f [] = ⊥
 Among f (g ∷ fs) = (g ≡ f) ⊎ Among f fs
 
-pub among-either : (f : Fault) (xs ys : List Fault) → Among f (xs ++ ys) → Among f xs ⊎ Among f ys
-among-either f [] ys x = inr x
-among-either f (g ∷ xs) ys (inl e) = inl (inl e)
-among-either f (g ∷ xs) ys (inr x) = by (among-either f xs ys x)
+pub among_either : (f : Fault) (xs ys : List Fault) → Among f (xs ++ ys) → Among f xs ⊎ Among f ys
+among_either f [] ys x = inr x
+among_either f (g ∷ xs) ys (inl e) = inl (inl e)
+among_either f (g ∷ xs) ys (inr x) = by (among_either f xs ys x)
   where
     by : Among f xs ⊎ Among f ys → Among f (g ∷ xs) ⊎ Among f ys
     by (inl z) = inl (inr z)
     by (inr z) = inr z
 
-pub among-when : (f : Fault) (b : Bool) (n p : ℕ) → Among f (when b n p) → (b ≡ true) × (fault n p ≡ f)
-among-when f true n p (inl e) = (refl, e)
-among-when f true n p (inr x) = absurd x
-among-when f false n p x = absurd x
+pub among_when : (f : Fault) (b : Bool) (n p : ℕ) → Among f (when b n p) → (b ≡ true) × (fault n p ≡ f)
+among_when f true n p (inl e) = (refl, e)
+among_when f true n p (inr x) = absurd x
+among_when f false n p x = absurd x
 
 -- the least of a list is one of them
-least-from-among : (before : Fault → Fault → Bool) (b : Fault) (fs : List Fault) → (leastFrom before b fs ≡ b) ⊎ Among (leastFrom before b fs) fs
-unfolding leastFrom
-least-from-among before b [] = inl refl
-least-from-among before b (f ∷ fs) = by (before f b) (least-from-among before (elim (before f b) [ true ↦ f | false ↦ b ]) fs)
+least_from_among : (before : Fault → Fault → Bool) (b : Fault) (fs : List Fault) → (least_from before b fs ≡ b) ⊎ Among (least_from before b fs) fs
+unfolding least_from
+least_from_among before b [] = inl refl
+least_from_among before b (f ∷ fs) = by (before f b) (least_from_among before (elim (before f b) [ true ↦ f | false ↦ b ]) fs)
   where
-    by : (c : Bool) → (leastFrom before (elim c [ true ↦ f | false ↦ b ]) fs ≡ elim c [ true ↦ f | false ↦ b ])
-        ⊎ Among (leastFrom before (elim c [ true ↦ f | false ↦ b ]) fs) fs
-        → (leastFrom before (elim c [ true ↦ f | false ↦ b ]) fs ≡ b) ⊎ Among (leastFrom before (elim c [ true ↦ f | false ↦ b ]) fs) (f ∷ fs)
+    by : (c : Bool) → (least_from before (elim c [ true ↦ f | false ↦ b ]) fs ≡ elim c [ true ↦ f | false ↦ b ])
+        ⊎ Among (least_from before (elim c [ true ↦ f | false ↦ b ]) fs) fs
+        → (least_from before (elim c [ true ↦ f | false ↦ b ]) fs ≡ b) ⊎ Among (least_from before (elim c [ true ↦ f | false ↦ b ]) fs) (f ∷ fs)
     by true (inl e) = inr (inl (sym e))
     by true (inr x) = inr (inr x)
     by false (inl e) = inl e
     by false (inr x) = inr (inr x)
 
-pub least-among : (before : Fault → Fault → Bool) (fs : List Fault) (f : Fault) → least before fs ≡ some f → Among f fs
+pub least_among : (before : Fault → Fault → Bool) (fs : List Fault) (f : Fault) → least before fs ≡ some f → Among f fs
 unfolding least
-least-among before [] f q = absurd (none-ne-some f q)
-least-among before (g ∷ fs) f q = by (least-from-among before g fs)
+least_among before [] f q = absurd (none-ne-some f q)
+least_among before (g ∷ fs) f q = by (least_from_among before g fs)
   where
-    is : leastFrom before g fs ≡ f
-    is = some-injective (leastFrom before g fs) f q
+    is : least_from before g fs ≡ f
+    is = some-injective (least_from before g fs) f q
 
-    by : (leastFrom before g fs ≡ g) ⊎ Among (leastFrom before g fs) fs → Among f (g ∷ fs)
+    by : (least_from before g fs ≡ g) ⊎ Among (least_from before g fs) fs → Among f (g ∷ fs)
     by (inl e) = inl (sym e ∙ is)
     by (inr x) = inr (subst (λ (y : Fault). Among y fs) is x)
 
 -- another number, another fault
-other-number : {A : Type 0} {n m p q : ℕ} → (n ≡ m → ⊥) → fault n p ≡ fault m q → A
-other-number h e = absurd (h (ap (λ (f : Fault). f.number) e))
+other_number : {A : Type 0} {n m p q : ℕ} → (n ≡ m → ⊥) → fault n p ≡ fault m q → A
+other_number h e = absurd (h (ap (λ (f : Fault). f.number) e))
 
 -- a race that is found
 pub record Found (o : Option Race) : Type 0 where
   pub race : Race
   pub is : o ≡ some race
 
-first_found : (o q : Option Race) → Found o → Found (firstRace o q)
+first_found : (o q : Option Race) → Found o → Found (first_race o q)
 first_found none q f = absurd (none-ne-some f.race f.is)
 first_found (some r) q f = record { race = r; is = refl }
 
-second-found : (o q : Option Race) → Found q → Found (firstRace o q)
-second-found none q f = f
-second-found (some r) q f = record { race = r; is = refl }
+second_found : (o q : Option Race) → Found q → Found (first_race o q)
+second_found none q f = f
+second_found (some r) q f = record { race = r; is = refl }
 
 module _ (p : ℕ) where
-  found_left : (gs hs : List (List Member)) → Found (raceAmong p gs) → Found (raceAmong p (gs ++ hs))
-  unfolding raceAmong
+  found_left : (gs hs : List (List Member)) → Found (race_among p gs) → Found (race_among p (gs ++ hs))
+  unfolding race_among
   found_left [] hs f = absurd (none-ne-some f.race f.is)
-  found_left (g ∷ gs) hs f = by (raceFrom p [] g) f (λ x. found_left gs hs x)
+  found_left (g ∷ gs) hs f = by (race_from p [] g) f (λ x. found_left gs hs x)
     where
-      by : (o : Option Race) → Found (firstRace o (raceAmong p gs)) → (Found (raceAmong p gs) → Found (raceAmong p (gs ++ hs))) → Found (firstRace o (raceAmong p (gs ++ hs)))
+      by : (o : Option Race) → Found (first_race o (race_among p gs)) → (Found (race_among p gs) → Found (race_among p (gs ++ hs))) → Found (first_race o (race_among p (gs ++ hs)))
       by none x rest = rest x
       by (some r) x rest = record { race = r; is = refl }
 
-  found_right : (gs hs : List (List Member)) → Found (raceAmong p hs) → Found (raceAmong p (gs ++ hs))
-  unfolding raceAmong
+  found_right : (gs hs : List (List Member)) → Found (race_among p hs) → Found (race_among p (gs ++ hs))
+  unfolding race_among
   found_right [] hs f = f
-  found_right (g ∷ gs) hs f = second-found (raceFrom p [] g) (raceAmong p (gs ++ hs)) (found_right gs hs f)
+  found_right (g ∷ gs) hs f = second_found (race_from p [] g) (race_among p (gs ++ hs)) (found_right gs hs f)
 
 -- the earliest of some members
 record Chosen (o : Option Member) : Type 0 where
   member : Member
   is : o ≡ some member
 
-chosen-front : (l : Member) (es fs : List Member) → Chosen (earliest l es) → Chosen (earliest l (es ++ fs))
+chosen_front : (l : Member) (es fs : List Member) → Chosen (earliest l es) → Chosen (earliest l (es ++ fs))
 unfolding earliest
-chosen-front l [] fs c = absurd (none-ne-some c.member c.is)
-chosen-front l (e ∷ es) fs c = by (race e.touches l.touches) c (λ x. chosen-front l es fs x)
+chosen_front l [] fs c = absurd (none-ne-some c.member c.is)
+chosen_front l (e ∷ es) fs c = by (race e.touches l.touches) c (λ x. chosen_front l es fs x)
   where
     by : (b : Bool) → Chosen (elim b [ true ↦ some e | false ↦ earliest l es ]) → (Chosen (earliest l es) → Chosen (earliest l (es ++ fs)))
         → Chosen (elim b [ true ↦ some e | false ↦ earliest l (es ++ fs) ])
@@ -129,66 +129,66 @@ chosen_last l x (e ∷ es) t = by (race e.touches l.touches) (chosen_last l x es
 
 -- members that stand for the sets of those before
 record Stand (es : List Member) (before : List Sets) : Type 0 where
-  chosen : (l : Member) → racesAny l.touches before ≡ true → Chosen (earliest l es)
+  chosen : (l : Member) → races_any l.touches before ≡ true → Chosen (earliest l es)
 
-stand-more : (es : List Member) (before : List Sets) (x : Member) → Stand es before → Stand (es ++ (x ∷ [])) (x.touches ∷ before)
-unfolding racesAny
-stand-more es before x s = record { chosen = λ l h. by l (or-either (race x.touches l.touches) (racesAny l.touches before) h) }
+stand_more : (es : List Member) (before : List Sets) (x : Member) → Stand es before → Stand (es ++ (x ∷ [])) (x.touches ∷ before)
+unfolding races_any
+stand_more es before x s = record { chosen = λ l h. by l (or_either (race x.touches l.touches) (races_any l.touches before) h) }
   where
-    by : (l : Member) → (race x.touches l.touches ≡ true) ⊎ (racesAny l.touches before ≡ true) → Chosen (earliest l (es ++ (x ∷ [])))
+    by : (l : Member) → (race x.touches l.touches ≡ true) ⊎ (races_any l.touches before ≡ true) → Chosen (earliest l (es ++ (x ∷ [])))
     by l (inl t) = chosen_last l x es t
-    by l (inr t) = chosen-front l es (x ∷ []) (s.chosen l t)
+    by l (inr t) = chosen_front l es (x ∷ []) (s.chosen l t)
 
-stand-none : Stand [] []
-unfolding racesAny
-stand-none = record { chosen = λ l h. absurd (false≢true h) }
+stand_none : Stand [] []
+unfolding races_any
+stand_none = record { chosen = λ l h. absurd (false≢true h) }
 
 module _ (ds : Table) (p : ℕ) where
   abbrev f : Fault
   f = fault 53 p
 
-  found_at : (es : List Member) (l : Member) → l.place ≡ p → Chosen (earliest l es) → Found (raceAt p es l)
-  unfolding raceAt
-  found_at es l e c = record { race = record { earlier = c.member; later = l }; is = rw (eq-eqb l.place p e, raceAt, c.is) refl }
+  found_at : (es : List Member) (l : Member) → l.place ≡ p → Chosen (earliest l es) → Found (race_at p es l)
+  unfolding race_at
+  found_at es l e c = record { race = record { earlier = c.member; later = l }; is = rw (eq-eqb l.place p e, race_at, c.is) refl }
 
   -- 53 of a member behind others
-  member-raced : (b : Bool) (before : List Sets) (es : List Member) (a : Action) → Stand es before → Among f (memberFaults ds b before a) → Found (raceAt p es (memberOf ds a))
-  unfolding memberOf
-  member-raced false before es a s x = absurd x
-  member-raced true before es a s x = by (among-either f (when (mayStop ds (actOf a)) 52 (firstPlace a)) (when (racesAny (touched ds (actOf a)) before) 53 (firstPlace a)) x)
+  member_raced : (b : Bool) (before : List Sets) (es : List Member) (a : Action) → Stand es before → Among f (member_faults ds b before a) → Found (race_at p es (member_of ds a))
+  unfolding member_of
+  member_raced false before es a s x = absurd x
+  member_raced true before es a s x = by (among_either f (when (may_stop ds (act_of a)) 52 (first_place a)) (when (races_any (touched ds (act_of a)) before) 53 (first_place a)) x)
     where
-      by : Among f (when (mayStop ds (actOf a)) 52 (firstPlace a)) ⊎ Among f (when (racesAny (touched ds (actOf a)) before) 53 (firstPlace a)) → Found (raceAt p es (memberOf ds a))
-      by (inl y) = other-number (λ h. omega arith) (among-when f (mayStop ds (actOf a)) 52 (firstPlace a) y).1
+      by : Among f (when (may_stop ds (act_of a)) 52 (first_place a)) ⊎ Among f (when (races_any (touched ds (act_of a)) before) 53 (first_place a)) → Found (race_at p es (member_of ds a))
+      by (inl y) = other_number (λ h. omega arith) (among_when f (may_stop ds (act_of a)) 52 (first_place a) y).1
       by (inr y) =
-          let z = among-when f (racesAny (touched ds (actOf a)) before) 53 (firstPlace a) y in
-          found_at es (memberOf ds a) (ap (λ (g : Fault). g.place) z.1) (s.chosen (memberOf ds a) z.0)
+          let z = among_when f (races_any (touched ds (act_of a)) before) 53 (first_place a) y in
+          found_at es (member_of ds a) (ap (λ (g : Fault). g.place) z.1) (s.chosen (member_of ds a) z.0)
 
-  none_before : (a : Action) → Found (raceAt p [] (memberOf ds a)) → ⊥
-  unfolding raceAt earliest
-  none_before a x = by (eqb (memberOf ds a).place p) x
+  none_before : (a : Action) → Found (race_at p [] (member_of ds a)) → ⊥
+  unfolding race_at earliest
+  none_before a x = by (eqb (member_of ds a).place p) x
     where
       by : (b : Bool) → Found (elim b [ true ↦ none | false ↦ none ]) → ⊥
       by true y = none-ne-some y.race y.is
       by false y = none-ne-some y.race y.is
 
   abbrev Raced : List (List Member) → Type 0
-  Raced gs = Found (raceAmong p gs)
+  Raced gs = Found (race_among p gs)
 
   -- what the members behind the first come to: a race in its group, or in one behind it
   abbrev Behind : List Member → Members → Type 0
-  Behind es m = Found (raceFrom p es (others ds m)) ⊎ Raced (groupsBehind ds m)
+  Behind es m = Found (race_from p es (others ds m)) ⊎ Raced (groups_behind ds m)
 
   -- a group from its first member on
-  group-raced : (b : Bool) (a : Action) (m : Members) → Among f (memberFaults ds b [] a) ⊎ (Raced (groupsIn ds a) ⊎ Behind (memberOf ds a ∷ []) m)
-      → Raced (group_of ds a m ∷ (groupsIn ds a ++ groupsBehind ds m))
-  unfolding raceAmong raceFrom
-  group-raced b a m (inl x) = absurd (none_before a (member-raced b [] [] a stand-none x))
-  group-raced b a m (inr (inl x)) = second-found (raceFrom p [] (group_of ds a m)) _ (found_left p (groupsIn ds a) (groupsBehind ds m) x)
-  group-raced b a m (inr (inr (inl x))) = first_found (raceFrom p [] (group_of ds a m)) _ (second-found (raceAt p [] (memberOf ds a)) _ x)
-  group-raced b a m (inr (inr (inr x))) = second-found (raceFrom p [] (group_of ds a m)) _ (found_right p (groupsIn ds a) (groupsBehind ds m) x)
+  group_raced : (b : Bool) (a : Action) (m : Members) → Among f (member_faults ds b [] a) ⊎ (Raced (groups_in ds a) ⊎ Behind (member_of ds a ∷ []) m)
+      → Raced (group_of ds a m ∷ (groups_in ds a ++ groups_behind ds m))
+  unfolding race_among race_from
+  group_raced b a m (inl x) = absurd (none_before a (member_raced b [] [] a stand_none x))
+  group_raced b a m (inr (inl x)) = second_found (race_from p [] (group_of ds a m)) _ (found_left p (groups_in ds a) (groups_behind ds m) x)
+  group_raced b a m (inr (inr (inl x))) = first_found (race_from p [] (group_of ds a m)) _ (second_found (race_at p [] (member_of ds a)) _ x)
+  group_raced b a m (inr (inr (inr x))) = second_found (race_from p [] (group_of ds a m)) _ (found_right p (groups_in ds a) (groups_behind ds m) x)
 
   either : {A B : Type 0} (xs ys : List Fault) → (Among f xs → A) → (Among f ys → B) → Among f (xs ++ ys) → A ⊎ B
-  either xs ys g h x = by g h (among-either f xs ys x)
+  either xs ys g h x = by g h (among_either f xs ys x)
     where
       by : {A B : Type 0} → (Among f xs → A) → (Among f ys → B) → Among f xs ⊎ Among f ys → A ⊎ B
       by g h (inl y) = inl (g y)
@@ -198,119 +198,119 @@ module _ (ds : Table) (p : ℕ) where
   joined gs hs (inl x) = found_left p gs hs x
   joined gs hs (inr x) = found_right p gs hs x
 
-  also-raced : (es : List Member) (a : Action) (m : Members) → Found (raceAt p es (memberOf ds a)) ⊎ (Raced (groupsIn ds a) ⊎ Behind (es ++ (memberOf ds a ∷ [])) m)
-      → Found (raceFrom p es (memberOf ds a ∷ others ds m)) ⊎ Raced (groupsIn ds a ++ groupsBehind ds m)
-  unfolding raceFrom
-  also-raced es a m (inl x) = inl (first_found (raceAt p es (memberOf ds a)) _ x)
-  also-raced es a m (inr (inl x)) = inr (found_left p (groupsIn ds a) (groupsBehind ds m) x)
-  also-raced es a m (inr (inr (inl x))) = inl (second-found (raceAt p es (memberOf ds a)) _ x)
-  also-raced es a m (inr (inr (inr x))) = inr (found_right p (groupsIn ds a) (groupsBehind ds m) x)
+  also_raced : (es : List Member) (a : Action) (m : Members) → Found (race_at p es (member_of ds a)) ⊎ (Raced (groups_in ds a) ⊎ Behind (es ++ (member_of ds a ∷ [])) m)
+      → Found (race_from p es (member_of ds a ∷ others ds m)) ⊎ Raced (groups_in ds a ++ groups_behind ds m)
+  unfolding race_from
+  also_raced es a m (inl x) = inl (first_found (race_at p es (member_of ds a)) _ x)
+  also_raced es a m (inr (inl x)) = inr (found_left p (groups_in ds a) (groups_behind ds m) x)
+  also_raced es a m (inr (inr (inl x))) = inl (second_found (race_at p es (member_of ds a)) _ x)
+  also_raced es a m (inr (inr (inr x))) = inr (found_right p (groups_in ds a) (groups_behind ds m) x)
 
   mutual
-    unfolding groupFaults groupsIn others raceFrom memberOf
+    unfolding group_faults groups_in others race_from member_of
 
-    action-raced : (a : Action) (s : Scope) → Among f (groupFaults ds s a) → Raced (groupsIn ds a)
-    action-raced (block b a m) s x =
-        group-raced (hasMore m) a m
-        (either (memberFaults ds (hasMore m) [] a) (groupFaults ds (memberScope ds (hasMore m) s) a ++ members_of ds s (touched ds (actOf a) ∷ []) m) (λ y. y)
-        (either (groupFaults ds (memberScope ds (hasMore m) s) a) (members_of ds s (touched ds (actOf a) ∷ []) m) (λ y. action-raced a (memberScope ds (hasMore m) s) y)
-        (λ y. members-raced m s (touched ds (actOf a) ∷ []) (memberOf ds a ∷ []) (stand-more [] [] (memberOf ds a) stand-none) y)) x)
-    action-raced (labelled n b a) s x = action-raced a (labelled-in n.word s) x
-    action-raced (if-then i o t w a) s x = action-raced a s x
-    action-raced (decode i o t w b v) s x = alternatives-raced v s x
-    action-raced (repeat i a) s x = action-raced a s x
-    action-raced (leave i n) s x = other-number (λ h. omega arith) (among-when f (aimsOut s n.word) 52 i.place x).1
-    action-raced (restart i n) s x = other-number (λ h. omega arith) (among-when f (aimsOut s n.word) 52 i.place x).1
-    action-raced (activate n l r) s x = absurd x
-    action-raced (stop i l r) s x = absurd x
-    action-raced (no-op i l r) s x = absurd x
-    action-raced (transfer n b c j e o t) s x = absurd x
+    action_raced : (a : Action) (s : Scope) → Among f (group_faults ds s a) → Raced (groups_in ds a)
+    action_raced (block b a m) s x =
+        group_raced (has_more m) a m
+        (either (member_faults ds (has_more m) [] a) (group_faults ds (member_scope ds (has_more m) s) a ++ members_of ds s (touched ds (act_of a) ∷ []) m) (λ y. y)
+        (either (group_faults ds (member_scope ds (has_more m) s) a) (members_of ds s (touched ds (act_of a) ∷ []) m) (λ y. action_raced a (member_scope ds (has_more m) s) y)
+        (λ y. members_raced m s (touched ds (act_of a) ∷ []) (member_of ds a ∷ []) (stand_more [] [] (member_of ds a) stand_none) y)) x)
+    action_raced (labelled n b a) s x = action_raced a (labelled_in n.word s) x
+    action_raced (if_then i o t w a) s x = action_raced a s x
+    action_raced (decode i o t w b v) s x = alternatives_raced v s x
+    action_raced (repeat i a) s x = action_raced a s x
+    action_raced (leave i n) s x = other_number (λ h. omega arith) (among_when f (aims_out s n.word) 52 i.place x).1
+    action_raced (restart i n) s x = other_number (λ h. omega arith) (among_when f (aims_out s n.word) 52 i.place x).1
+    action_raced (activate n l r) s x = absurd x
+    action_raced (stop i l r) s x = absurd x
+    action_raced (no_op i l r) s x = absurd x
+    action_raced (transfer n b c j e o t) s x = absurd x
 
-    members-raced : (m : Members) (s : Scope) (before : List Sets) (es : List Member) → Stand es before → Among f (members_of ds s before m) → Behind es m
-    members-raced (end e) s before es st x = absurd x
-    members-raced (also i a m) s before es st x =
-        also-raced es a m
-        (either (memberFaults ds true before a) (groupFaults ds (memberScope ds true s) a ++ members_of ds s (touched ds (actOf a) ∷ before) m)
-        (member-raced true before es a st)
-        (either (groupFaults ds (memberScope ds true s) a) (members_of ds s (touched ds (actOf a) ∷ before) m) (λ y. action-raced a (memberScope ds true s) y)
-        (λ y. members-raced m s (touched ds (actOf a) ∷ before) (es ++ (memberOf ds a ∷ [])) (stand-more es before (memberOf ds a) st) y)) x)
-    members-raced (next i a m) s before es st x =
-        inr (group-raced (hasMore m) a m
-        (either (memberFaults ds (hasMore m) [] a) (groupFaults ds (memberScope ds (hasMore m) s) a ++ members_of ds s (touched ds (actOf a) ∷ []) m) (λ y. y)
-        (either (groupFaults ds (memberScope ds (hasMore m) s) a) (members_of ds s (touched ds (actOf a) ∷ []) m) (λ y. action-raced a (memberScope ds (hasMore m) s) y)
-        (λ y. members-raced m s (touched ds (actOf a) ∷ []) (memberOf ds a ∷ []) (stand-more [] [] (memberOf ds a) stand-none) y)) x))
+    members_raced : (m : Members) (s : Scope) (before : List Sets) (es : List Member) → Stand es before → Among f (members_of ds s before m) → Behind es m
+    members_raced (end e) s before es st x = absurd x
+    members_raced (also i a m) s before es st x =
+        also_raced es a m
+        (either (member_faults ds true before a) (group_faults ds (member_scope ds true s) a ++ members_of ds s (touched ds (act_of a) ∷ before) m)
+        (member_raced true before es a st)
+        (either (group_faults ds (member_scope ds true s) a) (members_of ds s (touched ds (act_of a) ∷ before) m) (λ y. action_raced a (member_scope ds true s) y)
+        (λ y. members_raced m s (touched ds (act_of a) ∷ before) (es ++ (member_of ds a ∷ [])) (stand_more es before (member_of ds a) st) y)) x)
+    members_raced (next i a m) s before es st x =
+        inr (group_raced (has_more m) a m
+        (either (member_faults ds (has_more m) [] a) (group_faults ds (member_scope ds (has_more m) s) a ++ members_of ds s (touched ds (act_of a) ∷ []) m) (λ y. y)
+        (either (group_faults ds (member_scope ds (has_more m) s) a) (members_of ds s (touched ds (act_of a) ∷ []) m) (λ y. action_raced a (member_scope ds (has_more m) s) y)
+        (λ y. members_raced m s (touched ds (act_of a) ∷ []) (member_of ds a ∷ []) (stand_more [] [] (member_of ds a) stand_none) y)) x))
 
-    alternatives-raced : (v : Alternatives) (s : Scope) → Among f (alternativesGroups ds s v) → Raced (groupsAlternatives ds v)
-    alternatives-raced (counted a c) s x = joined (groupsIn ds a) (groupsCounted ds c) (either (groupFaults ds s a) (countedGroups ds s c) (λ y. action-raced a s y) (λ y. counted-raced c s y) x)
-    alternatives-raced (selected v) s x = selected-raced v s x
+    alternatives_raced : (v : Alternatives) (s : Scope) → Among f (alternatives_groups ds s v) → Raced (groups_alternatives ds v)
+    alternatives_raced (counted a c) s x = joined (groups_in ds a) (groups_counted ds c) (either (group_faults ds s a) (counted_groups ds s c) (λ y. action_raced a s y) (λ y. counted_raced c s y) x)
+    alternatives_raced (selected v) s x = selected_raced v s x
 
-    counted-raced : (c : Counted) (s : Scope) → Among f (countedGroups ds s c) → Raced (groupsCounted ds c)
-    counted-raced (counted-end e) s x = absurd x
-    counted-raced (counted-more i a c) s x = joined (groupsIn ds a) (groupsCounted ds c) (either (groupFaults ds s a) (countedGroups ds s c) (λ y. action-raced a s y) (λ y. counted-raced c s y) x)
+    counted_raced : (c : Counted) (s : Scope) → Among f (counted_groups ds s c) → Raced (groups_counted ds c)
+    counted_raced (counted_end e) s x = absurd x
+    counted_raced (counted_more i a c) s x = joined (groups_in ds a) (groups_counted ds c) (either (group_faults ds s a) (counted_groups ds s c) (λ y. action_raced a s y) (λ y. counted_raced c s y) x)
 
-    selected-raced : (v : Selected) (s : Scope) → Among f (selectedGroups ds s v) → Raced (groupsSelected ds v)
-    selected-raced (select c b a m) s x = joined (groupsIn ds a) (groupsMore ds m) (either (groupFaults ds s a) (moreGroups ds s m) (λ y. action-raced a s y) (λ y. more-raced m s y) x)
-    selected-raced (otherwise i b a e) s x = action-raced a s x
+    selected_raced : (v : Selected) (s : Scope) → Among f (selected_groups ds s v) → Raced (groups_selected ds v)
+    selected_raced (select c b a m) s x = joined (groups_in ds a) (groups_more ds m) (either (group_faults ds s a) (more_groups ds s m) (λ y. action_raced a s y) (λ y. more_raced m s y) x)
+    selected_raced (otherwise i b a e) s x = action_raced a s x
 
-    more-raced : (m : SelectedMore) (s : Scope) → Among f (moreGroups ds s m) → Raced (groupsMore ds m)
-    more-raced (selected-end e) s x = absurd x
-    more-raced (selected-more c v) s x = selected-raced v s x
+    more_raced : (m : SelectedMore) (s : Scope) → Among f (more_groups ds s m) → Raced (groups_more ds m)
+    more_raced (selected_end e) s x = absurd x
+    more_raced (selected_more c v) s x = selected_raced v s x
 
-  body-raced : (o : Option Action) → Among f (bodyGroups ds o) → Raced (groupsOfBody ds o)
-  body-raced none x = absurd x
-  body-raced (some a) x = action-raced a none x
+  body_raced : (o : Option Action) → Among f (body_groups ds o) → Raced (groups_of_body ds o)
+  body_raced none x = absurd x
+  body_raced (some a) x = action_raced a none x
 
-  bodies-raced : (es : Table) → Among f (groupsFaults ds es) → Raced (groups_of ds es)
-  unfolding groupsFaults groups_of
-  bodies-raced [] x = absurd x
-  bodies-raced (d ∷ es) x = joined (groupsOfBody ds d.body) (groups_of ds es) (either (bodyGroups ds d.body) (groupsFaults ds es) (body-raced d.body) (bodies-raced es) x)
+  bodies_raced : (es : Table) → Among f (groups_faults ds es) → Raced (groups_of ds es)
+  unfolding groups_faults groups_of
+  bodies_raced [] x = absurd x
+  bodies_raced (d ∷ es) x = joined (groups_of_body ds d.body) (groups_of ds es) (either (body_groups ds d.body) (groups_faults ds es) (body_raced d.body) (bodies_raced es) x)
 
   -- 50 and 51 are not 53
-  no-mains : (seen : Bool) (es : Table) → Among f (mains seen es) → ⊥
+  no_mains : (seen : Bool) (es : Table) → Among f (mains seen es) → ⊥
   unfolding mains
-  no-mains seen [] x = other-number (λ h. omega arith) (among-when f (not seen) 50 0 x).1
-  no-mains seen (d ∷ es) x = by d.mainly x (no-mains seen es) (no-mains true es)
+  no_mains seen [] x = other_number (λ h. omega arith) (among_when f (not seen) 50 0 x).1
+  no_mains seen (d ∷ es) x = by d.mainly x (no_mains seen es) (no_mains true es)
     where
       by : (o : Option Info) → Among f (elim o [ none ↦ mains seen es | some i ↦ when seen 50 i.place ++ mains true es ]) → (Among f (mains seen es) → ⊥)
           → (Among f (mains true es) → ⊥) → ⊥
       by none y u v = u y
-      by (some i) y u v = neither (among-either f (when seen 50 i.place) (mains true es) y)
+      by (some i) y u v = neither (among_either f (when seen 50 i.place) (mains true es) y)
         where
           neither : Among f (when seen 50 i.place) ⊎ Among f (mains true es) → ⊥
-          neither (inl z) = other-number (λ h. omega arith) (among-when f seen 50 i.place z).1
+          neither (inl z) = other_number (λ h. omega arith) (among_when f seen 50 i.place z).1
           neither (inr z) = v z
 
-  no-chains : (all es : Table) → Among f (chains all es) → ⊥
+  no_chains : (all es : Table) → Among f (chains all es) → ⊥
   unfolding chains
-  no-chains all [] x = x
-  no-chains all (d ∷ es) x = by (among-either f (when (beginsChain all d.name.word d.body) 51 d.name.place) (chains all es) x) (no-chains all es)
+  no_chains all [] x = x
+  no_chains all (d ∷ es) x = by (among_either f (when (begins_chain all d.name.word d.body) 51 d.name.place) (chains all es) x) (no_chains all es)
     where
-      by : Among f (when (beginsChain all d.name.word d.body) 51 d.name.place) ⊎ Among f (chains all es) → (Among f (chains all es) → ⊥) → ⊥
-      by (inl z) u = other-number (λ h. omega arith) (among-when f (beginsChain all d.name.word d.body) 51 d.name.place z).1
+      by : Among f (when (begins_chain all d.name.word d.body) 51 d.name.place) ⊎ Among f (chains all es) → (Among f (chains all es) → ⊥) → ⊥
+      by (inl z) u = other_number (λ h. omega arith) (among_when f (begins_chain all d.name.word d.body) 51 d.name.place z).1
       by (inr z) u = u z
 
   -- 53 comes from two members of a group
-  refused-raced : Among f (faults50 ds) → Raced (groups_of ds ds)
+  refused_raced : Among f (faults50 ds) → Raced (groups_of ds ds)
   unfolding faults50
-  refused-raced x = by (among-either f (mains false ds) (chains ds ds ++ groupsFaults ds ds) x)
+  refused_raced x = by (among_either f (mains false ds) (chains ds ds ++ groups_faults ds ds) x)
     where
-      last : Among f (chains ds ds) ⊎ Among f (groupsFaults ds ds) → Raced (groups_of ds ds)
-      last (inl y) = absurd (no-chains ds ds y)
-      last (inr y) = bodies-raced ds y
+      last : Among f (chains ds ds) ⊎ Among f (groups_faults ds ds) → Raced (groups_of ds ds)
+      last (inl y) = absurd (no_chains ds ds y)
+      last (inr y) = bodies_raced ds y
 
-      by : Among f (mains false ds) ⊎ Among f (chains ds ds ++ groupsFaults ds ds) → Raced (groups_of ds ds)
-      by (inl y) = absurd (no-mains false ds y)
-      by (inr y) = last (among-either f (chains ds ds) (groupsFaults ds ds) y)
+      by : Among f (mains false ds) ⊎ Among f (chains ds ds ++ groups_faults ds ds) → Raced (groups_of ds ds)
+      by (inl y) = absurd (no_mains false ds y)
+      by (inr y) = last (among_either f (chains ds ds) (groups_faults ds ds) y)
 
 -- what a member writes are declared carriers
-found-short : (ds : Table) (i : ℕ) (d : Declared) → get_elem? ds i ≡ some d → i < length ds
-found-short [] i d q = absurd (none-ne-some d q)
-found-short (x ∷ ds) zero d q = omega arith
-found-short (x ∷ ds) (suc i) d q = omega (arith, found-short ds i d q)
+found_short : (ds : Table) (i : ℕ) (d : Declared) → get_elem? ds i ≡ some d → i < length ds
+found_short [] i d q = absurd (none-ne-some d q)
+found_short (x ∷ ds) zero d q = omega arith
+found_short (x ∷ ds) (suc i) d q = omega (arith, found_short ds i d q)
 
-member-one : (c x : ℕ) → member c (x ∷ []) ≡ true → c ≡ x
+member_one : (c x : ℕ) → member c (x ∷ []) ≡ true → c ≡ x
 unfolding member
-member-one c x h = by (or-either (eqb c x) false h)
+member_one c x h = by (or_either (eqb c x) false h)
   where
     by : (eqb c x ≡ true) ⊎ (false ≡ true) → c ≡ x
     by (inl e) = eqb-true c x e
@@ -320,99 +320,99 @@ module _ (ds : Table) (c : ℕ) where
   abbrev Few : List ℕ → Type 0
   Few xs = member c xs ≡ true → c < length ds
 
-  few-none : Few []
+  few_none : Few []
   unfolding member
-  few-none h = absurd (false≢true h)
+  few_none h = absurd (false≢true h)
 
-  few-both : (xs ys : List ℕ) → Few xs → Few ys → Few (xs ++ ys)
-  few-both xs ys p q h = by (member-either c xs ys h)
+  few_both : (xs ys : List ℕ) → Few xs → Few ys → Few (xs ++ ys)
+  few_both xs ys p q h = by (member_either c xs ys h)
     where
       by : (member c xs ≡ true) ⊎ (member c ys ≡ true) → c < length ds
       by (inl e) = p e
       by (inr e) = q e
 
-  few-one : (i : ℕ) (d : Declared) → get_elem? ds i ≡ some d → Few (i ∷ [])
-  few-one i d e h = omega (arith, member-one c i h, found-short ds i d e)
+  few_one : (i : ℕ) (d : Declared) → get_elem? ds i ≡ some d → Few (i ∷ [])
+  few_one i d e h = omega (arith, member_one c i h, found_short ds i d e)
 
-  storage-few : (i : ℕ) (d : Declared) (b : Option BitNames) → get_elem? ds i ≡ some d → Few (ownerIn (reachStorage ds i d b))
-  unfolding reachStorage
-  storage-few i d none e = few-none
-  storage-few i d (some b) e = few-one i d e
+  storage_few : (i : ℕ) (d : Declared) (b : Option BitNames) → get_elem? ds i ≡ some d → Few (owner_in (reach_storage ds i d b))
+  unfolding reach_storage
+  storage_few i d none e = few_none
+  storage_few i d (some b) e = few_one i d e
 
-  on-few : (b : BitNames) (s : Names) (i : ℕ) (d : Declared) (t : Option Target) (o : Option BitNames) → get_elem? ds i ≡ some d → Few (ownerIn (reachOn ds b s i t o))
-  unfolding reachOn
-  on-few b s i d (some t) o e = few-none
-  on-few b s i d none none e = few-none
-  on-few b s i d none (some o) e = few-one i d e
+  on_few : (b : BitNames) (s : Names) (i : ℕ) (d : Declared) (t : Option Target) (o : Option BitNames) → get_elem? ds i ≡ some d → Few (owner_in (reach_on ds b s i t o))
+  unfolding reach_on
+  on_few b s i d (some t) o e = few_none
+  on_few b s i d none none e = few_none
+  on_few b s i d none (some o) e = few_one i d e
 
-  under-few : (b : BitNames) (s : Names) (q : Option ℕ) → Few (ownerIn (reachUnder ds b s q))
-  unfolding reachUnder
-  under-few b s none = few-none
-  under-few b s (some i) = by (get_elem? ds i) refl
+  under_few : (b : BitNames) (s : Names) (q : Option ℕ) → Few (owner_in (reach_under ds b s q))
+  unfolding reach_under
+  under_few b s none = few_none
+  under_few b s (some i) = by (get_elem? ds i) refl
     where
-      by : (o : Option Declared) → get_elem? ds i ≡ o → Few (ownerIn (elim o [ none ↦ none | some d ↦ reachOn ds b s i d.target d.bits ]))
-      by none e = few-none
-      by (some d) e = on-few b s i d d.target d.bits e
+      by : (o : Option Declared) → get_elem? ds i ≡ o → Few (owner_in (elim o [ none ↦ none | some d ↦ reach_on ds b s i d.target d.bits ]))
+      by none e = few_none
+      by (some d) e = on_few b s i d d.target d.bits e
 
-  of-few : (i : ℕ) (d : Declared) (t : Option Target) → get_elem? ds i ≡ some d → Few (ownerIn (reachOf ds i d t))
-  unfolding reachOf
-  of-few i d none e = storage-few i d d.bits e
-  of-few i d (some t) e = by d.bits
+  of_few : (i : ℕ) (d : Declared) (t : Option Target) → get_elem? ds i ≡ some d → Few (owner_in (reach_of ds i d t))
+  unfolding reach_of
+  of_few i d none e = storage_few i d d.bits e
+  of_few i d (some t) e = by d.bits
     where
-      by : (o : Option BitNames) → Few (ownerIn (elim o [ none ↦ none | some b ↦ reachUnder ds b t.bits (number_of ds t.name.word) ]))
-      by none = few-none
-      by (some b) = under-few b t.bits (number_of ds t.name.word)
+      by : (o : Option BitNames) → Few (owner_in (elim o [ none ↦ none | some b ↦ reach_under ds b t.bits (number_of ds t.name.word) ]))
+      by none = few_none
+      by (some b) = under_few b t.bits (number_of ds t.name.word)
 
-  owner-few : (n : Word) → Few (owner ds n)
-  unfolding owner reach reachNumber
-  owner-few n = numbered (number_of ds n)
+  owner_few : (n : Word) → Few (owner ds n)
+  unfolding owner reach reach_number
+  owner_few n = numbered (number_of ds n)
     where
-      numbered : (q : Option ℕ) → Few (ownerIn (reachNumber ds q))
-      numbered none = few-none
+      numbered : (q : Option ℕ) → Few (owner_in (reach_number ds q))
+      numbered none = few_none
       numbered (some i) = by (get_elem? ds i) refl
         where
-          by : (o : Option Declared) → get_elem? ds i ≡ o → Few (ownerIn (elim o [ none ↦ none | some d ↦ reachOf ds i d d.target ]))
-          by none e = few-none
-          by (some d) e = of-few i d d.target e
+          by : (o : Option Declared) → get_elem? ds i ≡ o → Few (owner_in (elim o [ none ↦ none | some d ↦ reach_of ds i d d.target ]))
+          by none e = few_none
+          by (some d) e = of_few i d d.target e
 
-  stores-few : (d : List Access) → Few (stores ds d)
+  stores_few : (d : List Access) → Few (stores ds d)
   unfolding stores
-  stores-few [] = few-none
-  stores-few (a ∷ more) = few-both (owner ds a.name.word) (stores ds more) (owner-few a.name.word) (stores-few more)
+  stores_few [] = few_none
+  stores_few (a ∷ more) = few_both (owner ds a.name.word) (stores ds more) (owner_few a.name.word) (stores_few more)
 
   module _ (body : Word → Sets) (known : (n : Word) → Few (body n).writes) where
     mutual
-      unfolding setsOf
+      unfolding sets_of
 
-      act-few : (a : Act) → Few (setsOf ds body a).writes
-      act-few (seq a b) = few-both (setsOf ds body a).writes (setsOf ds body b).writes (act-few a) (act-few b)
-      act-few (par a b) = few-both (setsOf ds body a).writes (setsOf ds body b).writes (act-few a) (act-few b)
-      act-few (label l a) = act-few a
-      act-few (ins i) = ins-few i
+      act_few : (a : Act) → Few (sets_of ds body a).writes
+      act_few (seq a b) = few_both (sets_of ds body a).writes (sets_of ds body b).writes (act_few a) (act_few b)
+      act_few (par a b) = few_both (sets_of ds body a).writes (sets_of ds body b).writes (act_few a) (act_few b)
+      act_few (label l a) = act_few a
+      act_few (ins i) = ins_few i
 
-      ins-few : (i : Ins) → Few (setsI ds body i).writes
-      ins-few (iff e a) = act-few a
-      ins-few (decodes p e bs) = alts-few bs
-      ins-few (repeats a) = act-few a
-      ins-few (leaves l) = few-none
-      ins-few (restarts l) = few-none
-      ins-few (call n) = known n
-      ins-few stops = few-none
-      ins-few noop = few-none
-      ins-few (transfers d e) = stores-few d
+      ins_few : (i : Ins) → Few (sets_i ds body i).writes
+      ins_few (iff e a) = act_few a
+      ins_few (decodes p e bs) = alts_few bs
+      ins_few (repeats a) = act_few a
+      ins_few (leaves l) = few_none
+      ins_few (restarts l) = few_none
+      ins_few (call n) = known n
+      ins_few stops = few_none
+      ins_few noop = few_none
+      ins_few (transfers d e) = stores_few d
 
-      alts-few : (bs : Alts) → Few (setsAlts ds body bs).writes
-      alts-few no-alts = few-none
-      alts-few (alt x a bs) = few-both (setsOf ds body a).writes (setsAlts ds body bs).writes (act-few a) (alts-few bs)
+      alts_few : (bs : Alts) → Few (sets_alts ds body bs).writes
+      alts_few no_alts = few_none
+      alts_few (alt x a bs) = few_both (sets_of ds body a).writes (sets_alts ds body bs).writes (act_few a) (alts_few bs)
 
-  bodies-few : (k : ℕ) (n : Word) → Few (bodySets ds k n).writes
-  unfolding bodySets
-  bodies-few zero n = few-none
-  bodies-few (suc k) n = act-few (bodySets ds k) (bodies-few k) (bodyAct ds n)
+  bodies_few : (k : ℕ) (n : Word) → Few (body_sets ds k n).writes
+  unfolding body_sets
+  bodies_few zero n = few_none
+  bodies_few (suc k) n = act_few (body_sets ds k) (bodies_few k) (body_act ds n)
 
-  touched-few : (a : Act) → Few (touched ds a).writes
+  touched_few : (a : Act) → Few (touched ds a).writes
   unfolding touched
-  touched-few a = act-few (bodySets ds longestChain) (bodies-few longestChain) a
+  touched_few a = act_few (body_sets ds longest_chain) (bodies_few longest_chain) a
 
 -- members that race share a carrier in conflict
 record Common (xs ys : List ℕ) : Type 0 where
@@ -423,7 +423,7 @@ record Common (xs ys : List ℕ) : Type 0 where
 common : (xs ys : List ℕ) → meet xs ys ≡ true → Common xs ys
 unfolding meet member
 common [] ys h = absurd (false≢true h)
-common (x ∷ xs) ys h = by (or-either (member x ys) (meet xs ys) h) (common xs ys)
+common (x ∷ xs) ys h = by (or_either (member x ys) (meet xs ys) h) (common xs ys)
   where
     by : (member x ys ≡ true) ⊎ (meet xs ys ≡ true) → (meet xs ys ≡ true → Common xs ys) → Common (x ∷ xs) ys
     by (inl e) rest = record { number = x; left = or_left (eqb x x) (member x xs) (eq-eqb x x refl); right = e }
@@ -434,10 +434,10 @@ record Conflict (s t : Sets) (n : ℕ) : Type 0 where
   small : number < n
   is : conflict s t number ≡ true
 
-racing-conflict : (s t : Sets) (n : ℕ) → ((c : ℕ) → member c s.writes ≡ true → c < n) → ((c : ℕ) → member c t.writes ≡ true → c < n) → race s t ≡ true
+racing_conflict : (s t : Sets) (n : ℕ) → ((c : ℕ) → member c s.writes ≡ true → c < n) → ((c : ℕ) → member c t.writes ≡ true → c < n) → race s t ≡ true
     → Conflict s t n
 unfolding race conflict
-racing-conflict s t n p q h = by (or-either (meet s.writes (t.reads ++ t.writes)) (meet t.writes (s.reads ++ s.writes)) h)
+racing_conflict s t n p q h = by (or_either (meet s.writes (t.reads ++ t.writes)) (meet t.writes (s.reads ++ s.writes)) h)
   where
     both : (a b : Bool) → a ≡ true → b ≡ true → (a && b) ≡ true
     both true b x y = y
@@ -468,13 +468,13 @@ record FoundCarrier (o : Option Carrier) : Type 0 where
   carrier : Carrier
   is : o ≡ some carrier
 
-find-conflict : (s t : Sets) (k c : ℕ) (ds : Table) → k ≤ c → c < k + length ds → conflict s t c ≡ true → FoundCarrier (firstConflict s t k ds)
-unfolding firstConflict
-find-conflict s t k c [] l u h = absurd (omega arith)
-find-conflict s t k c (d ∷ ds) l u h = by (conflict s t k) refl (λ m. find-conflict s t (suc k) c ds m (omega arith) h)
+find_conflict : (s t : Sets) (k c : ℕ) (ds : Table) → k ≤ c → c < k + length ds → conflict s t c ≡ true → FoundCarrier (first_conflict s t k ds)
+unfolding first_conflict
+find_conflict s t k c [] l u h = absurd (omega arith)
+find_conflict s t k c (d ∷ ds) l u h = by (conflict s t k) refl (λ m. find_conflict s t (suc k) c ds m (omega arith) h)
   where
-    by : (b : Bool) → conflict s t k ≡ b → (suc k ≤ c → FoundCarrier (firstConflict s t (suc k) ds))
-        → FoundCarrier (elim b [ true ↦ some (record { number = k; place = d.name.place }) | false ↦ firstConflict s t (suc k) ds ])
+    by : (b : Bool) → conflict s t k ≡ b → (suc k ≤ c → FoundCarrier (first_conflict s t (suc k) ds))
+        → FoundCarrier (elim b [ true ↦ some (record { number = k; place = d.name.place }) | false ↦ first_conflict s t (suc k) ds ])
     by true e rest = record { carrier = record { number = k; place = d.name.place }; is = refl }
     by false e rest = rest (above (dec_lt k c))
       where
@@ -486,7 +486,7 @@ find-conflict s t k c (d ∷ ds) l u h = by (conflict s t k) refl (λ m. find-co
 module _ (ds : Table) where
   pub record Acts (m : Member) : Type 0 where
     pub action : Action
-    pub is : m ≡ memberOf ds action
+    pub is : m ≡ member_of ds action
 
   abbrev AllActs : List Member → Type 0
   AllActs [] = Unit {0}
@@ -496,81 +496,81 @@ module _ (ds : Table) where
   AllGroups [] = Unit {0}
   AllGroups (g ∷ gs) = AllActs g × AllGroups gs
 
-  both-groups : (gs hs : List (List Member)) → AllGroups gs → AllGroups hs → AllGroups (gs ++ hs)
-  both-groups [] hs x y = y
-  both-groups (g ∷ gs) hs x y = (x.0, both-groups gs hs x.1 y)
+  both_groups : (gs hs : List (List Member)) → AllGroups gs → AllGroups hs → AllGroups (gs ++ hs)
+  both_groups [] hs x y = y
+  both_groups (g ∷ gs) hs x y = (x.0, both_groups gs hs x.1 y)
 
-  one-acts : (a : Action) → Acts (memberOf ds a)
-  one-acts a = record { action = a; is = refl }
+  one_acts : (a : Action) → Acts (member_of ds a)
+  one_acts a = record { action = a; is = refl }
 
-  others-act : (m : Members) → AllActs (others ds m)
+  others_act : (m : Members) → AllActs (others ds m)
   unfolding others
-  others-act (end e) = tt
-  others-act (also i a m) = (one-acts a, others-act m)
-  others-act (next i a m) = tt
+  others_act (end e) = tt
+  others_act (also i a m) = (one_acts a, others_act m)
+  others_act (next i a m) = tt
 
   mutual
-    unfolding groupsIn
+    unfolding groups_in
 
-    action-acts : (a : Action) → AllGroups (groupsIn ds a)
-    action-acts (block b a m) = ((one-acts a, others-act m), both-groups (groupsIn ds a) (groupsBehind ds m) (action-acts a) (behind-acts m))
-    action-acts (labelled n b a) = action-acts a
-    action-acts (if-then i o t w a) = action-acts a
-    action-acts (decode i o t w b v) = alternatives-act v
-    action-acts (repeat i a) = action-acts a
-    action-acts (leave i n) = tt
-    action-acts (restart i n) = tt
-    action-acts (activate n l r) = tt
-    action-acts (stop i l r) = tt
-    action-acts (no-op i l r) = tt
-    action-acts (transfer n b c j e o t) = tt
+    action_acts : (a : Action) → AllGroups (groups_in ds a)
+    action_acts (block b a m) = ((one_acts a, others_act m), both_groups (groups_in ds a) (groups_behind ds m) (action_acts a) (behind_acts m))
+    action_acts (labelled n b a) = action_acts a
+    action_acts (if_then i o t w a) = action_acts a
+    action_acts (decode i o t w b v) = alternatives_act v
+    action_acts (repeat i a) = action_acts a
+    action_acts (leave i n) = tt
+    action_acts (restart i n) = tt
+    action_acts (activate n l r) = tt
+    action_acts (stop i l r) = tt
+    action_acts (no_op i l r) = tt
+    action_acts (transfer n b c j e o t) = tt
 
-    behind-acts : (m : Members) → AllGroups (groupsBehind ds m)
-    behind-acts (end e) = tt
-    behind-acts (also i a m) = both-groups (groupsIn ds a) (groupsBehind ds m) (action-acts a) (behind-acts m)
-    behind-acts (next i a m) = ((one-acts a, others-act m), both-groups (groupsIn ds a) (groupsBehind ds m) (action-acts a) (behind-acts m))
+    behind_acts : (m : Members) → AllGroups (groups_behind ds m)
+    behind_acts (end e) = tt
+    behind_acts (also i a m) = both_groups (groups_in ds a) (groups_behind ds m) (action_acts a) (behind_acts m)
+    behind_acts (next i a m) = ((one_acts a, others_act m), both_groups (groups_in ds a) (groups_behind ds m) (action_acts a) (behind_acts m))
 
-    alternatives-act : (v : Alternatives) → AllGroups (groupsAlternatives ds v)
-    alternatives-act (counted a c) = both-groups (groupsIn ds a) (groupsCounted ds c) (action-acts a) (counted-acts c)
-    alternatives-act (selected v) = selected-acts v
+    alternatives_act : (v : Alternatives) → AllGroups (groups_alternatives ds v)
+    alternatives_act (counted a c) = both_groups (groups_in ds a) (groups_counted ds c) (action_acts a) (counted_acts c)
+    alternatives_act (selected v) = selected_acts v
 
-    counted-acts : (c : Counted) → AllGroups (groupsCounted ds c)
-    counted-acts (counted-end e) = tt
-    counted-acts (counted-more i a c) = both-groups (groupsIn ds a) (groupsCounted ds c) (action-acts a) (counted-acts c)
+    counted_acts : (c : Counted) → AllGroups (groups_counted ds c)
+    counted_acts (counted_end e) = tt
+    counted_acts (counted_more i a c) = both_groups (groups_in ds a) (groups_counted ds c) (action_acts a) (counted_acts c)
 
-    selected-acts : (v : Selected) → AllGroups (groupsSelected ds v)
-    selected-acts (select c b a m) = both-groups (groupsIn ds a) (groupsMore ds m) (action-acts a) (more-acts m)
-    selected-acts (otherwise i b a e) = action-acts a
+    selected_acts : (v : Selected) → AllGroups (groups_selected ds v)
+    selected_acts (select c b a m) = both_groups (groups_in ds a) (groups_more ds m) (action_acts a) (more_acts m)
+    selected_acts (otherwise i b a e) = action_acts a
 
-    more-acts : (m : SelectedMore) → AllGroups (groupsMore ds m)
-    more-acts (selected-end e) = tt
-    more-acts (selected-more c v) = selected-acts v
+    more_acts : (m : SelectedMore) → AllGroups (groups_more ds m)
+    more_acts (selected_end e) = tt
+    more_acts (selected_more c v) = selected_acts v
 
-  body-acts : (o : Option Action) → AllGroups (groupsOfBody ds o)
-  body-acts none = tt
-  body-acts (some a) = action-acts a
+  body_acts : (o : Option Action) → AllGroups (groups_of_body ds o)
+  body_acts none = tt
+  body_acts (some a) = action_acts a
 
-  all-act : (es : Table) → AllGroups (groups_of ds es)
+  all_act : (es : Table) → AllGroups (groups_of ds es)
   unfolding groups_of
-  all-act [] = tt
-  all-act (d ∷ es) = both-groups (groupsOfBody ds d.body) (groups_of ds es) (body-acts d.body) (all-act es)
+  all_act [] = tt
+  all_act (d ∷ es) = both_groups (groups_of_body ds d.body) (groups_of ds es) (body_acts d.body) (all_act es)
 
-  nth-group : (gs : List (List Member)) (i : ℕ) (g : List Member) → AllGroups gs → get_elem? gs i ≡ some g → AllActs g
-  nth-group [] i g x e = absurd (none-ne-some g e)
-  nth-group (h ∷ gs) zero g x e = subst AllActs (some-injective h g e) x.0
-  nth-group (h ∷ gs) (suc i) g x e = nth-group gs i g x.1 e
+  nth_group : (gs : List (List Member)) (i : ℕ) (g : List Member) → AllGroups gs → get_elem? gs i ≡ some g → AllActs g
+  nth_group [] i g x e = absurd (none-ne-some g e)
+  nth_group (h ∷ gs) zero g x e = subst AllActs (some-injective h g e) x.0
+  nth_group (h ∷ gs) (suc i) g x e = nth_group gs i g x.1 e
 
-  nth-member : (ms : List Member) (i : ℕ) (m : Member) → AllActs ms → get_elem? ms i ≡ some m → Acts m
-  nth-member [] i m x e = absurd (none-ne-some m e)
-  nth-member (y ∷ ms) zero m x e = subst Acts (some-injective y m e) x.0
-  nth-member (y ∷ ms) (suc i) m x e = nth-member ms i m x.1 e
+  nth_member : (ms : List Member) (i : ℕ) (m : Member) → AllActs ms → get_elem? ms i ≡ some m → Acts m
+  nth_member [] i m x e = absurd (none-ne-some m e)
+  nth_member (y ∷ ms) zero m x e = subst Acts (some-injective y m e) x.0
+  nth_member (y ∷ ms) (suc i) m x e = nth_member ms i m x.1 e
 
-  pub member-acts : (i j : ℕ) (g : List Member) (m : Member) → get_elem? (groups_of ds ds) i ≡ some g → get_elem? g j ≡ some m → Acts m
-  member-acts i j g m e q = nth-member g j m (nth-group (groups_of ds ds) i g (all-act ds) e) q
+  pub member_acts : (i j : ℕ) (g : List Member) (m : Member) → get_elem? (groups_of ds ds) i ≡ some g → get_elem? g j ≡ some m → Acts m
+  member_acts i j g m e q = nth_member g j m (nth_group (groups_of ds ds) i g (all_act ds) e) q
 
-  writes-few : (m : Member) → Acts m → (c : ℕ) → member c m.touches.writes ≡ true → c < length ds
-  unfolding memberOf
-  writes-few m a c h = touched-few ds c (actOf a.action) (ap (λ (x : Member). member c x.touches.writes) (sym a.is) ∙ h)
+  writes_few : (m : Member) → Acts m → (c : ℕ) → member c m.touches.writes ≡ true → c < length ds
+  unfolding member_of
+  writes_few m a c h = touched_few ds c (act_of a.action) (ap (λ (x : Member). member c x.touches.writes) (sym a.is) ∙ h)
 
   -- WHERE 53 IS REFUSED, THERE IS A RACE TO NAME.
   pub record RaceNamed (p : ℕ) : Type 0 where
@@ -581,21 +581,21 @@ module _ (ds : Table) where
     pub who : ℕ
     pub is : reason53 ds p ≡ racing earlier later carrier name who
 
-  pub race-named : (p : ℕ) → Among (fault 53 p) (faults50 ds) → RaceNamed p
+  pub race_named : (p : ℕ) → Among (fault 53 p) (faults50 ds) → RaceNamed p
   unfolding reason53
-  race-named p x =
-      let f = refused-raced ds p x in
+  race_named p x =
+      let f = refused_raced ds p x in
       let r = f.race in
-      let t = race-among p (groups_of ds ds) r f.is in
-      let e = member-acts t.number t.stands.first t.group r.earlier t.there t.stands.earlier-there in
-      let l = member-acts t.number t.stands.second t.group r.later t.there t.stands.later-there in
-      let k = racing-conflict r.earlier.touches r.later.touches (length ds) (writes-few r.earlier e) (writes-few r.later l) t.stands.races in
-      let c = find-conflict r.earlier.touches r.later.touches 0 k.number ds (omega arith) (omega (arith, k.small)) k.is in
+      let t = race_among_lem p (groups_of ds ds) r f.is in
+      let e = member_acts t.number t.stands.first t.group r.earlier t.there t.stands.earlier_there in
+      let l = member_acts t.number t.stands.second t.group r.later t.there t.stands.later_there in
+      let k = racing_conflict r.earlier.touches r.later.touches (length ds) (writes_few r.earlier e) (writes_few r.later l) t.stands.races in
+      let c = find_conflict r.earlier.touches r.later.touches 0 k.number ds (omega arith) (omega (arith, k.small)) k.is in
       record {
         earlier = r.earlier.place;
         later = r.later.place;
         carrier = c.carrier.number;
         name = c.carrier.place;
         who = writers r.earlier.touches r.later.touches c.carrier.number;
-        is = ap (raceReason ds) f.is ∙ ap (raceOn r) c.is;
+        is = ap (race_reason ds) f.is ∙ ap (race_on r) c.is;
       }

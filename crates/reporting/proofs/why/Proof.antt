@@ -1,25 +1,25 @@
 -- `reporting::why` meets its contract.
 use borrow.Author.Rules.{rules}
 use Rattle.lent.specs.Laws.Measured.{fits}
-use Rattle.lent.specs.Laws.Settled.{settled-from}
-use Rattle.reporting.specs.Laws.Reported.{short-reason, unread-call, answers-call}
+use Rattle.lent.specs.Laws.Settled.{settled_from}
+use Rattle.reporting.specs.Laws.Reported.{short_reason, unread_call, answers_call}
 use Rattle.reporting.proofs.why.Statement.{statement}
 use Rattle.reporting.proofs.why.Tie as tie
 
 returns : tie.Need-returns
-returns c = short-reason c.if1.true
+returns c = short_reason c.if1.true
 
 returns-2 : tie.Need-returns-2
-returns-2 c = unread-call c.before.before.before.before.before.before.if1.false c.before.unread.ensures c.if2.true
+returns-2 c = unread_call c.before.before.before.before.before.before.if1.false c.before.unread.ensures c.if2.true
 
-reported-requires : tie.Need-reported-requires
-reported-requires c κs =
+reported_requires : tie.Need-reported-requires
+reported_requires c κs =
     let t = c.before.before.before.before in
     let f = fits t.before.unread.ensures t.if2.false in
-    ((f.1, (f.0.work-a, (f.0.work-b, f.0.work-c))), c.before.before.before.before.before.before.before.before.before.before.if1.false)
+    ((f.1, (f.0.work_a, (f.0.work_b, f.0.work_c))), c.before.before.before.before.before.before.before.before.before.before.if1.false)
 
-settle-requires : tie.Need-settle-requires
-settle-requires c κs =
+settle_requires : tie.Need-settle-requires
+settle_requires c κs =
     let t = c.before.before.before.before.before.before.before.before.before.before.before.before.before.before.before.before.before in
     (fits t.before.unread.ensures t.if2.false).0.answer
 
@@ -29,10 +29,10 @@ returns-3 c =
     let k = c.before.before.before.before.before.before.before.before.before.before.before.before.before.before.before.before.before.before.before.before.before in
     let t = c.before.before.before.before.before.before.before.before.before.before.before.before.before.before.before.before.before.before.before.before.before.before.before.before.before.before in
     let f = fits t.before.unread.ensures t.if2.false in
-    answers-call f.0 c.before.before.before.before.before.before.before.before.before.before.before.before.before.before.before.before.before.before.before.before.before.before.before.before.before.before.before.before.before.before.before.before.if1.false f.1 k.reported.ensures (settled-from s.settle.ensures (search rules) (search rules) (search rules))
+    answers_call f.0 c.before.before.before.before.before.before.before.before.before.before.before.before.before.before.before.before.before.before.before.before.before.before.before.before.before.before.before.before.before.before.before.before.if1.false f.1 k.reported.ensures (settled_from s.settle.ensures (search rules) (search rules) (search rules))
 
-pub why-spec : {M : Type 1} → statement M
-why-spec =
+pub why_spec : {M : Type 1} → statement M
+why_spec =
     tie.close
     (tie.spec
     returns
@@ -42,8 +42,8 @@ why-spec =
     (λ c. search rules)
     (λ c. search rules)
     returns-2
-    reported-requires
-    settle-requires
+    reported_requires
+    settle_requires
     (λ c. search rules)
     (λ c. search rules)
     (λ c. search rules)

@@ -5,8 +5,8 @@ use Rattle.lines.specs.Laws.Appended.{and_then}
 use Rattle.reports.proofs.put_bad.Statement.{statement}
 use Rattle.reports.proofs.put_bad.Tie as tie
 
-pub put-bad-spec : {M : Type 1} → statement M
-put-bad-spec =
+pub put_bad_spec : {M : Type 1} → statement M
+put_bad_spec =
     tie.close
     (tie.spec
     (λ c κs. search rules)

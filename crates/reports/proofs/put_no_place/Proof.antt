@@ -5,8 +5,8 @@ use Rattle.lines.specs.Laws.Appended.{and_then}
 use Rattle.reports.proofs.put_no_place.Statement.{statement}
 use Rattle.reports.proofs.put_no_place.Tie as tie
 
-pub put-no-place-spec : {M : Type 1} → statement M
-put-no-place-spec =
+pub put_no_place_spec : {M : Type 1} → statement M
+put_no_place_spec =
     tie.close
     (tie.spec
     (λ c. search rules)

@@ -5,8 +5,8 @@ use Rattle.lines.specs.Laws.Appended.{and_then}
 use Rattle.reports.proofs.put_no_word.Statement.{statement}
 use Rattle.reports.proofs.put_no_word.Tie as tie
 
-pub put-no-word-spec : {M : Type 1} → statement M
-put-no-word-spec =
+pub put_no_word_spec : {M : Type 1} → statement M
+put_no_word_spec =
     tie.close
     (tie.spec
     (λ c κs. search rules)

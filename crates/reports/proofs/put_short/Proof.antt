@@ -5,8 +5,8 @@ use Rattle.lines.specs.Laws.Appended.{and_then}
 use Rattle.reports.proofs.put_short.Statement.{statement}
 use Rattle.reports.proofs.put_short.Tie as tie
 
-pub put-short-spec : {M : Type 1} → statement M
-put-short-spec =
+pub put_short_spec : {M : Type 1} → statement M
+put_short_spec =
     tie.close
     (tie.spec
     (λ c. search rules)

@@ -5,8 +5,8 @@ use Rattle.lines.specs.Laws.Appended.{and_then}
 use Rattle.reports.proofs.put_unended.Statement.{statement}
 use Rattle.reports.proofs.put_unended.Tie as tie
 
-pub put-unended-spec : {M : Type 1} → statement M
-put-unended-spec =
+pub put_unended_spec : {M : Type 1} → statement M
+put_unended_spec =
     tie.close
     (tie.spec
     (λ c κs. search rules)

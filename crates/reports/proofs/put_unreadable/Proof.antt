@@ -5,8 +5,8 @@ use Rattle.lines.specs.Laws.Appended.{and_then}
 use Rattle.reports.proofs.put_unreadable.Statement.{statement}
 use Rattle.reports.proofs.put_unreadable.Tie as tie
 
-pub put-unreadable-spec : {M : Type 1} → statement M
-put-unreadable-spec =
+pub put_unreadable_spec : {M : Type 1} → statement M
+put_unreadable_spec =
     tie.close
     (tie.spec
     (λ c. search rules)

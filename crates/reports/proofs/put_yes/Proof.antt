@@ -5,8 +5,8 @@ use Rattle.lines.specs.Laws.Appended.{and_then}
 use Rattle.reports.proofs.put_yes.Statement.{statement}
 use Rattle.reports.proofs.put_yes.Tie as tie
 
-pub put-yes-spec : {M : Type 1} → statement M
-put-yes-spec =
+pub put_yes_spec : {M : Type 1} → statement M
+put_yes_spec =
     tie.close
     (tie.spec
     (λ c. search rules)

@@ -3,13 +3,13 @@
 use Rattle.std.specs.Prelude.{ℕ, ◌≡◌, List}
 use borrow.Author.Tests.{eq-eqb, ne_eqb}
 use Rattle.lines.specs.Appended.{Appended}
-use Rattle.reports.specs.Reports.{tooMany, notAccepted, reasonBytes}
+use Rattle.reports.specs.Reports.{too_many, not_accepted, reason_bytes}
 
 module _ (n : ℕ) {before after : List ℕ} {at r : ℕ} where
-  pub is-110 : n ≡ 110 → Appended before after at r tooMany → Appended before after at r (reasonBytes n)
-  unfolding reasonBytes
-  is-110 e h = rw (reasonBytes, eq-eqb n 110 e) h
+  pub is_110 : n ≡ 110 → Appended before after at r too_many → Appended before after at r (reason_bytes n)
+  unfolding reason_bytes
+  is_110 e h = rw (reason_bytes, eq-eqb n 110 e) h
 
-  pub is-other : (n ≡ 110 → ⊥) → Appended before after at r notAccepted → Appended before after at r (reasonBytes n)
-  unfolding reasonBytes
-  is-other d h = rw (reasonBytes, ne_eqb n 110 d) h
+  pub is_other : (n ≡ 110 → ⊥) → Appended before after at r not_accepted → Appended before after at r (reason_bytes n)
+  unfolding reason_bytes
+  is_other d h = rw (reason_bytes, ne_eqb n 110 d) h

@@ -2,7 +2,7 @@
 -- Assumes nothing.
 use borrow.Author.Rules.{rules}
 use native.Mathlib.Omega.{arith}
-use Rattle.resolving.specs.Laws.Marking.{MarkedTo, none-marked, outer-inside, outer-link, next-declared, one_less, all-marked}
+use Rattle.resolving.specs.Laws.Marking.{MarkedTo, none_marked, outer_inside, outer_link, next_declared, one_less, all_marked}
 use Rattle.resolving.proofs.mark.Statement.{statement}
 use Rattle.resolving.proofs.mark.Tie as tie
 
@@ -18,17 +18,17 @@ mark_spec =
     (tie.spec
     invariant-loop
     decreases-loop
-    (λ c κs. outer-inside c.before.before.before.before.requires)
+    (λ c κs. outer_inside c.before.before.before.before.requires)
     (λ c. search rules)
-    (λ c κs. (outer-link c.link_at.ensures c.before.before.before.before.before.requires, omega arith))
-    (λ c. none-marked _ _ _)
+    (λ c κs. (outer_link c.link_at.ensures c.before.before.before.before.before.requires, omega arith))
+    (λ c. none_marked _ _ _)
     (λ c. search rules)
     (λ c κs.
     let t = c.before.before.before.before.before.before in
-    next-declared t.link_at.ensures t.before.before.before.before.before.requires c.before.before.before.before.before.put-inside.ensures c.before.before.loop.invariant (omega arith))
+    next_declared t.link_at.ensures t.before.before.before.before.before.requires c.before.before.before.before.before.put-inside.ensures c.before.before.loop.invariant (omega arith))
     (λ c. search rules)
     (λ c. one_less c.before.before.before.before.before.loop.invariant (omega arith) c.before.before.mark-one.ensures)
     (λ c. search rules)
     (λ c.
     let t = c.before.before.before.before.before in
-    all-marked t.link_at.ensures t.before.before.before.before.before.requires c.before.before.before.before.put-inside.ensures c.before.loop.invariant c.loop-test.false))
+    all_marked t.link_at.ensures t.before.before.before.before.before.requires c.before.before.before.before.put-inside.ensures c.before.loop.invariant c.loop-test.false))

@@ -15,17 +15,17 @@ when true n p = fault n p ∷ []
 when false n p = []
 
 -- whether a comes before b: by place first, or by number first
-abbrev pub byPlace : Fault → Fault → Bool
-byPlace a b = ltb a.place b.place || (eqb a.place b.place && ltb a.number b.number)
+abbrev pub by_place_of : Fault → Fault → Bool
+by_place_of a b = ltb a.place b.place || (eqb a.place b.place && ltb a.number b.number)
 
-abbrev pub byNumber : Fault → Fault → Bool
-byNumber a b = ltb a.number b.number || (eqb a.number b.number && ltb a.place b.place)
+abbrev pub by_number_of : Fault → Fault → Bool
+by_number_of a b = ltb a.number b.number || (eqb a.number b.number && ltb a.place b.place)
 
 -- the least of a list, by an order; b is the least so far
-unfoldable pub leastFrom : (Fault → Fault → Bool) → Fault → List Fault → Fault
-leastFrom before b [] = b
-leastFrom before b (f ∷ fs) = leastFrom before (elim (before f b) [ true ↦ f | false ↦ b ]) fs
+unfoldable pub least_from : (Fault → Fault → Bool) → Fault → List Fault → Fault
+least_from before b [] = b
+least_from before b (f ∷ fs) = least_from before (elim (before f b) [ true ↦ f | false ↦ b ]) fs
 
 unfoldable pub least : (Fault → Fault → Bool) → List Fault → Option Fault
 least before [] = none
-least before (f ∷ fs) = some (leastFrom before f fs)
+least before (f ∷ fs) = some (least_from before f fs)

@@ -4,8 +4,8 @@ use Rattle.rules.specs.Limits.{deepest}
 use Rattle.rules.specs.Text.Tokens.{Kind, Info, tk, Name, same, BEGIN, END, LPar, RPar, LBra, RBra}
 use Rattle.rules.specs.Grammar.Trees.{Tokens, Description, flatten}
 
-abbrev pub anyInfo : Info
-anyInfo = record { place = 0; word = []; value = 0; free = 0; bits = 0 }
+abbrev pub any_info : Info
+any_info = record { place = 0; word = []; value = 0; free = 0; bits = 0 }
 
 -- BEGIN, `(` and `[` open; END, `)` and `]` close
 unfoldable pub opens : Kind → Bool
@@ -19,13 +19,13 @@ abbrev pub down : ℕ → ℕ
 down zero = zero
 down (suc d) = d
 
-unfoldable pub counted-by : Bool → Bool → ℕ → ℕ
-counted-by true c d = suc d
-counted-by false true d = down d
-counted-by false false d = d
+unfoldable pub counted_by : Bool → Bool → ℕ → ℕ
+counted_by true c d = suc d
+counted_by false true d = down d
+counted_by false false d = d
 
 unfoldable pub count : ℕ → Kind → ℕ
-count d k = counted-by (opens k) (closes k) d
+count d k = counted_by (opens k) (closes k) d
 
 unfoldable pub opened : ℕ → Tokens → ℕ
 opened d [] = d
@@ -42,7 +42,7 @@ Begins ps = (d : Description) × (rest : Tokens) × flatten d ≡ ps ++ rest
 -- token k is an opener, and as many brackets as may be are open before it
 pub record Crowded (ts : Tokens) (k : ℕ) : Type 0 where
   pub there : k < length ts
-  pub opener : T (opens (get_or ts k (tk Name anyInfo)).kind)
+  pub opener : T (opens (get_or ts k (tk Name any_info)).kind)
   pub full : deepest ≤ opened 0 (take k ts)
 
 -- 20 at token k, or at the end of the text: the tokens before it begin a description, and with it they do not; at the end, they are none

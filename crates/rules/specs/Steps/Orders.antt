@@ -25,14 +25,14 @@ Well paused = ⊥
 Well (faulted m p) = ⊥
 
 -- The configuration in which a run has ended well. Of any other run nothing is said by it: a fault stands there.
-abbrev pub endAs : Ending → Carriers → Conf
-endAs done s = finished s
-endAs halted s = stopped s
-endAs paused s = failed 0 0 s
-endAs (faulted m p) s = failed m p s
+abbrev pub end_as : Ending → Carriers → Conf
+end_as done s = finished s
+end_as halted s = stopped s
+end_as paused s = failed 0 0 s
+end_as (faulted m p) s = failed m p s
 
 abbrev pub end_of : Run → Conf
-end_of r = endAs r.ending r.carriers
+end_of r = end_as r.ending r.carriers
 
 -- An order of k steps that has come to c, against a run r that ended well: it is not longer, it has not faulted, it can always go on to the end of r, and
 -- if it has ended, it has ended there.

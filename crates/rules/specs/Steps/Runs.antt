@@ -4,9 +4,9 @@ use Rattle.std.proofs.Math.Option.{Option, none, some}
 use Rattle.rules.specs.Grammar.Trees.{Action}
 use Rattle.rules.specs.Values.{Value}
 use Rattle.rules.specs.Declarations.{Word, Table, body_of}
-use Rattle.rules.specs.Steps.Actions.{Act, ins, noop, actOf}
+use Rattle.rules.specs.Steps.Actions.{Act, ins, noop, act_of}
 use Rattle.rules.specs.Steps.Evaluation.{Carriers, Outcome, gives, faulty, evaluate, transferred}
-use Rattle.rules.specs.Steps.Control.{Live, callL, start, Work, moves, tests, nothing, Sig, ends, goes, leaves, restarts, stops, faults, Mv, leftmost, work, next}
+use Rattle.rules.specs.Steps.Control.{Live, call_l, start, Work, moves, tests, nothing, Sig, ends, goes, leaves, restarts, stops, faults, Mv, leftmost, work, next}
 
 -- what a run has come to
 pub data Conf : Type 0 where
@@ -50,17 +50,17 @@ after s f (gives w) = told s w.carriers (f w.number)
 after s f (faulty m p) = failed m p s
 
 -- a body that is not there does nothing; an accepted text activates only bodies
-abbrev pub actOr : Option Action → Act
-actOr none = ins noop
-actOr (some a) = actOf a
+abbrev pub act_or : Option Action → Act
+act_or none = ins noop
+act_or (some a) = act_of a
 
 module _ (ds : Table) where
-  unfoldable pub bodyAct : Word → Act
-  bodyAct n = actOr (body_of ds n)
+  unfoldable pub body_act : Word → Act
+  body_act n = act_or (body_of ds n)
 
   -- one step: the work of the move on the carriers, and the control's step by the number that it gives
   abbrev pub step : (r : Live) → Mv r → Carriers → Conf
-  step r m s = after s (next bodyAct r m) (perform ds (work r m) s)
+  step r m s = after s (next body_act r m) (perform ds (work r m) s)
 
   -- a sequence of n allowed steps, by any choice of moves
   abbrev pub Steps : ℕ → Conf → Conf → Type 0
@@ -72,7 +72,7 @@ module _ (ds : Table) where
 
   -- MAIN begins as an activation whose step is not counted
   unfoldable pub begin : Word → Carriers → Conf
-  begin n s = running (callL n (start (bodyAct n))) s
+  begin n s = running (call_l n (start (body_act n))) s
 
 -- how a run ends, after how many steps, and with which carriers
 pub data Ending : Type 0 where
@@ -84,22 +84,22 @@ pub record Run : Type 0 where
   pub steps : ℕ
   pub carriers : Carriers
 
-abbrev pub runWith : Ending → ℕ → Carriers → Run
-runWith e n s = record { ending = e; steps = n; carriers = s }
+abbrev pub run_with : Ending → ℕ → Carriers → Run
+run_with e n s = record { ending = e; steps = n; carriers = s }
 
 -- Left to right, with a budget, after n steps. "Paused means more steps than the budget were needed; a step that would fault needs one too."
 module _ (ds : Table) where
   unfoldable pub run_from : ℕ → ℕ → Conf → Run
-  run_from b n (finished s) = runWith done n s
-  run_from b n (stopped s) = runWith halted n s
-  run_from b n (failed m p s) = runWith (faulted m p) n s
-  run_from zero n (running r s) = runWith paused n s
+  run_from b n (finished s) = run_with done n s
+  run_from b n (stopped s) = run_with halted n s
+  run_from b n (failed m p s) = run_with (faulted m p) n s
+  run_from zero n (running r s) = run_with paused n s
   run_from (suc b) n (running r s) =
       elim (step ds r (leftmost r) s) [
         | running t u ↦ run_from b (suc n) (running t u)
-        | finished u ↦ runWith done (suc n) u
-        | stopped u ↦ runWith halted (suc n) u
-        | failed m p u ↦ runWith (faulted m p) n u
+        | finished u ↦ run_with done (suc n) u
+        | stopped u ↦ run_with halted (suc n) u
+        | failed m p u ↦ run_with (faulted m p) n u
       ]
 
   unfoldable pub run : Word → ℕ → Carriers → Run

@@ -12,17 +12,17 @@ bytes (c then s) = code c ∷ bytes s
 pub data Class : Type 0 where
   forbidden blank exclamation letter digit dot prefix query mark other : Class
 
-abbrev pub classNo : Class → ℕ
-classNo forbidden = 0
-classNo blank = 1
-classNo exclamation = 2
-classNo letter = 3
-classNo digit = 4
-classNo dot = 5
-classNo prefix = 6
-classNo query = 7
-classNo mark = 8
-classNo other = 9
+abbrev pub class_no : Class → ℕ
+class_no forbidden = 0
+class_no blank = 1
+class_no exclamation = 2
+class_no letter = 3
+class_no digit = 4
+class_no dot = 5
+class_no prefix = 6
+class_no query = 7
+class_no mark = 8
+class_no other = 9
 
 -- the bytes from one to another are of a class
 pub record Span : Type 0 where
@@ -47,27 +47,27 @@ ranges =
     -- a to z              { | } ~
     ∷ range 97 122 letter ∷ range 123 126 other ∷ []
 
-unfoldable pub classIn : List Span → ℕ → Class
-classIn [] b = forbidden
-classIn (r ∷ rs) b = elim (leb r.first b && leb b r.last) [ true ↦ r.class | false ↦ classIn rs b ]
+unfoldable pub class_in : List Span → ℕ → Class
+class_in [] b = forbidden
+class_in (r ∷ rs) b = elim (leb r.first b && leb b r.last) [ true ↦ r.class | false ↦ class_in rs b ]
 
-unfoldable pub classOf : ℕ → Class
-classOf b = classIn ranges b
+unfoldable pub class_of : ℕ → Class
+class_of b = class_in ranges b
 
-abbrev pub isClass : Class → Class → Bool
-isClass c d = eqb (classNo c) (classNo d)
+abbrev pub is_class : Class → Class → Bool
+is_class c d = eqb (class_no c) (class_no d)
 
 -- a name goes on with letters, digits and dots
-unfoldable pub inName : ℕ → Bool
-inName b = isClass (classOf b) letter || (isClass (classOf b) digit || isClass (classOf b) dot)
+unfoldable pub in_name : ℕ → Bool
+in_name b = is_class (class_of b) letter || (is_class (class_of b) digit || is_class (class_of b) dot)
 
 -- what stands directly behind a constant's digits and is one of these makes it malformed, so all of them are taken together
-unfoldable pub inConstant : ℕ → Bool
-inConstant b = inName b || isClass (classOf b) query
+unfoldable pub in_constant : ℕ → Bool
+in_constant b = in_name b || is_class (class_of b) query
 
 -- a comment goes up to byte 10, the end of text, or a byte that is not allowed
-unfoldable pub inComment : ℕ → Bool
-inComment b = not (isClass (classOf b) forbidden) && not (eqb b 10)
+unfoldable pub in_comment : ℕ → Bool
+in_comment b = not (is_class (class_of b) forbidden) && not (eqb b 10)
 
 -- "Letters fold to upper case."
 unfoldable pub fold : ℕ → ℕ

@@ -51,69 +51,69 @@ marks =
     ∷ spelling (bytes "-") Minus ∷ []
 
 -- the number of each kind
-abbrev pub kindNo : Kind → ℕ
-kindNo Name = 0
-kindNo Const = 1
-kindNo Masked = 2
-kindNo LPar = 3
-kindNo RPar = 4
-kindNo LBra = 5
-kindNo RBra = 6
-kindNo Less = 7
-kindNo Greater = 8
-kindNo Comma = 9
-kindNo Semi = 10
-kindNo Colon = 11
-kindNo Becomes = 12
-kindNo Equals = 13
-kindNo Arrow = 14
-kindNo At = 15
-kindNo Plus = 16
-kindNo Minus = 17
-kindNo Stars = 18
-kindNo BEGIN = 19
-kindNo END = 20
-kindNo NEXT = 21
-kindNo IF = 22
-kindNo DECODE = 23
-kindNo OTHERWISE = 24
-kindNo REPEAT = 25
-kindNo LEAVE = 26
-kindNo RESTART = 27
-kindNo MAIN = 28
-kindNo STOP = 29
-kindNo NO-OP = 30
-kindNo NOT = 31
-kindNo AND = 32
-kindNo EQV = 33
-kindNo OR = 34
-kindNo XOR = 35
-kindNo EQL = 36
-kindNo NEQ = 37
-kindNo LSS = 38
-kindNo LEQ = 39
-kindNo GTR = 40
-kindNo GEQ = 41
+abbrev pub kind_no : Kind → ℕ
+kind_no Name = 0
+kind_no Const = 1
+kind_no Masked = 2
+kind_no LPar = 3
+kind_no RPar = 4
+kind_no LBra = 5
+kind_no RBra = 6
+kind_no Less = 7
+kind_no Greater = 8
+kind_no Comma = 9
+kind_no Semi = 10
+kind_no Colon = 11
+kind_no Becomes = 12
+kind_no Equals = 13
+kind_no Arrow = 14
+kind_no At = 15
+kind_no Plus = 16
+kind_no Minus = 17
+kind_no Stars = 18
+kind_no BEGIN = 19
+kind_no END = 20
+kind_no NEXT = 21
+kind_no IF = 22
+kind_no DECODE = 23
+kind_no OTHERWISE = 24
+kind_no REPEAT = 25
+kind_no LEAVE = 26
+kind_no RESTART = 27
+kind_no MAIN = 28
+kind_no STOP = 29
+kind_no NO-OP = 30
+kind_no NOT = 31
+kind_no AND = 32
+kind_no EQV = 33
+kind_no OR = 34
+kind_no XOR = 35
+kind_no EQL = 36
+kind_no NEQ = 37
+kind_no LSS = 38
+kind_no LEQ = 39
+kind_no GTR = 40
+kind_no GEQ = 41
 
 -- whether two kinds are one, by their numbers
 abbrev pub same : Kind → Kind → Bool
-same a b = eqb (kindNo a) (kindNo b)
+same a b = eqb (kind_no a) (kind_no b)
 
 -- the operators that stand between two operands
 pub data Op : Type 0 where
   join plus minus eql neq lss leq gtr geq and eqv or xor : Op
 
-abbrev pub opKind : Op → Kind
-opKind join = At
-opKind plus = Plus
-opKind minus = Minus
-opKind eql = EQL
-opKind neq = NEQ
-opKind lss = LSS
-opKind leq = LEQ
-opKind gtr = GTR
-opKind geq = GEQ
-opKind and = AND
-opKind eqv = EQV
-opKind or = OR
-opKind xor = XOR
+abbrev pub op_kind : Op → Kind
+op_kind join = At
+op_kind plus = Plus
+op_kind minus = Minus
+op_kind eql = EQL
+op_kind neq = NEQ
+op_kind lss = LSS
+op_kind leq = LEQ
+op_kind gtr = GTR
+op_kind geq = GEQ
+op_kind and = AND
+op_kind eqv = EQV
+op_kind or = OR
+op_kind xor = XOR

@@ -3,11 +3,11 @@
 -- the declarations.
 use Rattle.std.specs.Prelude.{ℕ, zero, suc, Bool, true, false, ◌||◌, List, [], ◌∷◌, ◌++◌, eqb}
 use Rattle.std.proofs.Math.Option.{Option, none, some}
-use Rattle.rules.specs.Limits.{longestChain}
+use Rattle.rules.specs.Limits.{longest_chain}
 use Rattle.rules.specs.Grammar.Precedence.{Expr, leaf, node, Factor, number, cell, group, inverse, Index, no_index, index}
 use Rattle.rules.specs.Declarations.{Word, Table, Reach, reach}
-use Rattle.rules.specs.Steps.Actions.{Access, Act, seq, par, label, ins, Ins, iff, decode, repeat, leave, restart, call, stop, noop, transfer, Alts, no-alts, alt}
-use Rattle.rules.specs.Steps.Runs.{bodyAct}
+use Rattle.rules.specs.Steps.Actions.{Access, Act, seq, par, label, ins, Ins, iff, decode, repeat, leave, restart, call, stop, noop, transfer, Alts, no_alts, alt}
+use Rattle.rules.specs.Steps.Runs.{body_act}
 
 pub record Sets : Type 0 where
   pub reads : List ℕ
@@ -19,33 +19,33 @@ sets r w = record { reads = r; writes = w }
 abbrev pub union : Sets → Sets → Sets
 union s t = sets (s.reads ++ t.reads) (s.writes ++ t.writes)
 
-abbrev pub ownerIn : Option Reach → List ℕ
-ownerIn none = []
-ownerIn (some r) = r.owner ∷ []
+abbrev pub owner_in : Option Reach → List ℕ
+owner_in none = []
+owner_in (some r) = r.owner ∷ []
 
 module _ (ds : Table) where
   -- the storage carrier under a name
   unfoldable pub owner : Word → List ℕ
-  owner n = ownerIn (reach ds n)
+  owner n = owner_in (reach ds n)
 
   unfoldable mutual
     pub reads_of : Expr → List ℕ
-    reads_of (leaf f) = factorReads f
+    reads_of (leaf f) = factor_reads f
     reads_of (node o i l r) = reads_of l ++ reads_of r
 
-    pub factorReads : Factor → List ℕ
-    factorReads (number i) = []
-    factorReads (cell i x b) = indexReads x ++ owner i.word
-    factorReads (group l e r) = reads_of e
-    factorReads (inverse i f) = factorReads f
+    pub factor_reads : Factor → List ℕ
+    factor_reads (number i) = []
+    factor_reads (cell i x b) = index_reads_of x ++ owner i.word
+    factor_reads (group l e r) = reads_of e
+    factor_reads (inverse i f) = factor_reads f
 
-    pub indexReads : Index → List ℕ
-    indexReads no_index = []
-    indexReads (index l e r) = reads_of e
+    pub index_reads_of : Index → List ℕ
+    index_reads_of no_index = []
+    index_reads_of (index l e r) = reads_of e
 
-  unfoldable pub subscriptReads : List Access → List ℕ
-  subscriptReads [] = []
-  subscriptReads (a ∷ more) = indexReads a.index ++ subscriptReads more
+  unfoldable pub subscript_reads : List Access → List ℕ
+  subscript_reads [] = []
+  subscript_reads (a ∷ more) = index_reads_of a.index ++ subscript_reads more
 
   unfoldable pub stores : List Access → List ℕ
   stores [] = []
@@ -54,34 +54,34 @@ module _ (ds : Table) where
   -- with what is known of the bodies
   module _ (body : Word → Sets) where
     unfoldable mutual
-      pub setsOf : Act → Sets
-      setsOf (seq a b) = union (setsOf a) (setsOf b)
-      setsOf (par a b) = union (setsOf a) (setsOf b)
-      setsOf (label l a) = setsOf a
-      setsOf (ins i) = setsI i
+      pub sets_of : Act → Sets
+      sets_of (seq a b) = union (sets_of a) (sets_of b)
+      sets_of (par a b) = union (sets_of a) (sets_of b)
+      sets_of (label l a) = sets_of a
+      sets_of (ins i) = sets_i i
 
-      pub setsI : Ins → Sets
-      setsI (iff e a) = union (sets (reads_of e) []) (setsOf a)
-      setsI (decode p e bs) = union (sets (reads_of e) []) (setsAlts bs)
-      setsI (repeat a) = setsOf a
-      setsI (leave l) = sets [] []
-      setsI (restart l) = sets [] []
-      setsI (call n) = body n
-      setsI stop = sets [] []
-      setsI noop = sets [] []
-      setsI (transfer d e) = sets (reads_of e ++ subscriptReads d) (stores d)
+      pub sets_i : Ins → Sets
+      sets_i (iff e a) = union (sets (reads_of e) []) (sets_of a)
+      sets_i (decode p e bs) = union (sets (reads_of e) []) (sets_alts bs)
+      sets_i (repeat a) = sets_of a
+      sets_i (leave l) = sets [] []
+      sets_i (restart l) = sets [] []
+      sets_i (call n) = body n
+      sets_i stop = sets [] []
+      sets_i noop = sets [] []
+      sets_i (transfer d e) = sets (reads_of e ++ subscript_reads d) (stores d)
 
-      pub setsAlts : Alts → Sets
-      setsAlts no-alts = sets [] []
-      setsAlts (alt c a bs) = union (setsOf a) (setsAlts bs)
+      pub sets_alts : Alts → Sets
+      sets_alts no_alts = sets [] []
+      sets_alts (alt c a bs) = union (sets_of a) (sets_alts bs)
 
   -- of a body, down a chain of at most n bodies
-  unfoldable pub bodySets : ℕ → Word → Sets
-  bodySets zero n = sets [] []
-  bodySets (suc k) n = setsOf (bodySets k) (bodyAct ds n)
+  unfoldable pub body_sets : ℕ → Word → Sets
+  body_sets zero n = sets [] []
+  body_sets (suc k) n = sets_of (body_sets k) (body_act ds n)
 
   unfoldable pub touched : Act → Sets
-  touched a = setsOf (bodySets longestChain) a
+  touched a = sets_of (body_sets longest_chain) a
 
 unfoldable pub member : ℕ → List ℕ → Bool
 member x [] = false
@@ -98,63 +98,63 @@ race s t = meet s.writes (t.reads ++ t.writes) || meet t.writes (s.reads ++ s.wr
 -- whether STOP stands in an action, or in a body below it
 module _ (body : Word → Bool) where
   unfoldable mutual
-    pub stopsIn : Act → Bool
-    stopsIn (seq a b) = stopsIn a || stopsIn b
-    stopsIn (par a b) = stopsIn a || stopsIn b
-    stopsIn (label l a) = stopsIn a
-    stopsIn (ins i) = stopsI i
+    pub stops_in : Act → Bool
+    stops_in (seq a b) = stops_in a || stops_in b
+    stops_in (par a b) = stops_in a || stops_in b
+    stops_in (label l a) = stops_in a
+    stops_in (ins i) = stops_i i
 
-    pub stopsI : Ins → Bool
-    stopsI (iff e a) = stopsIn a
-    stopsI (decode p e bs) = stopsAlts bs
-    stopsI (repeat a) = stopsIn a
-    stopsI (leave l) = false
-    stopsI (restart l) = false
-    stopsI (call n) = body n
-    stopsI stop = true
-    stopsI noop = false
-    stopsI (transfer d e) = false
+    pub stops_i : Ins → Bool
+    stops_i (iff e a) = stops_in a
+    stops_i (decode p e bs) = stops_alts bs
+    stops_i (repeat a) = stops_in a
+    stops_i (leave l) = false
+    stops_i (restart l) = false
+    stops_i (call n) = body n
+    stops_i stop = true
+    stops_i noop = false
+    stops_i (transfer d e) = false
 
-    pub stopsAlts : Alts → Bool
-    stopsAlts no-alts = false
-    stopsAlts (alt c a bs) = stopsIn a || stopsAlts bs
+    pub stops_alts : Alts → Bool
+    stops_alts no_alts = false
+    stops_alts (alt c a bs) = stops_in a || stops_alts bs
 
 module _ (ds : Table) where
-  unfoldable pub bodyStops : ℕ → Word → Bool
-  bodyStops zero n = false
-  bodyStops (suc k) n = stopsIn (bodyStops k) (bodyAct ds n)
+  unfoldable pub body_stops : ℕ → Word → Bool
+  body_stops zero n = false
+  body_stops (suc k) n = stops_in (body_stops k) (body_act ds n)
 
-  unfoldable pub mayStop : Act → Bool
-  mayStop a = stopsIn (bodyStops longestChain) a
+  unfoldable pub may_stop : Act → Bool
+  may_stop a = stops_in (body_stops longest_chain) a
 
 -- the names of the bodies that an action activates
 unfoldable mutual
-  pub callsIn : Act → List Word
-  callsIn (seq a b) = callsIn a ++ callsIn b
-  callsIn (par a b) = callsIn a ++ callsIn b
-  callsIn (label l a) = callsIn a
-  callsIn (ins i) = callsI i
+  pub calls_in : Act → List Word
+  calls_in (seq a b) = calls_in a ++ calls_in b
+  calls_in (par a b) = calls_in a ++ calls_in b
+  calls_in (label l a) = calls_in a
+  calls_in (ins i) = calls_i i
 
-  pub callsI : Ins → List Word
-  callsI (iff e a) = callsIn a
-  callsI (decode p e bs) = callsAlts bs
-  callsI (repeat a) = callsIn a
-  callsI (leave l) = []
-  callsI (restart l) = []
-  callsI (call n) = n ∷ []
-  callsI stop = []
-  callsI noop = []
-  callsI (transfer d e) = []
+  pub calls_i : Ins → List Word
+  calls_i (iff e a) = calls_in a
+  calls_i (decode p e bs) = calls_alts bs
+  calls_i (repeat a) = calls_in a
+  calls_i (leave l) = []
+  calls_i (restart l) = []
+  calls_i (call n) = n ∷ []
+  calls_i stop = []
+  calls_i noop = []
+  calls_i (transfer d e) = []
 
-  pub callsAlts : Alts → List Word
-  callsAlts no-alts = []
-  callsAlts (alt c a bs) = callsIn a ++ callsAlts bs
+  pub calls_alts : Alts → List Word
+  calls_alts no_alts = []
+  calls_alts (alt c a bs) = calls_in a ++ calls_alts bs
 
-unfoldable pub anyName : (Word → Bool) → List Word → Bool
-anyName p [] = false
-anyName p (n ∷ ns) = p n || anyName p ns
+unfoldable pub any_name : (Word → Bool) → List Word → Bool
+any_name p [] = false
+any_name p (n ∷ ns) = p n || any_name p ns
 
 -- whether a chain of activations that begins with a body is over k bodies long
-unfoldable pub chainOver : Table → ℕ → Word → Bool
-chainOver ds zero n = true
-chainOver ds (suc k) n = anyName (chainOver ds k) (callsIn (bodyAct ds n))
+unfoldable pub chain_over : Table → ℕ → Word → Bool
+chain_over ds zero n = true
+chain_over ds (suc k) n = any_name (chain_over ds k) (calls_in (body_act ds n))

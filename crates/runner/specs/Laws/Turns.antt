@@ -9,8 +9,8 @@ use Rattle.stepping.specs.Steps.{returning, onward, control}
 use Rattle.runner.specs.declared.turns.Turned.{Turned}
 use Rattle.runner.specs.declared.turns.Turned.TheVariants.{At, Over, Stop, Fault}
 use Rattle.runner.specs.Runs.{stack_of}
-use Rattle.runner.specs.Turns.{turnedTo, Turns}
-use Rattle.runner.specs.Laws.Runs.{stack-pushed, bottom, popped, pushes}
+use Rattle.runner.specs.Turns.{turned_to, Turns}
+use Rattle.runner.specs.Laws.Runs.{stack_pushed, bottom, popped, pushes}
 
 goes : (n : ℕ) (σ : List ℕ) → (n ≡ 0 → ⊥) → onward n σ ≡ pc n σ
 goes zero σ z = absurd (z refl)
@@ -18,15 +18,15 @@ goes (suc n) σ z = refl
 
 module _ (stack : List ℕ) (depth : ℕ) where
   -- OUT OF A BODY
-  pub back-over : depth ≡ 0 → turnedTo Over stack ≡ return (stack_of stack depth)
-  back-over e = sym (ap return (bottom stack depth e))
+  pub back_over : depth ≡ 0 → turned_to Over stack ≡ return (stack_of stack depth)
+  back_over e = sym (ap return (bottom stack depth e))
 
-  pub back-there : (depth ≡ 0 → ⊥) → turnedTo (At (get_or stack (depth - 1) 0) (depth - 1)) stack ≡ return (stack_of stack depth)
-  back-there n = sym (popped stack depth n)
+  pub back_there : (depth ≡ 0 → ⊥) → turned_to (At (get_or stack (depth - 1) 0) (depth - 1)) stack ≡ return (stack_of stack depth)
+  back_there n = sym (popped stack depth n)
 
   -- BEHIND A STEP
   module _ {moved : Moved} where
-    turned : {stack' : List ℕ} {r : Turned} (m : Moved) → moved ≡ m → length stack' ≡ length stack → turnedTo r stack' ≡ control m (stack_of stack depth) → Turns stack moved depth stack' r
+    turned : {stack' : List ℕ} {r : Turned} (m : Moved) → moved ≡ m → length stack' ≡ length stack → turned_to r stack' ≡ control m (stack_of stack depth) → Turns stack moved depth stack' r
     turned m e l t = record { size = l; to = t ∙ sym (ap (λ m. control m (stack_of stack depth)) e) }
 
     pub faults : {m p : ℕ} → moved ≡ Faults m p → Turns stack moved depth stack (Fault m p)
@@ -38,11 +38,11 @@ module _ (stack : List ℕ) (depth : ℕ) where
     pub calls_last : {f b : ℕ} → moved ≡ Call f b → b ≡ 0 → Turns stack moved depth stack (At f depth)
     calls_last {f} {b} e z = turned (Call f b) e refl (sym (ap (λ b. pc f (returning b (stack_of stack depth))) z))
 
-    pub calls-more : {f b : ℕ} → moved ≡ Call f b → (b ≡ 0 → ⊥) → depth < length stack → Turns stack moved depth (set stack depth b) (At f (depth + 1))
-    calls-more {f} {b} e z l = turned (Call f b) e (simp length-set) (ap (pc f) (stack-pushed stack b depth l ∙ sym (pushes b (stack_of stack depth) z)))
+    pub calls_more : {f b : ℕ} → moved ≡ Call f b → (b ≡ 0 → ⊥) → depth < length stack → Turns stack moved depth (set stack depth b) (At f (depth + 1))
+    calls_more {f} {b} e z l = turned (Call f b) e (simp length-set) (ap (pc f) (stack_pushed stack b depth l ∙ sym (pushes b (stack_of stack depth) z)))
 
-    pub goes-there : {n : ℕ} → moved ≡ Go n → (n ≡ 0 → ⊥) → Turns stack moved depth stack (At n depth)
-    goes-there {n} e z = turned (Go n) e refl (sym (goes n (stack_of stack depth) z))
+    pub goes_there : {n : ℕ} → moved ≡ Go n → (n ≡ 0 → ⊥) → Turns stack moved depth stack (At n depth)
+    goes_there {n} e z = turned (Go n) e refl (sym (goes n (stack_of stack depth) z))
 
-    pub goes_back : {n : ℕ} (r : Turned) → moved ≡ Go n → n ≡ 0 → turnedTo r stack ≡ return (stack_of stack depth) → Turns stack moved depth stack r
+    pub goes_back : {n : ℕ} (r : Turned) → moved ≡ Go n → n ≡ 0 → turned_to r stack ≡ return (stack_of stack depth) → Turns stack moved depth stack r
     goes_back {n} r e z t = turned (Go n) e refl (t ∙ sym (ap (λ n. onward n (stack_of stack depth)) z))

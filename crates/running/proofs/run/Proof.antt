@@ -2,22 +2,22 @@
 -- Assumes nothing.
 use borrow.Author.Rules.{rules}
 use Rattle.lent.specs.Laws.Measured.{fits}
-use Rattle.lent.specs.Laws.Settled.{settled-from}
-use Rattle.running.specs.Laws.Outcome.{run_call, unread-call}
+use Rattle.lent.specs.Laws.Settled.{settled_from}
+use Rattle.running.specs.Laws.Outcome.{run_call, unread_call}
 use Rattle.running.proofs.run.Statement.{statement}
 use Rattle.running.proofs.run.Tie as tie
 
 returns : tie.Need-returns
-returns c = unread-call c.before.unread.ensures c.if1.true
+returns c = unread_call c.before.unread.ensures c.if1.true
 
-ran-requires : tie.Need-ran-requires
-ran-requires c κs =
+ran_requires : tie.Need-ran-requires
+ran_requires c κs =
     let t = c.before.before.before.before in
     let f = fits t.before.unread.ensures t.if1.false in
-    (f.1, (f.0.work-a, (f.0.work-b, f.0.work-c)))
+    (f.1, (f.0.work_a, (f.0.work_b, f.0.work_c)))
 
-settle-requires : tie.Need-settle-requires
-settle-requires c κs =
+settle_requires : tie.Need-settle-requires
+settle_requires c κs =
     let t = c.before.before.before.before.before.before.before.before.before.before.before.before.before.before.before.before.before in
     (fits t.before.unread.ensures t.if1.false).0.answer
 
@@ -27,7 +27,7 @@ returns-2 c =
     let k = s.before.before.before.before.before.before.before.before.before.before.before.before.before in
     let t = k.before.before.before.before.before in
     let f = fits t.before.unread.ensures t.if1.false in
-    run_call f.0 f.1 k.ran.ensures (settled-from s.settle.ensures (search rules) (search rules) (search rules))
+    run_call f.0 f.1 k.ran.ensures (settled_from s.settle.ensures (search rules) (search rules) (search rules))
 
 pub run_spec : {M : Type 1} → statement M
 run_spec =
@@ -39,8 +39,8 @@ run_spec =
     (λ c. search rules)
     (λ c. search rules)
     returns
-    ran-requires
-    settle-requires
+    ran_requires
+    settle_requires
     (λ c. search rules)
     (λ c. search rules)
     (λ c. search rules)

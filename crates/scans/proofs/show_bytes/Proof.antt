@@ -13,8 +13,8 @@ invariant-loop records₀ values₀ b₀ records values b = (b ≤ 255) × ((len
 abbrev decreases-loop : tie.decreases-loop
 decreases-loop records₀ values₀ b₀ records values b = 255 - b
 
-pub show-bytes-spec : {M : Type 1} → statement M
-show-bytes-spec =
+pub show_bytes_spec : {M : Type 1} → statement M
+show_bytes_spec =
     tie.close
     (tie.spec
     invariant-loop

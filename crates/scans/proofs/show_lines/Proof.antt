@@ -14,8 +14,8 @@ invariant-loop lines records₀ values₀ from₀ records values from = (length 
 abbrev decreases-loop : tie.decreases-loop
 decreases-loop lines records₀ values₀ from₀ records values from = length lines - from
 
-pub show-lines-spec : {M : Type 1} → statement M
-show-lines-spec =
+pub show_lines_spec : {M : Type 1} → statement M
+show_lines_spec =
     tie.close
     (tie.spec
     invariant-loop

@@ -11,8 +11,8 @@ invariant-loop records values count i₀ i = (i ≤ count) × (count ≤ 64)
 abbrev decreases-loop : tie.decreases-loop
 decreases-loop records values count i₀ i = count - i
 
-pub show-tokens-spec : {M : Type 1} → statement M
-show-tokens-spec =
+pub show_tokens_spec : {M : Type 1} → statement M
+show_tokens_spec =
     tie.close
     (tie.spec
     invariant-loop

@@ -1,7 +1,7 @@
 -- "Every refusal number has its own sentence": the refusal numbers of document 01's table, and that no two of their sentences are the same.
 -- Assumes nothing.
 use Rattle.std.specs.Prelude.{ℕ, ◌≡◌, refl, Bool, true, false, ◌&&◌, not, List, [], ◌∷◌, eqb}
-use Rattle.sentences.specs.Sentences.{among, callSentences, tokenSentences, grammarSentences, declarationSentences, bodySentences, wholeSentences, carrierSentences}
+use Rattle.sentences.specs.Sentences.{among, call_sentences, token_sentences, grammar_sentences, declaration_sentences, body_sentences, whole_sentences, carrier_sentences}
 use Rattle.sentences.specs.Sentences.{ten, sentence}
 
 abbrev pub refusals : List ℕ
@@ -15,15 +15,15 @@ same (x ∷ xs) [] = false
 same (x ∷ xs) (y ∷ ys) = eqb x y && same xs ys
 
 -- a sentence is that of none of these numbers
-unfoldable pub saidOfNone : List ℕ → List ℕ → Bool
-saidOfNone s [] = true
-saidOfNone s (n ∷ ns) = not (same s (sentence n)) && saidOfNone s ns
+unfoldable pub said_of_none : List ℕ → List ℕ → Bool
+said_of_none s [] = true
+said_of_none s (n ∷ ns) = not (same s (sentence n)) && said_of_none s ns
 
 -- each of these numbers has a sentence, which no later one has
-unfoldable pub allOwn : List ℕ → Bool
-allOwn [] = true
-allOwn (n ∷ ns) = (not (same (sentence n) []) && saidOfNone (sentence n) ns) && allOwn ns
+unfoldable pub all_own : List ℕ → Bool
+all_own [] = true
+all_own (n ∷ ns) = (not (same (sentence n) []) && said_of_none (sentence n) ns) && all_own ns
 
-pub own-sentence : allOwn refusals ≡ true
-unfolding allOwn saidOfNone same sentence ten among callSentences tokenSentences grammarSentences declarationSentences bodySentences wholeSentences carrierSentences
-own-sentence = refl
+pub own_sentence : all_own refusals ≡ true
+unfolding all_own said_of_none same sentence ten among call_sentences token_sentences grammar_sentences declaration_sentences body_sentences whole_sentences carrier_sentences
+own_sentence = refl

@@ -2,16 +2,16 @@
 -- Assumes nothing.
 use borrow.Author.Rules.{rules}
 use native.Mathlib.Omega.{arith}
-use Rattle.spans.proofs.Ranges.{few_words, no-storage, storage}
+use Rattle.spans.proofs.Ranges.{few_words, no_storage, storage}
 use Rattle.spans.proofs.storage_words.Statement.{statement}
 use Rattle.spans.proofs.storage_words.Tie as tie
 
-pub storage-words-spec : {M : Type 1} → statement M
-storage-words-spec =
+pub storage_words_spec : {M : Type 1} → statement M
+storage_words_spec =
     tie.close
     (tie.spec
     (λ c κs. search rules)
-    (λ c. search (rules, no-storage))
+    (λ c. search (rules, no_storage))
     (λ c κs. search rules)
     (λ c. omega (arith, few_words c.before.before.before.args.words c.before.before.before.requires))
     (λ c.

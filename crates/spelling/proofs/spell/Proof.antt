@@ -2,7 +2,7 @@
 -- Assumes nothing.
 use borrow.Author.Rules.{rules}
 use Prim.Native.Nat.{◌-◌}
-use Rattle.spelling.proofs.Steps.{Inv, begun, next-token, one-spelled, room-left, tokens-spelled}
+use Rattle.spelling.proofs.Steps.{Inv, begun, next_token, one_spelled, room_left, tokens_spelled}
 use Rattle.spelling.proofs.spell.Statement.{statement}
 use Rattle.spelling.proofs.spell.Tie as tie
 
@@ -12,18 +12,18 @@ invariant-loop text records₀ room₀ n i₀ records room i = Inv text records�
 abbrev decreases-loop : tie.decreases-loop
 decreases-loop text records₀ room₀ n i₀ records room i = n - i
 
-pub spell-spec : {M : Type 1} → statement M
-spell-spec =
+pub spell_spec : {M : Type 1} → statement M
+spell_spec =
     tie.close
     (tie.spec
     invariant-loop
     decreases-loop
     (λ c κs. search rules)
     (λ c. search (rules, begun))
-    (λ c κs. search (rules, next-token, room-left))
+    (λ c κs. search (rules, next_token, room_left))
     (λ c. search rules)
     (λ c. search rules)
-    (λ c. search (rules, one-spelled))
+    (λ c. search (rules, one_spelled))
     (λ c. search rules)
     (λ c. search rules)
-    (λ c. tokens-spelled c.before.loop.invariant c.loop-test.false))
+    (λ c. tokens_spelled c.before.loop.invariant c.loop-test.false))

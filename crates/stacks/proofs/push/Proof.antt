@@ -2,8 +2,8 @@
 -- Assumes nothing.
 use borrow.Author.Rules.{rules}
 use native.Mathlib.Omega.{arith}
-use Rattle.stacks.specs.Laws.Index.{spelling-small}
-use Rattle.stacks.specs.Laws.Pushed.{is-pushed}
+use Rattle.stacks.specs.Laws.Index.{spelling_small}
+use Rattle.stacks.specs.Laws.Pushed.{is_pushed}
 use Rattle.stacks.proofs.push.Statement.{statement}
 use Rattle.stacks.proofs.push.Tie as tie
 
@@ -13,10 +13,10 @@ push_spec =
     (tie.spec
     (λ c κs. search rules)
     (λ c κs. search rules)
-    (λ c. omega (arith, spelling-small c.before.before.before.before.before.before.requires.0))
+    (λ c. omega (arith, spelling_small c.before.before.before.before.before.before.requires.0))
     (λ c. search rules)
-    (λ c κs. omega (arith, spelling-small c.before.before.before.before.before.before.requires.0))
+    (λ c κs. omega (arith, spelling_small c.before.before.before.before.before.before.requires.0))
     (λ c. search rules)
     (λ c κs. search rules)
     (λ c. search rules)
-    (λ c. search (rules, is-pushed)))
+    (λ c. search (rules, is_pushed)))

@@ -3,9 +3,9 @@
 use borrow.Author.Rules.{rules}
 use native.Mathlib.Omega.{arith}
 use Prim.Native.Nat.{◌-◌}
-use Rattle.table.specs.Laws.Kth.{kth-room, kth-view}
-use Rattle.declare.specs.Laws.Small.{small-there}
-use Rattle.starts.proofs.Walking.{Walked, refused-60, none-walked, to-seek, refused-61, walked_more, all-walked}
+use Rattle.table.specs.Laws.Kth.{kth_room, kth_view}
+use Rattle.declare.specs.Laws.Small.{small_there}
+use Rattle.starts.proofs.Walking.{Walked, refused_60, none_walked, to_seek, refused_61, walked_more, all_walked}
 use Rattle.starts.proofs.start.Statement.{statement}
 use Rattle.starts.proofs.start.Tie as tie
 
@@ -23,25 +23,25 @@ start_spec =
     decreases-loop
     (λ c κs. search rules)
     (λ c. omega (arith, c.words.ensures.1))
-    (λ c. refused-60 _ c.before.words.ensures c.if1.true)
-    (λ c. none-walked _ c.before.words.ensures c.if1.false)
-    (λ c κs. search (rules, kth-room))
+    (λ c. refused_60 _ c.before.words.ensures c.if1.true)
+    (λ c. none_walked _ c.before.words.ensures c.if1.false)
+    (λ c κs. search (rules, kth_room))
     (λ c. search rules)
-    (λ c κs. search (rules, small-there))
+    (λ c κs. search (rules, small_there))
     (λ c. omega (arith, c.before.before.before.loop.invariant.room, c.words-in.ensures.1))
-    (λ c κs. search (rules, kth-view))
+    (λ c κs. search (rules, kth_view))
     (λ c κs. search rules)
     (λ c κs.
     let t = c.before.before.before.before in
-    to-seek t.before.loop.invariant t.loop-test.true c.before.before.before.get16.ensures c.before.before.words-in.ensures.0
+    to_seek t.before.loop.invariant t.loop-test.true c.before.before.before.get16.ensures c.before.before.words-in.ensures.0
     c.before.bits_of.ensures c.last_of.ensures t.before.before.before.before.before.before.before.before.requires)
     (λ c.
     let t = c.before.before.before.before in omega (arith, t.before.before.before.loop.invariant.room, t.words-in.ensures.1))
     (λ c.
     let t = c.before.before.before.before.before in
-    refused-61 t.before.before.loop.invariant t.before.loop-test.true t.get16.ensures c.before.before.before.before.words-in.ensures.0
+    refused_61 t.before.before.loop.invariant t.before.loop-test.true t.get16.ensures c.before.before.before.before.words-in.ensures.0
     c.before.before.before.bits_of.ensures c.before.before.last_of.ensures c.before.first-long.ensures c.if2.true)
     (λ c. search rules)
     (λ c. search rules)
     (λ c. search (rules, walked_more))
-    (λ c. all-walked c.before.loop.invariant c.loop-test.false))
+    (λ c. all_walked c.before.loop.invariant c.loop-test.false))

@@ -7,11 +7,11 @@ use Rattle.starts.specs.Starts.{Starts, begins, declines, Begins, Declines}
 use Rattle.starts.specs.declared.Started.{Started}
 use Rattle.starts.specs.declared.Started.TheVariants.{Fine, Refused}
 
-pub declines-by : {ds : Table} {buffer : List ℕ} {r : Started} {m p : ℕ} → Starts ds buffer r → r ≡ Refused m p → Declines ds buffer m p
-declines-by (begins h) e = let z : ◌≡◌ {A = ℕ} 0 1 = cc in absurd (omega arith)
-declines-by {ds} {buffer} {m = m} {p} (declines {number = k} {place = q} h) e =
+pub declines_by : {ds : Table} {buffer : List ℕ} {r : Started} {m p : ℕ} → Starts ds buffer r → r ≡ Refused m p → Declines ds buffer m p
+declines_by (begins h) e = let z : ◌≡◌ {A = ℕ} 0 1 = cc in absurd (omega arith)
+declines_by {ds} {buffer} {m = m} {p} (declines {number = k} {place = q} h) e =
     let x : k ≡ m = cc in let y : q ≡ p = cc in subst (λ z. Declines ds buffer z p) x (subst (Declines ds buffer k) y h)
 
-pub begins-by : {ds : Table} {buffer : List ℕ} {r : Started} → Starts ds buffer r → r ≡ Fine → Begins ds buffer
-begins-by (begins h) e = h
-begins-by (declines h) e = let z : ◌≡◌ {A = ℕ} 0 1 = cc in absurd (omega arith)
+pub begins_by : {ds : Table} {buffer : List ℕ} {r : Started} → Starts ds buffer r → r ≡ Fine → Begins ds buffer
+begins_by (begins h) e = h
+begins_by (declines h) e = let z : ◌≡◌ {A = ℕ} 0 1 = cc in absurd (omega arith)

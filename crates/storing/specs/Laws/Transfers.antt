@@ -8,12 +8,12 @@ use Rattle.rules.specs.Grammar.Precedence.{Expr}
 use Rattle.rules.specs.Values.{Value, cut}
 use Rattle.rules.specs.Limits.{deepest}
 use Rattle.rules.specs.Declarations.{Table}
-use Rattle.rules.specs.Stores.{Entry, entriesOf, stored, ifGiven, made}
-use Rattle.rules.specs.Steps.Actions.{Access, access, transferPlace, joinedAccesses}
+use Rattle.rules.specs.Stores.{Entry, entries_of, stored, if_given, made}
+use Rattle.rules.specs.Steps.Actions.{Access, access, transfer_place, joined_accesses}
 use Rattle.rules.specs.Steps.Control.{moves}
-use Rattle.rules.specs.Steps.Evaluation.{Carriers, Outcome, gives, faulty, then, Field, evaluate, evaluateAccesses, transferred}
-use Rattle.records.specs.Holds.{placeCell, insideCell}
-use Rattle.table.specs.Laws.Positions.{here, record-within}
+use Rattle.rules.specs.Steps.Evaluation.{Carriers, Outcome, gives, faulty, then, Field, evaluate, evaluate_accesses, transferred}
+use Rattle.records.specs.Holds.{place_cell, inside_cell}
+use Rattle.table.specs.Laws.Positions.{here, record_within}
 use Rattle.operands.specs.declared.accesses.Located.{Located}
 use Rattle.operands.specs.declared.accesses.Located.TheVariants.{Field as located, Fault as outside}
 use Rattle.operands.specs.declared.expressions.Evaluated.{Evaluated}
@@ -27,95 +27,95 @@ use Rattle.evaluation.specs.declared.transfers.Transferred.TheVariants.{Stored, 
 use Rattle.evaluation.specs.Stores.{sizes, StoresAt}
 use Rattle.evaluation.specs.Gathering.{GatherAt, GatherAnswer}
 use Rattle.evaluation.specs.Transfers.{assigned, AssignAt, TransferAt}
-use Rattle.evaluation.specs.Laws.Transfers.{joined-faults, gathers, stores_at, joined-stored, assign-faults, gather-at, assign-joined}
-use Rattle.evaluation.specs.Laws.Transfers.{right-gives, transfer-faults, assign-at, assign-to, transfer-assigned}
-use Rattle.matching.specs.Matching.{toldAll}
+use Rattle.evaluation.specs.Laws.Transfers.{joined_faults, gathers, stores_at, joined_stored, assign_faults, gather_at, assign_joined}
+use Rattle.evaluation.specs.Laws.Transfers.{right_gives, transfer_faults, assign_at, assign_to, transfer_assigned}
+use Rattle.matching.specs.Matching.{told_all}
 use Rattle.matching.specs.Room.{Sound}
 use Rattle.storing.specs.Parts.{Tells, StoresTold}
 use Rattle.storing.specs.Transfers.{entered, FieldsTold, AssignTold, TransferTold}
 
-tells-nothing : {l : List Entry} {room : List ℕ} {es : List Entry} → es ≡ [] → Sound l room → Tells l room room es
-unfolding toldAll
-tells-nothing {l} {room} e s = subst (Tells l room room) (sym e) (record { sound = s; is = refl })
+tells_nothing : {l : List Entry} {room : List ℕ} {es : List Entry} → es ≡ [] → Sound l room → Tells l room room es
+unfolding told_all
+tells_nothing {l} {room} e s = subst (Tells l room room) (sym e) (record { sound = s; is = refl })
 
 -- where the stores meet a fault, there are no entries
-none-entered : (o : Outcome (List Field)) (f : List Field → Carriers) (g : List Field → List Entry) {m p : ℕ} → then o (λ fs. gives (f fs)) ≡ faulty m p
-    → ifGiven (then o (λ fs. gives (g fs))) ≡ []
+none_entered : (o : Outcome (List Field)) (f : List Field → Carriers) (g : List Field → List Entry) {m p : ℕ} → then o (λ fs. gives (f fs)) ≡ faulty m p
+    → if_given (then o (λ fs. gives (g fs))) ≡ []
 unfolding then
-none-entered (gives fs) f g e = let z : ◌≡◌ {A = ℕ} 0 1 = cc in absurd (omega arith)
-none-entered (faulty m p) f g e = refl
+none_entered (gives fs) f g e = let z : ◌≡◌ {A = ℕ} 0 1 = cc in absurd (omega arith)
+none_entered (faulty m p) f g e = refl
 
 -- A transfer that faults makes no stores.
-pub fault-makes-nothing : (ds : Table) (s : Carriers) (to : List Access) (e : Expr) {m p : ℕ} → transferred ds s to e ≡ faulty m p → made ds (moves to e) s ≡ []
+pub fault_makes_nothing : (ds : Table) (s : Carriers) (to : List Access) (e : Expr) {m p : ℕ} → transferred ds s to e ≡ faulty m p → made ds (moves to e) s ≡ []
 unfolding transferred stored then
-fault-makes-nothing ds s to e {m} {p} = by (evaluate ds s e)
+fault_makes_nothing ds s to e {m} {p} = by (evaluate ds s e)
   where
     by : (o : Outcome Value) → then o (λ v. assigned ds s to v.number) ≡ faulty m p
-        → ifGiven (then o (λ v. entered (transferPlace to) ds s to v.number)) ≡ []
-    by (gives v) q = none-entered (evaluateAccesses ds s to) _ (λ fs. entriesOf (transferPlace to) s fs (cut (sizes fs) v.number)) q
+        → if_given (then o (λ v. entered (transfer_place to) ds s to v.number)) ≡ []
+    by (gives v) q = none_entered (evaluate_accesses ds s to) _ (λ fs. entries_of (transfer_place to) s fs (cut (sizes fs) v.number)) q
     by (faulty n r) q = refl
 
 module _ {records values carriers : List ℕ} {word low size p end : ℕ} (g : GatherAt records values carriers word low size p end) (x place : ℕ) where
-  abbrev entriesBy : List Field → List Entry
-  entriesBy fs = entriesOf place (words_of g.scene) fs (cut (sizes fs) x)
+  abbrev entries_by : List Field → List Entry
+  entries_by fs = entries_of place (words_of g.scene) fs (cut (sizes fs) x)
 
   module _ (l : List Entry) (room scratch : List ℕ) {r : Gathered} (f : (v : GatherAt records values carriers word low size p end) → GatherAnswer v scratch r) where
-    pub fields-fault : {q : ℕ} → r ≡ missed q → Sound l room → FieldsTold g x place carriers l room room (Fault q)
-    fields-fault e s = let h = joined-faults g x scratch f e in (h, tells-nothing (none-entered _ _ entriesBy h.0) s)
+    pub fields_fault : {q : ℕ} → r ≡ missed q → Sound l room → FieldsTold g x place carriers l room room (Fault q)
+    fields_fault e s = let h = joined_faults g x scratch f e in (h, tells_nothing (none_entered _ _ entries_by h.0) s)
 
-    pub fields-stored : {count bits : ℕ} → r ≡ Fields count bits → (after room' : List ℕ)
+    pub fields_stored : {count bits : ℕ} → r ≡ Fields count bits → (after room' : List ℕ)
         → ((s : StoresAt carriers scratch count bits) → StoresTold s x place after l room room') → FieldsTold g x place after l room room' Stored
     unfolding then stores_at
-    fields-stored e after room' h = (
-      joined-stored g scratch f e x after (λ s. (h s).0),
-      subst (Tells l room room') (sym (ap (λ o. ifGiven (then o (λ fs. gives (entriesBy fs)))) (gathers g scratch f e).comes)) (h (stores_at g scratch f e)).1,
+    fields_stored e after room' h = (
+      joined_stored g scratch f e x after (λ s. (h s).0),
+      subst (Tells l room room') (sym (ap (λ o. if_given (then o (λ fs. gives (entries_by fs)))) (gathers g scratch f e).comes)) (h (stores_at g scratch f e)).1,
     )
 
 module _ {records values carriers : List ℕ} {n end : ℕ} (d : AssignAt records values carriers n end) where
   abbrev to : List Access
-  to = access d.name d.subscript d.bits ∷ joinedAccesses d.more
+  to = access d.name d.subscript d.bits ∷ joined_accesses d.more
 
-  pub assign-room : 8 * n + 8 ≤ length records
-  assign-room = record-within d.scene.holds n (here d.scene.tokens n _ _ d.reads).within
+  pub assign_room : 8 * n + 8 ≤ length records
+  assign_room = record_within d.scene.holds n (here d.scene.tokens n _ _ d.reads).within
 
-  assign-place : placeCell records n ≡ transferPlace to
+  assign_place : place_cell records n ≡ transfer_place to
   unfolding access
-  assign-place =
+  assign_place =
       let h = here d.scene.tokens n _ _ d.reads in
       (d.scene.holds.entry n h.within).place ∙ ap (λ (t : Token). t.info.place) h.token
 
   module _ (x : ℕ) (l : List Entry) (room : List ℕ) {r : Located} (f : AccessTold records values carriers n deepest r) where
-    pub assign-fault : {p : ℕ} → r ≡ outside p → Sound l room → AssignTold d x carriers l room room (Fault p)
-    assign-fault e s =
-        let h = assign-faults d x f e in
-        (h, tells-nothing (none-entered _ _ (λ fs. entriesOf (transferPlace to) (words_of d.scene) fs (cut (sizes fs) x)) h.0) s)
+    pub assign_fault : {p : ℕ} → r ≡ outside p → Sound l room → AssignTold d x carriers l room room (Fault p)
+    assign_fault e s =
+        let h = assign_faults d x f e in
+        (h, tells_nothing (none_entered _ _ (λ fs. entries_of (transfer_place to) (words_of d.scene) fs (cut (sizes fs) x)) h.0) s)
 
-    pub assign-told : {word low size next place : ℕ} → r ≡ located word low size next → place ≡ placeCell records n → (after room' : List ℕ) (q : Transferred)
+    pub assign_told : {word low size next place : ℕ} → r ≡ located word low size next → place ≡ place_cell records n → (after room' : List ℕ) (q : Transferred)
         → ((g : GatherAt records values carriers word low size next end) → FieldsTold g x place after l room room' q) → AssignTold d x after l room room' q
-    unfolding gather-at
-    assign-told e is after room' q h = (
-      assign-joined d f e x after q (λ g. (h g).0),
-      subst (λ i. Tells l room room' (ifGiven (entered i d.scene.table (words_of d.scene) to x))) (is ∙ assign-place) (h (gather-at d f e)).1,
+    unfolding gather_at
+    assign_told e is after room' q h = (
+      assign_joined d f e x after q (λ g. (h g).0),
+      subst (λ i. Tells l room room' (if_given (entered i d.scene.table (words_of d.scene) to x))) (is ∙ assign_place) (h (gather_at d f e)).1,
     )
 
 module _ {records values carriers : List ℕ} {n : ℕ} (t : TransferAt records values carriers n) where
   -- what follows the right side
-  abbrev storedBy : Outcome Value → List Entry
-  storedBy o = ifGiven (then o (λ v. entered (transferPlace t.to) t.scene.table (words_of t.scene) t.to v.number))
+  abbrev stored_by : Outcome Value → List Entry
+  stored_by o = if_given (then o (λ v. entered (transfer_place t.to) t.scene.table (words_of t.scene) t.to v.number))
 
-  module _ {k : ℕ} (equals : k ≡ insideCell records n) (l : List Entry) (room : List ℕ) {r : Evaluated}
+  module _ {k : ℕ} (equals : k ≡ inside_cell records n) (l : List Entry) (room : List ℕ) {r : Evaluated}
       (f : ExpressionTold records values carriers (k + 1) deepest r) where
-    pub transfer-fault : {p : ℕ} → r ≡ faulted p → Sound l room → TransferTold t carriers l room room (Fault p)
-    transfer-fault e s =
-        let h = transfer-faults t equals f e in
-        (h, tells-nothing (fault-makes-nothing t.scene.table (words_of t.scene) t.to t.right h.0) s)
+    pub transfer_fault : {p : ℕ} → r ≡ faulted p → Sound l room → TransferTold t carriers l room room (Fault p)
+    transfer_fault e s =
+        let h = transfer_faults t equals f e in
+        (h, tells_nothing (fault_makes_nothing t.scene.table (words_of t.scene) t.to t.right h.0) s)
 
-    pub transfer-told : {x m p : ℕ} → r ≡ worked x m p → (after room' : List ℕ) (q : Transferred)
+    pub transfer_told : {x m p : ℕ} → r ≡ worked x m p → (after room' : List ℕ) (q : Transferred)
         → ((d : AssignAt records values carriers n k) → AssignTold d x after l room room' q) → TransferTold t after l room room' q
-    unfolding stored then assign-at
-    transfer-told {x} e after room' q h = (
-      transfer-assigned t equals f e after q (λ d. (h d).0),
+    unfolding stored then assign_at
+    transfer_told {x} e after room' q h = (
+      transfer_assigned t equals f e after q (λ d. (h d).0),
       subst (Tells l room room')
-          (sym (ap storedBy (right-gives t equals f e)
-          ∙ ap (λ to. ifGiven (entered (transferPlace to) t.scene.table (words_of t.scene) to x)) (assign-to t equals))) (h (assign-at t equals)).1,
+          (sym (ap stored_by (right_gives t equals f e)
+          ∙ ap (λ to. if_given (entered (transfer_place to) t.scene.table (words_of t.scene) to x)) (assign_to t equals))) (h (assign_at t equals)).1,
     )

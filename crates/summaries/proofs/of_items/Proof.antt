@@ -5,8 +5,8 @@ use native.Mathlib.Omega.{arith}
 use Prim.Native.Nat.{◌-◌}
 use lib.ListN.{length}
 use Rattle.patterns.specs.Stands.{ItemsView}
-use Rattle.patterns.specs.Laws.Lists.{all_left, item-view, next-room, walks-on}
-use Rattle.summaries.specs.Laws.Gathering.{read-bounded, Gathered, none-gathered, gathers-on, all-gathered}
+use Rattle.patterns.specs.Laws.Lists.{all_left, item_view, next_room, walks_on}
+use Rattle.summaries.specs.Laws.Gathering.{read_bounded, Gathered, none_gathered, gathers_on, all_gathered}
 use Rattle.summaries.proofs.of_items.Statement.{statement}
 use Rattle.summaries.proofs.of_items.Tie as tie
 
@@ -16,20 +16,20 @@ invariant-loop records values q all₀ at₀ all at = (v : ItemsView records val
 abbrev decreases-loop : tie.decreases-loop
 decreases-loop records values q all₀ at₀ all at = length records - at
 
-pub of-items-spec : {M : Type 1} → statement M
-of-items-spec =
+pub of_items_spec : {M : Type 1} → statement M
+of_items_spec =
     tie.close
     (tie.spec
     invariant-loop
     decreases-loop
-    (λ c κs. item-view (all_left c.before.before.requires))
-    (λ c κs. let v = item-view (all_left c.before.before.before.requires) in read-bounded v (c.item-at.ensures v))
-    (λ c v. none-gathered v c.of-item.ensures)
-    (λ c κs. item-view (c.loop.invariant c.before.before.before.before.before.requires).rest)
-    (λ c κs. let v = item-view (c.before.loop.invariant c.before.before.before.before.before.before.requires).rest in read-bounded v (c.item-at2.ensures v))
+    (λ c κs. item_view (all_left c.before.before.requires))
+    (λ c κs. let v = item_view (all_left c.before.before.before.requires) in read_bounded v (c.item-at.ensures v))
+    (λ c v. none_gathered v c.of-item.ensures)
+    (λ c κs. item_view (c.loop.invariant c.before.before.before.before.before.requires).rest)
+    (λ c κs. let v = item_view (c.before.loop.invariant c.before.before.before.before.before.before.requires).rest in read_bounded v (c.item-at2.ensures v))
     (λ c κs. search rules)
-    (λ c κs. next-room (c.before.before.before.loop.invariant c.before.before.before.before.before.before.before.before.requires).rest c.before.before.item-at2.ensures)
-    (λ c v. all-gathered (c.before.before.before.before.before.loop.invariant v) c.before.before.before.before.item-at2.ensures c.before.before.before.of-item2.ensures c.before.before.joined.ensures c.before.kind_at.ensures c.if1.true)
-    (λ c. omega (arith, walks-on (c.before.before.before.before.before.loop.invariant c.before.before.before.before.before.before.before.before.before.before.requires).rest c.before.before.before.before.item-at2.ensures))
-    (λ c. omega (arith, walks-on (c.before.before.before.before.before.loop.invariant c.before.before.before.before.before.before.before.before.before.before.requires).rest c.before.before.before.before.item-at2.ensures))
-    (λ c v. gathers-on (c.before.before.before.before.before.loop.invariant v) c.before.before.before.before.item-at2.ensures c.before.before.before.of-item2.ensures c.before.before.joined.ensures c.before.kind_at.ensures c.if1.false))
+    (λ c κs. next_room (c.before.before.before.loop.invariant c.before.before.before.before.before.before.before.before.requires).rest c.before.before.item-at2.ensures)
+    (λ c v. all_gathered (c.before.before.before.before.before.loop.invariant v) c.before.before.before.before.item-at2.ensures c.before.before.before.of-item2.ensures c.before.before.joined.ensures c.before.kind_at.ensures c.if1.true)
+    (λ c. omega (arith, walks_on (c.before.before.before.before.before.loop.invariant c.before.before.before.before.before.before.before.before.before.before.requires).rest c.before.before.before.before.item-at2.ensures))
+    (λ c. omega (arith, walks_on (c.before.before.before.before.before.loop.invariant c.before.before.before.before.before.before.before.before.before.before.requires).rest c.before.before.before.before.item-at2.ensures))
+    (λ c v. gathers_on (c.before.before.before.before.before.loop.invariant v) c.before.before.before.before.item-at2.ensures c.before.before.before.of-item2.ensures c.before.before.joined.ensures c.before.kind_at.ensures c.if1.false))

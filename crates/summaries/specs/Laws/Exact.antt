@@ -6,13 +6,13 @@ use Rattle.std.proofs.Math.Nat.{pow-succ'}
 use Rattle.std.proofs.Math.Decide.{dec_lt}
 use Rattle.std.proofs.Math.Dec.{eqb_refl}
 use Rattle.rules.specs.Selectors.{Item, pattern, between, agree, matches}
-use Rattle.rules.specs.Faults.Bodies.{patternsMeet, reaches, itemsMeet}
-use Rattle.patterns.specs.Laws.Patterns.{Bit, b0, b1, lowest-bit}
+use Rattle.rules.specs.Faults.Bodies.{patterns_meet, reaches, items_meet}
+use Rattle.patterns.specs.Laws.Patterns.{Bit, b0, b1, lowest_bit}
 use Rattle.patterns.specs.Reaches.{may}
-use Rattle.patterns.specs.Laws.Reaches.{both-have, neither-has, one_has}
+use Rattle.patterns.specs.Laws.Reaches.{both_have, neither_has, one_has}
 use Rattle.summaries.specs.Laws.Truth.{both, first, second, left, right, which}
 use Rattle.summaries.specs.Fits.{PatternFits, ItemFits}
-use Rattle.summaries.specs.Laws.Values.{allows, low_fits, by-highest, least, greatest, least-agrees, greatest-agrees, sum_fits, Split, split-low, split-high}
+use Rattle.summaries.specs.Laws.Values.{allows, low_fits, by_highest, least, greatest, least_agrees, greatest_agrees, sum_fits, Split, split_low, split_high}
 
 -- TWO PATTERNS
 pub record BothAgree (n v f w g x : ℕ) : Type 0 where
@@ -23,40 +23,40 @@ pub record BothAgree (n v f w g x : ℕ) : Type 0 where
 -- a bit of a common value
 record CommonBit (v f w g : ℕ) : Type 0 where
   bit : ℕ
-  is-bit : Bit bit
+  is_bit : Bit bit
   one : T (allows f v bit)
   other : T (allows g w bit)
 
-common-bit : {v f w g : ℕ} → Bit v → Bit f → Bit w → Bit g → T (eqb f 1 || (eqb g 1 || eqb v w)) → CommonBit v f w g
-common-bit {w = w} {g = g} _ b1 y _ h = record { bit = w; is-bit = y; one = tt; other = right (eqb g 1) (eqb w w) (eqb_refl w) }
-common-bit {v = v} x b0 _ b1 h = record { bit = v; is-bit = x; one = eqb_refl v; other = tt }
-common-bit b0 b0 b0 b0 h = record { bit = 0; is-bit = b0; one = tt; other = tt }
-common-bit b0 b0 b1 b0 h = absurd h
-common-bit b1 b0 b0 b0 h = absurd h
-common-bit b1 b0 b1 b0 h = record { bit = 1; is-bit = b1; one = tt; other = tt }
+common_bit : {v f w g : ℕ} → Bit v → Bit f → Bit w → Bit g → T (eqb f 1 || (eqb g 1 || eqb v w)) → CommonBit v f w g
+common_bit {w = w} {g = g} _ b1 y _ h = record { bit = w; is_bit = y; one = tt; other = right (eqb g 1) (eqb w w) (eqb_refl w) }
+common_bit {v = v} x b0 _ b1 h = record { bit = v; is_bit = x; one = eqb_refl v; other = tt }
+common_bit b0 b0 b0 b0 h = record { bit = 0; is_bit = b0; one = tt; other = tt }
+common_bit b0 b0 b1 b0 h = absurd h
+common_bit b1 b0 b0 b0 h = absurd h
+common_bit b1 b0 b1 b0 h = record { bit = 1; is_bit = b1; one = tt; other = tt }
 
-bit-common : {v f w g : ℕ} → Bit v → Bit f → Bit w → Bit g → (x : ℕ) → T (allows f v x) → T (allows g w x) → T (eqb f 1 || (eqb g 1 || eqb v w))
-bit-common _ b1 _ _ x p q = tt
-bit-common _ b0 _ b1 x p q = tt
-bit-common b0 b0 b0 b0 x p q = tt
-bit-common b1 b0 b1 b0 x p q = tt
-bit-common b0 b0 b1 b0 x p q = absurd (omega (arith, eqb→eq 0 x p, eqb→eq 1 x q))
-bit-common b1 b0 b0 b0 x p q = absurd (omega (arith, eqb→eq 1 x p, eqb→eq 0 x q))
+bit_common : {v f w g : ℕ} → Bit v → Bit f → Bit w → Bit g → (x : ℕ) → T (allows f v x) → T (allows g w x) → T (eqb f 1 || (eqb g 1 || eqb v w))
+bit_common _ b1 _ _ x p q = tt
+bit_common _ b0 _ b1 x p q = tt
+bit_common b0 b0 b0 b0 x p q = tt
+bit_common b1 b0 b1 b0 x p q = tt
+bit_common b0 b0 b1 b0 x p q = absurd (omega (arith, eqb→eq 0 x p, eqb→eq 1 x q))
+bit_common b1 b0 b0 b0 x p q = absurd (omega (arith, eqb→eq 1 x p, eqb→eq 0 x q))
 
 pub below_two : {x : ℕ} → Bit x → x < 2
 below_two b0 = omega arith
 below_two b1 = omega arith
 
-patterns-common : (n v f w g : ℕ) → T (patternsMeet n v f w g) → (x : ℕ) × BothAgree n v f w g x
-unfolding patternsMeet agree
-patterns-common zero v f w g h = (0, record { short = omega arith; one = tt; other = tt })
-patterns-common (suc n) v f w g h =
+patterns_common : (n v f w g : ℕ) → T (patterns_meet n v f w g) → (x : ℕ) × BothAgree n v f w g x
+unfolding patterns_meet agree
+patterns_common zero v f w g h = (0, record { short = omega arith; one = tt; other = tt })
+patterns_common (suc n) v f w g h =
     let here = eqb (f % 2) 1 || (eqb (g % 2) 1 || eqb (v % 2) (w % 2)) in
-    let rest = patternsMeet n (v / 2) (f / 2) (w / 2) (g / 2) in
-    let c = common-bit (lowest-bit v) (lowest-bit f) (lowest-bit w) (lowest-bit g) (first here rest h) in
-    let r = patterns-common n (v / 2) (f / 2) (w / 2) (g / 2) (second here rest h) in
+    let rest = patterns_meet n (v / 2) (f / 2) (w / 2) (g / 2) in
+    let c = common_bit (lowest_bit v) (lowest_bit f) (lowest_bit w) (lowest_bit g) (first here rest h) in
+    let r = patterns_common n (v / 2) (f / 2) (w / 2) (g / 2) (second here rest h) in
     let x = r.0 * 2 + c.bit in
-    let small = below_two c.is-bit in
+    let small = below_two c.is_bit in
     let half : x / 2 ≡ r.0 = omega arith in
     let bit : x % 2 ≡ c.bit = omega arith in (
       x,
@@ -67,18 +67,18 @@ patterns-common (suc n) v f w g h =
       },
     )
 
-pub common-patterns : (n v f w g x : ℕ) → BothAgree n v f w g x → T (patternsMeet n v f w g)
-unfolding patternsMeet agree
-common-patterns zero v f w g x c = tt
-common-patterns (suc n) v f w g x c =
+pub common_patterns : (n v f w g x : ℕ) → BothAgree n v f w g x → T (patterns_meet n v f w g)
+unfolding patterns_meet agree
+common_patterns zero v f w g x c = tt
+common_patterns (suc n) v f w g x c =
     let a = allows (f % 2) (v % 2) (x % 2) in
     let b = allows (g % 2) (w % 2) (x % 2) in
     let p = agree n (v / 2) (f / 2) (x / 2) in
     let q = agree n (w / 2) (g / 2) (x / 2) in
     let s = c.short in
-    both (eqb (f % 2) 1 || (eqb (g % 2) 1 || eqb (v % 2) (w % 2))) (patternsMeet n (v / 2) (f / 2) (w / 2) (g / 2))
-    (bit-common (lowest-bit v) (lowest-bit f) (lowest-bit w) (lowest-bit g) (x % 2) (first a p c.one) (first b q c.other))
-    (common-patterns n (v / 2) (f / 2) (w / 2) (g / 2) (x / 2)
+    both (eqb (f % 2) 1 || (eqb (g % 2) 1 || eqb (v % 2) (w % 2))) (patterns_meet n (v / 2) (f / 2) (w / 2) (g / 2))
+    (bit_common (lowest_bit v) (lowest_bit f) (lowest_bit w) (lowest_bit g) (x % 2) (first a p c.one) (first b q c.other))
+    (common_patterns n (v / 2) (f / 2) (w / 2) (g / 2) (x / 2)
     (record { short = omega (arith, pow-succ' 2 n); one = second a p c.one; other = second b q c.other }))
 
 -- A PATTERN AND A RANGE
@@ -104,11 +104,11 @@ module _ (n v f l h : ℕ) (p : PatternFits (suc n) v f) where
   fits = low_fits n v f p
 
   -- a value by its highest bit and the others
-  agrees-split : {x b y : ℕ} → Split n x b y → agree (suc n) v f x ≡ may b n v f && agree n (low n v) (low n f) y
-  agrees-split {x} s = by-highest n v f x ∙ rw (s.bit, s.others) refl
+  agrees_split : {x b y : ℕ} → Split n x b y → agree (suc n) v f x ≡ may b n v f && agree n (low n v) (low n f) y
+  agrees_split {x} s = by_highest n v f x ∙ rw (s.bit, s.others) refl
 
-  agrees-join : {x b y : ℕ} → Split n x b y → T (may b n v f) → T (agree n (low n v) (low n f) y) → T (agree (suc n) v f x)
-  agrees-join {x} {b} {y} s m a = rw (agrees-split s) (both (may b n v f) (agree n (low n v) (low n f) y) m a)
+  agrees_join : {x b y : ℕ} → Split n x b y → T (may b n v f) → T (agree n (low n v) (low n f) y) → T (agree (suc n) v f x)
+  agrees_join {x} {b} {y} s m a = rw (agrees_split s) (both (may b n v f) (agree n (low n v) (low n f) y) m a)
 
   -- what the highest bit leaves
   abbrev rest : ℕ → ℕ → Bool
@@ -121,37 +121,37 @@ module _ (n v f l h : ℕ) (p : PatternFits (suc n) v f) where
   with = may 1 n v f && leb (low n v) (h - 2 ^ n)
 
   module _ (le : l ≤ h) (lt : h < 2 ^ suc n) (inner : Found n) where
-    found-high : 2 ^ n ≤ l → T (reaches (suc n) v f l h) → (x : ℕ) × Within (suc n) v f l h x
-    found-high q t =
-        let u = rw (both-have n v f l h q) at t in
+    found_high : 2 ^ n ≤ l → T (reaches (suc n) v f l h) → (x : ℕ) × Within (suc n) v f l h x
+    found_high q t =
+        let u = rw (both_have n v f l h q) at t in
         let r = inner (low n v) (low n f) (l - 2 ^ n) (h - 2 ^ n) fits (omega arith) (omega (arith, pow-succ' 2 n))
         (second (may 1 n v f) (rest (l - 2 ^ n) (h - 2 ^ n)) u) in
         let w = r.1 in (
           2 ^ n + r.0,
           record {
             short = omega (arith, pow-succ' 2 n, w.short);
-            agrees = agrees-join (split-high n r.0 w.short) (first (may 1 n v f) (rest (l - 2 ^ n) (h - 2 ^ n)) u) w.agrees;
+            agrees = agrees_join (split_high n r.0 w.short) (first (may 1 n v f) (rest (l - 2 ^ n) (h - 2 ^ n)) u) w.agrees;
             from = omega (arith, w.from);
             upto = omega (arith, w.upto);
           },
         )
 
-    found-low : l < 2 ^ n → h < 2 ^ n → T (reaches (suc n) v f l h) → (x : ℕ) × Within (suc n) v f l h x
-    found-low q s t =
-        let u = rw (neither-has n v f l h q s) at t in
+    found_low : l < 2 ^ n → h < 2 ^ n → T (reaches (suc n) v f l h) → (x : ℕ) × Within (suc n) v f l h x
+    found_low q s t =
+        let u = rw (neither_has n v f l h q s) at t in
         let r = inner (low n v) (low n f) l h fits le s (second (may 0 n v f) (rest l h) u) in
         let w = r.1 in (
           r.0,
           record {
             short = omega (arith, pow-succ' 2 n, w.short);
-            agrees = agrees-join (split-low n r.0 w.short) (first (may 0 n v f) (rest l h) u) w.agrees;
+            agrees = agrees_join (split_low n r.0 w.short) (first (may 0 n v f) (rest l h) u) w.agrees;
             from = w.from;
             upto = w.upto;
           },
         )
 
-    found-one : l < 2 ^ n → 2 ^ n ≤ h → T (reaches (suc n) v f l h) → (x : ℕ) × Within (suc n) v f l h x
-    found-one q s t =
+    found_one : l < 2 ^ n → 2 ^ n ≤ h → T (reaches (suc n) v f l h) → (x : ℕ) × Within (suc n) v f l h x
+    found_one q s t =
         let a = fits.value in
         let b = sum_fits n (low n v) (low n f) fits in
         ⊎_elim
@@ -159,7 +159,7 @@ module _ (n v f l h : ℕ) (p : PatternFits (suc n) v f) where
           low n v + low n f,
           record {
             short = omega (arith, pow-succ' 2 n);
-            agrees = agrees-join (split-low n (low n v + low n f) b) (first (may 0 n v f) (leb l (low n v + low n f)) u) (greatest-agrees n (low n v) (low n f) fits);
+            agrees = agrees_join (split_low n (low n v + low n f) b) (first (may 0 n v f) (leb l (low n v + low n f)) u) (greatest_agrees n (low n v) (low n f) fits);
             from = leb→le l (low n v + low n f) (second (may 0 n v f) (leb l (low n v + low n f)) u);
             upto = omega arith;
           },
@@ -168,7 +168,7 @@ module _ (n v f l h : ℕ) (p : PatternFits (suc n) v f) where
           2 ^ n + low n v,
           record {
             short = omega (arith, pow-succ' 2 n);
-            agrees = agrees-join (split-high n (low n v) a) (first (may 1 n v f) (leb (low n v) (h - 2 ^ n)) u) (least-agrees n (low n v) (low n f));
+            agrees = agrees_join (split_high n (low n v) a) (first (may 1 n v f) (leb (low n v) (h - 2 ^ n)) u) (least_agrees n (low n v) (low n f));
             from = omega arith;
             upto = omega (arith, leb→le (low n v) (h - 2 ^ n) (second (may 1 n v f) (leb (low n v) (h - 2 ^ n)) u));
           },
@@ -178,84 +178,84 @@ module _ (n v f l h : ℕ) (p : PatternFits (suc n) v f) where
   module _ (x : ℕ) (w : Within (suc n) v f l h x) (inner : Needed n) where
     -- x has the highest bit, or has not
     module _ (q : 2 ^ n ≤ x) where
-      high-agrees : T (may 1 n v f && agree n (low n v) (low n f) (x - 2 ^ n))
-      high-agrees =
+      high_agrees : T (may 1 n v f && agree n (low n v) (low n f) (x - 2 ^ n))
+      high_agrees =
           let e : x ≡ 2 ^ n + (x - 2 ^ n) = omega arith in
           let s = w.short in
-          rw (agrees-split (split-high n (x - 2 ^ n) (omega (arith, pow-succ' 2 n)))) at (subst (λ y. T (agree (suc n) v f y)) e w.agrees)
+          rw (agrees_split (split_high n (x - 2 ^ n) (omega (arith, pow-succ' 2 n)))) at (subst (λ y. T (agree (suc n) v f y)) e w.agrees)
 
-      may-have : T (may 1 n v f)
-      may-have = first (may 1 n v f) (agree n (low n v) (low n f) (x - 2 ^ n)) high-agrees
+      may_have : T (may 1 n v f)
+      may_have = first (may 1 n v f) (agree n (low n v) (low n f) (x - 2 ^ n)) high_agrees
 
-      within-high : Within n (low n v) (low n f) (l - 2 ^ n) (h - 2 ^ n) (x - 2 ^ n)
-      within-high =
+      within_high : Within n (low n v) (low n f) (l - 2 ^ n) (h - 2 ^ n) (x - 2 ^ n)
+      within_high =
           let a = w.short in
           let b = w.from in
           let c = w.upto in
           record {
             short = omega (arith, pow-succ' 2 n);
-            agrees = second (may 1 n v f) (agree n (low n v) (low n f) (x - 2 ^ n)) high-agrees;
+            agrees = second (may 1 n v f) (agree n (low n v) (low n f) (x - 2 ^ n)) high_agrees;
             from = omega arith;
             upto = omega arith;
           }
 
     module _ (q : x < 2 ^ n) where
-      low-agrees : T (may 0 n v f && agree n (low n v) (low n f) x)
-      low-agrees = rw (agrees-split (split-low n x q)) at w.agrees
+      low_agrees : T (may 0 n v f && agree n (low n v) (low n f) x)
+      low_agrees = rw (agrees_split (split_low n x q)) at w.agrees
 
-      may-lack : T (may 0 n v f)
-      may-lack = first (may 0 n v f) (agree n (low n v) (low n f) x) low-agrees
+      may_lack : T (may 0 n v f)
+      may_lack = first (may 0 n v f) (agree n (low n v) (low n f) x) low_agrees
 
       within_low : Within n (low n v) (low n f) l h x
-      within_low = record { short = q; agrees = second (may 0 n v f) (agree n (low n v) (low n f) x) low-agrees; from = w.from; upto = w.upto }
+      within_low = record { short = q; agrees = second (may 0 n v f) (agree n (low n v) (low n f) x) low_agrees; from = w.from; upto = w.upto }
 
-    needed-high : 2 ^ n ≤ l → T (reaches (suc n) v f l h)
-    needed-high q =
+    needed_high : 2 ^ n ≤ l → T (reaches (suc n) v f l h)
+    needed_high q =
         let s = w.from in
         let over : 2 ^ n ≤ x = omega arith in
-        rw (both-have n v f l h q)
-        (both (may 1 n v f) (rest (l - 2 ^ n) (h - 2 ^ n)) (may-have over)
-        (inner (low n v) (low n f) (l - 2 ^ n) (h - 2 ^ n) fits (x - 2 ^ n) (within-high over)))
+        rw (both_have n v f l h q)
+        (both (may 1 n v f) (rest (l - 2 ^ n) (h - 2 ^ n)) (may_have over)
+        (inner (low n v) (low n f) (l - 2 ^ n) (h - 2 ^ n) fits (x - 2 ^ n) (within_high over)))
 
-    needed-low : l < 2 ^ n → h < 2 ^ n → T (reaches (suc n) v f l h)
-    needed-low q r =
+    needed_low : l < 2 ^ n → h < 2 ^ n → T (reaches (suc n) v f l h)
+    needed_low q r =
         let s = w.upto in
         let under : x < 2 ^ n = omega arith in
-        rw (neither-has n v f l h q r) (both (may 0 n v f) (rest l h) (may-lack under) (inner (low n v) (low n f) l h fits x (within_low under)))
+        rw (neither_has n v f l h q r) (both (may 0 n v f) (rest l h) (may_lack under) (inner (low n v) (low n f) l h fits x (within_low under)))
 
-    needed-one : l < 2 ^ n → 2 ^ n ≤ h → Dec (x < 2 ^ n) → T (reaches (suc n) v f l h)
-    needed-one q r (yes under) =
+    needed_one : l < 2 ^ n → 2 ^ n ≤ h → Dec (x < 2 ^ n) → T (reaches (suc n) v f l h)
+    needed_one q r (yes under) =
         let i = within_low under in
         let most = greatest n (low n v) (low n f) x fits under i.agrees in
         rw (one_has n v f l h q r)
-        (left without with (both (may 0 n v f) (leb l (low n v + low n f)) (may-lack under) (le→leb l (low n v + low n f) (omega (arith, w.from)))))
-    needed-one q r (no nunder) =
+        (left without with (both (may 0 n v f) (leb l (low n v + low n f)) (may_lack under) (le→leb l (low n v + low n f) (omega (arith, w.from)))))
+    needed_one q r (no nunder) =
         let over : 2 ^ n ≤ x = omega arith in
-        let i = within-high over in
+        let i = within_high over in
         let fewest = least n (low n v) (low n f) (x - 2 ^ n) fits i.agrees in
         rw (one_has n v f l h q r)
-        (right without with (both (may 1 n v f) (leb (low n v) (h - 2 ^ n)) (may-have over) (le→leb (low n v) (h - 2 ^ n) (omega (arith, i.upto)))))
+        (right without with (both (may 1 n v f) (leb (low n v) (h - 2 ^ n)) (may_have over) (le→leb (low n v) (h - 2 ^ n) (omega (arith, i.upto)))))
 
   -- by the cases of the bounds
-  found-by : Dec (l < 2 ^ n) → Dec (h < 2 ^ n) → l ≤ h → h < 2 ^ suc n → Found n → T (reaches (suc n) v f l h) → (x : ℕ) × Within (suc n) v f l h x
-  found-by (no q) _ le lt inner = found-high le lt inner (omega arith)
-  found-by (yes q) (yes r) le lt inner = found-low le lt inner q r
-  found-by (yes q) (no r) le lt inner = found-one le lt inner q (omega arith)
+  found_by : Dec (l < 2 ^ n) → Dec (h < 2 ^ n) → l ≤ h → h < 2 ^ suc n → Found n → T (reaches (suc n) v f l h) → (x : ℕ) × Within (suc n) v f l h x
+  found_by (no q) _ le lt inner = found_high le lt inner (omega arith)
+  found_by (yes q) (yes r) le lt inner = found_low le lt inner q r
+  found_by (yes q) (no r) le lt inner = found_one le lt inner q (omega arith)
 
-  needed-by : Dec (l < 2 ^ n) → Dec (h < 2 ^ n) → (x : ℕ) → Within (suc n) v f l h x → Needed n → T (reaches (suc n) v f l h)
-  needed-by (no q) _ x w inner = needed-high x w inner (omega arith)
-  needed-by (yes q) (yes r) x w inner = needed-low x w inner q r
-  needed-by (yes q) (no r) x w inner = needed-one x w inner q (omega arith) (dec_lt x (2 ^ n))
+  needed_by : Dec (l < 2 ^ n) → Dec (h < 2 ^ n) → (x : ℕ) → Within (suc n) v f l h x → Needed n → T (reaches (suc n) v f l h)
+  needed_by (no q) _ x w inner = needed_high x w inner (omega arith)
+  needed_by (yes q) (yes r) x w inner = needed_low x w inner q r
+  needed_by (yes q) (no r) x w inner = needed_one x w inner q (omega arith) (dec_lt x (2 ^ n))
 
 found : (n : ℕ) → Found n
 unfolding reaches agree
 found zero v f l h p le lt t = (0, record { short = omega arith; agrees = tt; from = leb→le l 0 t; upto = omega arith })
-found (suc n) v f l h p le lt t = found-by n v f l h p (dec_lt l (2 ^ n)) (dec_lt h (2 ^ n)) le lt (found n) t
+found (suc n) v f l h p le lt t = found_by n v f l h p (dec_lt l (2 ^ n)) (dec_lt h (2 ^ n)) le lt (found n) t
 
 needed : (n : ℕ) → Needed n
 unfolding reaches
 needed zero v f l h p x w = le→leb l 0 (let s = w.short in let b = w.from in omega arith)
-needed (suc n) v f l h p x w = needed-by n v f l h p (dec_lt l (2 ^ n)) (dec_lt h (2 ^ n)) x w (needed n)
+needed (suc n) v f l h p x w = needed_by n v f l h p (dec_lt l (2 ^ n)) (dec_lt h (2 ^ n)) x w (needed n)
 
 -- ITEMS
 pub record Shared (a b : Item) (x : ℕ) : Type 0 where
@@ -263,9 +263,9 @@ pub record Shared (a b : Item) (x : ℕ) : Type 0 where
   pub one : T (matches a x)
   pub other : T (matches b x)
 
-ranges-share : (l h m k : ℕ) → h < 2 ^ 64 → T (leb (max l m) (min h k)) → (x : ℕ) × Shared (between l h) (between m k) x
+ranges_share : (l h m k : ℕ) → h < 2 ^ 64 → T (leb (max l m) (min h k)) → (x : ℕ) × Shared (between l h) (between m k) x
 unfolding matches
-ranges-share l h m k s t =
+ranges_share l h m k s t =
     let x = max l m in
     let le = leb→le x (min h k) t in (
       x,
@@ -276,9 +276,9 @@ ranges-share l h m k s t =
       },
     )
 
-shared-ranges : (l h m k x : ℕ) → Shared (between l h) (between m k) x → T (leb (max l m) (min h k))
+shared_ranges : (l h m k x : ℕ) → Shared (between l h) (between m k) x → T (leb (max l m) (min h k))
 unfolding matches
-shared-ranges l h m k x s =
+shared_ranges l h m k x s =
     le→leb (max l m) (min h k)
     (omega (
       arith,
@@ -289,14 +289,14 @@ shared-ranges l h m k x s =
     ))
 
 -- a value within a range of a pattern
-within-shared : (v f l h x : ℕ) → Within 64 v f l h x → Shared (pattern v f) (between l h) x
+within_shared : (v f l h x : ℕ) → Within 64 v f l h x → Shared (pattern v f) (between l h) x
 unfolding matches
-within-shared v f l h x w =
+within_shared v f l h x w =
     record { short = w.short; one = w.agrees; other = both (leb l x) (leb x h) (le→leb l x w.from) (le→leb x h w.upto) }
 
-shared-within : (v f l h x : ℕ) → Shared (pattern v f) (between l h) x → Within 64 v f l h x
+shared_within : (v f l h x : ℕ) → Shared (pattern v f) (between l h) x → Within 64 v f l h x
 unfolding matches
-shared-within v f l h x s =
+shared_within v f l h x s =
     record {
       short = s.short;
       agrees = s.one;
@@ -307,21 +307,21 @@ shared-within v f l h x s =
 turned : {a b : Item} {x : ℕ} → Shared a b x → Shared b a x
 turned s = record { short = s.short; one = s.other; other = s.one }
 
-pub meet-share : (a b : Item) → ItemFits a → ItemFits b → T (itemsMeet a b) → (x : ℕ) × Shared a b x
-unfolding itemsMeet matches
-meet-share (pattern v f) (pattern w g) p q t =
-    let r = patterns-common 64 v f w g t in
+pub meet_share : (a b : Item) → ItemFits a → ItemFits b → T (items_meet a b) → (x : ℕ) × Shared a b x
+unfolding items_meet matches
+meet_share (pattern v f) (pattern w g) p q t =
+    let r = patterns_common 64 v f w g t in
     (r.0, record { short = r.1.short; one = r.1.one; other = r.1.other })
-meet-share (pattern v f) (between l h) p q t = let r = found 64 v f l h p q.0 q.1 t in (r.0, within-shared v f l h r.0 r.1)
-meet-share (between l h) (pattern v f) p q t = let r = found 64 v f l h q p.0 p.1 t in (r.0, turned (within-shared v f l h r.0 r.1))
-meet-share (between l h) (between m k) p q t = ranges-share l h m k p.1 t
+meet_share (pattern v f) (between l h) p q t = let r = found 64 v f l h p q.0 q.1 t in (r.0, within_shared v f l h r.0 r.1)
+meet_share (between l h) (pattern v f) p q t = let r = found 64 v f l h q p.0 p.1 t in (r.0, turned (within_shared v f l h r.0 r.1))
+meet_share (between l h) (between m k) p q t = ranges_share l h m k p.1 t
 
-pub share-meet : (a b : Item) → ItemFits a → ItemFits b → (x : ℕ) → Shared a b x → T (itemsMeet a b)
-unfolding itemsMeet matches
-share-meet (pattern v f) (pattern w g) p q x s = common-patterns 64 v f w g x (record { short = s.short; one = s.one; other = s.other })
-share-meet (pattern v f) (between l h) p q x s = needed 64 v f l h p x (shared-within v f l h x s)
-share-meet (between l h) (pattern v f) p q x s = needed 64 v f l h q x (shared-within v f l h x (turned s))
-share-meet (between l h) (between m k) p q x s = shared-ranges l h m k x s
+pub share_meet : (a b : Item) → ItemFits a → ItemFits b → (x : ℕ) → Shared a b x → T (items_meet a b)
+unfolding items_meet matches
+share_meet (pattern v f) (pattern w g) p q x s = common_patterns 64 v f w g x (record { short = s.short; one = s.one; other = s.other })
+share_meet (pattern v f) (between l h) p q x s = needed 64 v f l h p x (shared_within v f l h x s)
+share_meet (between l h) (pattern v f) p q x s = needed 64 v f l h q x (shared_within v f l h x (turned s))
+share_meet (between l h) (between m k) p q x s = shared_ranges l h m k x s
 
-pub exact : (a b : Item) → ItemFits a → ItemFits b → T (itemsMeet a b) ↔ ((x : ℕ) × Shared a b x)
-exact a b p q = (meet-share a b p q, λ r. share-meet a b p q r.0 r.1)
+pub exact : (a b : Item) → ItemFits a → ItemFits b → T (items_meet a b) ↔ ((x : ℕ) × Shared a b x)
+exact a b p q = (meet_share a b p q, λ r. share_meet a b p q r.0 r.1)

@@ -3,10 +3,10 @@
 use Rattle.std.specs.Prelude.{ℕ, zero, suc, ◌+◌, ◌≡◌, Bool, true, false, not, List, [], ◌∷◌}
 use Rattle.std.proofs.Math.Option.{Option, none, some}
 use Rattle.std.proofs.Math.ListN.{get_elem?}
-use Rattle.rules.specs.Grammar.Trees.{Action, block, labelled, if-then, decode, repeat, leave, restart, activate, stop, no-op, transfer, Members, end, also, next, Alternatives, counted, selected, Counted, counted-end, counted-more, Selected, select, otherwise, SelectedMore, selected-end, selected-more, Description}
+use Rattle.rules.specs.Grammar.Trees.{Action, block, labelled, if_then, decode, repeat, leave, restart, activate, stop, no_op, transfer, Members, end, also, next, Alternatives, counted, selected, Counted, counted_end, counted_more, Selected, select, otherwise, SelectedMore, selected_end, selected_more, Description}
 use Rattle.rules.specs.Declarations.{Declared, declarations}
-use Rattle.laws_code.specs.Cited.Code.{actionSize, selectorSize, behindTest}
-use Rattle.laws_code.specs.Cited.Placed.{bodyStarts}
+use Rattle.laws_code.specs.Cited.Code.{action_size, selector_size, behind_test}
+use Rattle.laws_code.specs.Cited.Placed.{body_starts}
 use Rattle.telling.specs.Cited.Passing.{Grouping}
 
 -- another member of the group follows
@@ -30,41 +30,41 @@ module _ (M : Grouping) where
   abbrev mutual
     pub Grouped : List ℕ → ℕ → Action → Type 0
     Grouped c i (block b a m) =
-        Member (suc i) 0 (followed m) × Grouped (within c (suc i) 0 (followed m)) (suc i) a × MembersGrouped c (suc i + actionSize a) 0 m
+        Member (suc i) 0 (followed m) × Grouped (within c (suc i) 0 (followed m)) (suc i) a × MembersGrouped c (suc i + action_size a) 0 m
     Grouped c i (labelled n b a) = Grouped c (suc (suc i)) a
-    Grouped c i (if-then x o t w a) = (M.around i ≡ c) × Grouped c (behindTest i o t) a
-    Grouped c i (decode x o t w b v) = (M.around i ≡ c) × AlternativesGrouped c (suc (behindTest i o t)) v
+    Grouped c i (if_then x o t w a) = (M.around i ≡ c) × Grouped c (behind_test i o t) a
+    Grouped c i (decode x o t w b v) = (M.around i ≡ c) × AlternativesGrouped c (suc (behind_test i o t)) v
     Grouped c i (repeat x a) = (M.around i ≡ c) × Grouped c (suc i) a
     Grouped c i (leave x n) = M.around i ≡ c
     Grouped c i (restart x n) = M.around i ≡ c
     Grouped c i (activate n l r) = M.around i ≡ c
     Grouped c i (stop x l r) = M.around i ≡ c
-    Grouped c i (no-op x l r) = M.around i ≡ c
+    Grouped c i (no_op x l r) = M.around i ≡ c
     Grouped c i (transfer n s b j e o t) = M.around i ≡ c
 
     -- the members behind one that has j of its group before it
     pub MembersGrouped : List ℕ → ℕ → ℕ → Members → Type 0
     MembersGrouped c i j (end x) = Unit {0}
     MembersGrouped c i j (also x a m) =
-        Member (suc i) (suc j) (followed m) × Grouped (within c (suc i) (suc j) (followed m)) (suc i) a × MembersGrouped c (suc i + actionSize a) (suc j) m
+        Member (suc i) (suc j) (followed m) × Grouped (within c (suc i) (suc j) (followed m)) (suc i) a × MembersGrouped c (suc i + action_size a) (suc j) m
     MembersGrouped c i j (next x a m) =
-        Member (suc i) 0 (followed m) × Grouped (within c (suc i) 0 (followed m)) (suc i) a × MembersGrouped c (suc i + actionSize a) 0 m
+        Member (suc i) 0 (followed m) × Grouped (within c (suc i) 0 (followed m)) (suc i) a × MembersGrouped c (suc i + action_size a) 0 m
 
     pub AlternativesGrouped : List ℕ → ℕ → Alternatives → Type 0
-    AlternativesGrouped c i (counted a t) = Grouped c i a × CountedGrouped c (i + actionSize a) t
+    AlternativesGrouped c i (counted a t) = Grouped c i a × CountedGrouped c (i + action_size a) t
     AlternativesGrouped c i (selected s) = SelectedGrouped c i s
 
     pub CountedGrouped : List ℕ → ℕ → Counted → Type 0
-    CountedGrouped c i (counted-end x) = Unit {0}
-    CountedGrouped c i (counted-more x a t) = Grouped c (suc i) a × CountedGrouped c (suc i + actionSize a) t
+    CountedGrouped c i (counted_end x) = Unit {0}
+    CountedGrouped c i (counted_more x a t) = Grouped c (suc i) a × CountedGrouped c (suc i + action_size a) t
 
     pub SelectedGrouped : List ℕ → ℕ → Selected → Type 0
-    SelectedGrouped c i (select s b a m) = let j = suc (i + selectorSize s) in Grouped c j a × MoreGrouped c (j + actionSize a) m
+    SelectedGrouped c i (select s b a m) = let j = suc (i + selector_size s) in Grouped c j a × MoreGrouped c (j + action_size a) m
     SelectedGrouped c i (otherwise x b a e) = Grouped c (suc (suc i)) a
 
     pub MoreGrouped : List ℕ → ℕ → SelectedMore → Type 0
-    MoreGrouped c i (selected-end x) = Unit {0}
-    MoreGrouped c i (selected-more x s) = SelectedGrouped c (suc i) s
+    MoreGrouped c i (selected_end x) = Unit {0}
+    MoreGrouped c i (selected_more x s) = SelectedGrouped c (suc i) s
 
   -- every body of a description, where no group is around it
   abbrev pub BodyGrouped : ℕ → Option Action → Type 0
@@ -73,5 +73,5 @@ module _ (M : Grouping) where
 
   -- what is behind the last token is inside no member
   pub record AllGrouped (d : Description) (end : ℕ) : Type 0 where
-    pub bodies : (i : ℕ) (x : Declared) → get_elem? (declarations d) i ≡ some x → BodyGrouped (bodyStarts d i) x.body
+    pub bodies : (i : ℕ) (x : Declared) → get_elem? (declarations d) i ≡ some x → BodyGrouped (body_starts d i) x.body
     pub outside : M.around end ≡ []

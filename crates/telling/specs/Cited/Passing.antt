@@ -16,10 +16,10 @@ pub data Passing : Type 0 where
   closed : ℕ → Passing
 
 -- what a matching is told that has one pair of numbers for a whole group
-abbrev pub groupEvent : Passing → Event
-groupEvent (opened y) = opens
-groupEvent (turned y) = turns
-groupEvent (closed z) = closes
+abbrev pub group_event : Passing → Event
+group_event (opened y) = opens
+group_event (turned y) = turns
+group_event (closed z) = closes
 
 -- an event so many times
 unfoldable pub times : ℕ → Event → List Event
@@ -27,20 +27,20 @@ times zero e = []
 times (suc n) e = e ∷ times n e
 
 -- where a member is not the last, it and those behind it are a pair
-abbrev pub pairOpens : Bool → List Event
-pairOpens true = []
-pairOpens false = opens ∷ []
+abbrev pub pair_opens : Bool → List Event
+pair_opens true = []
+pair_opens false = opens ∷ []
 
 module _ (M : Grouping) where
   -- what a matching is told that has nested pairs: a group of m members is m - 1 of them, each but the first opened where the one before it turns
-  abbrev pub pairEvents : Passing → List Event
-  pairEvents (opened y) = opens ∷ []
-  pairEvents (turned y) = turns ∷ pairOpens (M.last y)
-  pairEvents (closed z) = times (M.before z) closes
+  abbrev pub pair_events : Passing → List Event
+  pair_events (opened y) = opens ∷ []
+  pair_events (turned y) = turns ∷ pair_opens (M.last y)
+  pair_events (closed z) = times (M.before z) closes
 
-  unfoldable pub allPairs : List Passing → List Event
-  allPairs [] = []
-  allPairs (p ∷ ps) = pairEvents p ++ allPairs ps
+  unfoldable pub all_pairs : List Passing → List Event
+  all_pairs [] = []
+  all_pairs (p ∷ ps) = pair_events p ++ all_pairs ps
 
   -- one step of the way up, from a member x and a member y; `to` has the members that will be entered, the outermost first, and `more` is what is passed higher up.
   -- In one member the way ends. Where y is no first member of its group, it is the next one behind x.
@@ -61,11 +61,11 @@ module _ (M : Grouping) where
   climb (suc e) xs [] to = meet xs [] to
   climb (suc e) xs (y ∷ ys) to = climb e xs ys (y ∷ to)
 
-  unfoldable pub leaveDeeper : ℕ → ℕ → List ℕ → List ℕ → List Passing
-  leaveDeeper zero e xs ys = climb e xs ys []
-  leaveDeeper (suc d) e [] ys = climb e [] ys []
-  leaveDeeper (suc d) e (x ∷ xs) ys = closed x ∷ leaveDeeper d e xs ys
+  unfoldable pub leave_deeper : ℕ → ℕ → List ℕ → List ℕ → List Passing
+  leave_deeper zero e xs ys = climb e xs ys []
+  leave_deeper (suc d) e [] ys = climb e [] ys []
+  leave_deeper (suc d) e (x ∷ xs) ys = closed x ∷ leave_deeper d e xs ys
 
   -- on the way from an instruction with the members xs around it to one with the members ys
   unfoldable pub passage : List ℕ → List ℕ → List Passing
-  passage xs ys = leaveDeeper (length xs - length ys) (length ys - length xs) xs ys
+  passage xs ys = leave_deeper (length xs - length ys) (length ys - length xs) xs ys

@@ -7,19 +7,19 @@ use mathlib.Core.Path.{◌≡◌, refl, sym, ap, subst, ◌∙◌}
 use mathlib.Core.List.{List}
 use Prim.Native.Nat.{ℕ, ◌+◌, ◌-◌, ◌*◌, ◌^◌, ◌<◌, ◌≤◌}
 use lib.ListN.{length, get_or, drop, length-drop}
-use Rattle.cells.specs.Cells.{putCell}
-use Rattle.cells.specs.Laws.{length-put}
-use Rattle.rules.specs.Text.Bytes.{classOf, classIn}
-use Rattle.rules.specs.Text.Tokens.{Token, kindNo}
-use Rattle.rules.specs.Text.Scan.{Scan, End, fine, refuse, scanEnd, followed, lexeme, scan}
+use Rattle.cells.specs.Cells.{put_cell}
+use Rattle.cells.specs.Laws.{length_put}
+use Rattle.rules.specs.Text.Bytes.{class_of, class_in}
+use Rattle.rules.specs.Text.Tokens.{Token, kind_no}
+use Rattle.rules.specs.Text.Scan.{Scan, End, fine, refuse, scan_end, followed, lexeme, scan}
 use Rattle.classes.specs.Classes.{Classed}
 use Rattle.classes.specs.Laws.Runs.{right, classed}
-use Rattle.lexemes.specs.Lexemes.{size_of, lexemeOf}
-use Rattle.text.specs.Laws.Lexemes.{nothing-back, refused-back, token_back, IsToken}
-use Rattle.text.specs.Laws.Scans.{from, from_end, from_nothing, from-token, from-full, from-refused}
-use Rattle.text.specs.Laws.Sound.{Sound, Placed, lexeme-sound}
-use Rattle.text.specs.Table.{pack, recordOf, recordCells, valueBy, value_of, valueCells, writeCells, endedAt, scannedOf}
-use Rattle.text.specs.Laws.Table.{scannedFrom}
+use Rattle.lexemes.specs.Lexemes.{size_of, lexeme_of}
+use Rattle.text.specs.Laws.Lexemes.{nothing_back, refused_back, token_back, IsToken}
+use Rattle.text.specs.Laws.Scans.{from, from_end, from_nothing, from_token, from_full, from_refused}
+use Rattle.text.specs.Laws.Sound.{Sound, Placed, lexeme_sound}
+use Rattle.text.specs.Table.{pack, record_of, record_cells, value_by, value_of, value_cells, write_cells, ended_at, scanned_of}
+use Rattle.text.specs.Laws.Table.{scanned_from}
 use Rattle.text.specs.declared.Scanned.{Scanned}
 use Rattle.text.specs.declared.Scanned.TheVariants.{Fine, Refused}
 use Rattle.lexemes.specs.declared.lexemes.Lexeme.{Lexeme}
@@ -29,43 +29,43 @@ use Rattle.text.proofs.scan.Tie as tie
 
 -- a scan s that is still to come, behind `count` tokens, brings both buffers and the answer to those of the whole text
 record Left (text records₀ values₀ : List ℕ) (s : Scan) (records values : List ℕ) (count before : ℕ) : Type 0 where
-  pub answer : scannedFrom count s ≡ scannedOf (scan text)
-  pub in-records : writeCells 8 records count (recordCells s.tokens) ≡ writeCells 8 records₀ 0 (recordCells (scan text).tokens)
-  pub in-values : writeCells 8 values count (valueCells before s.tokens) ≡ writeCells 8 values₀ 0 (valueCells 0 (scan text).tokens)
+  pub answer : scanned_from count s ≡ scanned_of (scan text)
+  pub in_records : write_cells 8 records count (record_cells s.tokens) ≡ write_cells 8 records₀ 0 (record_cells (scan text).tokens)
+  pub in_values : write_cells 8 values count (value_cells before s.tokens) ≡ write_cells 8 values₀ 0 (value_cells 0 (scan text).tokens)
 
 abbrev Done : List ℕ → List ℕ → List ℕ → Scanned → List ℕ → List ℕ → Type 0
 Done text records₀ values₀ r records values =
-    (r ≡ scannedOf (scan text))
-    × ((records ≡ writeCells 8 records₀ 0 (recordCells (scan text).tokens)) × (values ≡ writeCells 8 values₀ 0 (valueCells 0 (scan text).tokens)))
+    (r ≡ scanned_of (scan text))
+    × ((records ≡ write_cells 8 records₀ 0 (record_cells (scan text).tokens)) × (values ≡ write_cells 8 values₀ 0 (value_cells 0 (scan text).tokens)))
 
 module _ {text records₀ values₀ records values : List ℕ} {count before : ℕ} where
-  stored : (t : Token) (s : Scan) {x y f : ℕ} {records' values' : List ℕ} → x ≡ recordOf t → y ≡ value_of before t → f ≡ t.info.free
-      → records' ≡ putCell 8 records count x → values' ≡ putCell 8 values count y
+  stored : (t : Token) (s : Scan) {x y f : ℕ} {records' values' : List ℕ} → x ≡ record_of t → y ≡ value_of before t → f ≡ t.info.free
+      → records' ≡ put_cell 8 records count x → values' ≡ put_cell 8 values count y
       → Left text records₀ values₀ (followed t s) records values count before → Left text records₀ values₀ s records' values' (count + 1) f
-  unfolding writeCells valueCells
+  unfolding write_cells value_cells
   stored t s ex ey ef er ev l = record {
-    answer = ap (λ (n : ℕ). endedAt n s.end) (omega arith) ∙ l.answer;
-    in-records = rw (er, ex) l.in-records;
-    in-values = rw (ev, ey, ef) l.in-values;
+    answer = ap (λ (n : ℕ). ended_at n s.end) (omega arith) ∙ l.answer;
+    in_records = rw (er, ex) l.in_records;
+    in_values = rw (ev, ey, ef) l.in_values;
   }
 
-  finished : (e : End) → Left text records₀ values₀ (scanEnd e) records values count before → Done text records₀ values₀ (endedAt count e) records values
-  unfolding writeCells valueCells
-  finished e l = (ap (λ (n : ℕ). endedAt n e) (omega arith) ∙ l.answer, (l.in-records, l.in-values))
+  finished : (e : End) → Left text records₀ values₀ (scan_end e) records values count before → Done text records₀ values₀ (ended_at count e) records values
+  unfolding write_cells value_cells
+  finished e l = (ap (λ (n : ℕ). ended_at n e) (omega arith) ∙ l.answer, (l.in_records, l.in_values))
 
 -- what the code writes is what the table has for a token
-same-record : (t : Token) {x k s at : ℕ} → x ≡ pack k s at → k ≡ kindNo t.kind → s ≡ size_of t → t.info.place ≡ at → x ≡ recordOf t
-same-record t e kind size place = e ∙ rw (kind, size, place)
+same_record : (t : Token) {x k s at : ℕ} → x ≡ pack k s at → k ≡ kind_no t.kind → s ≡ size_of t → t.info.place ≡ at → x ≡ record_of t
+same_record t e kind size place = e ∙ rw (kind, size, place)
 
-same-value : (t : Token) {y k v : ℕ} (before : ℕ) → y ≡ valueBy k v before → k ≡ kindNo t.kind → v ≡ t.info.value → y ≡ value_of before t
-same-value t before e kind value = e ∙ rw (kind, value)
+same_value : (t : Token) {y k v : ℕ} (before : ℕ) → y ≡ value_by k v before → k ≡ kind_no t.kind → v ≡ t.info.value → y ≡ value_of before t
+same_value t before e kind value = e ∙ rw (kind, value)
 
 record Inv (text records₀ values₀ classes records values : List ℕ) (at count before : ℕ) : Type 0 where
   pub classed : Classed classes
   pub within : at ≤ length text
   pub few : count ≤ 8192
-  pub long-records : length records ≡ length records₀
-  pub long-values : length values ≡ length values₀
+  pub long_records : length records ≡ length records₀
+  pub long_values : length values ≡ length values₀
   pub left : Left text records₀ values₀ (from text at (8192 - count)) records values count before
 
 starts : (text records values classes : List ℕ) → Classed classes → Inv text records values classes records values 0 0 0
@@ -74,9 +74,9 @@ starts text records values classes e = record {
   classed = e;
   within = omega arith;
   few = omega arith;
-  long-records = refl;
-  long-values = refl;
-  left = record { answer = rw zero-add; in-records = refl; in-values = refl };
+  long_records = refl;
+  long_values = refl;
+  left = record { answer = rw zero-add; in_records = refl; in_values = refl };
 }
 
 module _ {text records₀ values₀ classes records values : List ℕ} {at count before : ℕ}
@@ -87,76 +87,76 @@ module _ {text records₀ values₀ classes records values : List ℕ} {at count
   ended_here : length text ≤ at → Done text records₀ values₀ (Fine count) records values
   ended_here h = finished fine (turned (from_end text at (8192 - count) h))
 
-  module _ (h : at < length text) {l : Lexeme} (found : l ≡ lexemeOf (lexeme at (get_or text at 0) (drop (at + 1) text))) where
+  module _ (h : at < length text) {l : Lexeme} (found : l ≡ lexeme_of (lexeme at (get_or text at 0) (drop (at + 1) text))) where
     room : length (drop (at + 1) text) ≡ length text - (at + 1)
     room = length-drop (at + 1) text
 
     module _ {n : ℕ} (e : l ≡ Nothing n) where
-      nothing-fits : at + (n + 1) ≤ length text
-      nothing-fits =
-          let is : lexeme at (get_or text at 0) (drop (at + 1) text) ≡ _ = nothing-back _ n (sym e ∙ found) in
-          omega (arith, room, subst (Sound at (length (drop (at + 1) text))) is (lexeme-sound at (get_or text at 0) (drop (at + 1) text)))
+      nothing_fits : at + (n + 1) ≤ length text
+      nothing_fits =
+          let is : lexeme at (get_or text at 0) (drop (at + 1) text) ≡ _ = nothing_back _ n (sym e ∙ found) in
+          omega (arith, room, subst (Sound at (length (drop (at + 1) text))) is (lexeme_sound at (get_or text at 0) (drop (at + 1) text)))
 
-      nothing-more : length text ≤ 32768 → n + 1 < 2 ^ 64
-      nothing-more short = omega (arith, nothing-fits)
+      nothing_more : length text ≤ 32768 → n + 1 < 2 ^ 64
+      nothing_more short = omega (arith, nothing_fits)
 
-      nothing-sum : length text ≤ 32768 → at + (n + 1) < 2 ^ 64
-      nothing-sum short = omega (arith, nothing-fits)
+      nothing_sum : length text ≤ 32768 → at + (n + 1) < 2 ^ 64
+      nothing_sum short = omega (arith, nothing_fits)
 
-      nothing-less : length text - (at + (n + 1)) < length text - at
-      nothing-less = omega (arith, nothing-fits)
+      nothing_less : length text - (at + (n + 1)) < length text - at
+      nothing_less = omega (arith, nothing_fits)
 
-      nothing-passed : Inv text records₀ values₀ classes records values (at + (n + 1)) count before
-      nothing-passed = record {
+      nothing_passed : Inv text records₀ values₀ classes records values (at + (n + 1)) count before
+      nothing_passed = record {
         classed = inv.classed;
-        within = nothing-fits;
+        within = nothing_fits;
         few = inv.few;
-        long-records = inv.long-records;
-        long-values = inv.long-values;
-        left = turned (from_nothing text at h (8192 - count) n (nothing-back _ n (sym e ∙ found)));
+        long_records = inv.long_records;
+        long_values = inv.long_values;
+        left = turned (from_nothing text at h (8192 - count) n (nothing_back _ n (sym e ∙ found)));
       }
 
-    refused-here : {m : ℕ} → l ≡ Not m → Done text records₀ values₀ (Refused m at) records values
-    refused-here {m} e = finished (refuse m at) (turned (from-refused text at h (8192 - count) m (refused-back _ m (sym e ∙ found))))
+    refused_here : {m : ℕ} → l ≡ Not m → Done text records₀ values₀ (Refused m at) records values
+    refused_here {m} e = finished (refuse m at) (turned (from_refused text at h (8192 - count) m (refused_back _ m (sym e ∙ found))))
 
     module _ {n k s v f : ℕ} (e : l ≡ Found n k s v f) where
       back : IsToken (lexeme at (get_or text at 0) (drop (at + 1) text)) n k s v f
       back = token_back _ n k s v f (sym e ∙ found)
 
       placed : Placed at (length (drop (at + 1) text)) n back.it
-      placed = subst (Sound at (length (drop (at + 1) text))) back.is (lexeme-sound at (get_or text at 0) (drop (at + 1) text))
+      placed = subst (Sound at (length (drop (at + 1) text))) back.is (lexeme_sound at (get_or text at 0) (drop (at + 1) text))
 
-      token-fits : at + (n + 1) ≤ length text
-      token-fits = omega (arith, room, placed.within)
+      token_fits : at + (n + 1) ≤ length text
+      token_fits = omega (arith, room, placed.within)
 
-      token-more : length text ≤ 32768 → n + 1 < 2 ^ 64
-      token-more short = omega (arith, token-fits)
+      token_more : length text ≤ 32768 → n + 1 < 2 ^ 64
+      token_more short = omega (arith, token_fits)
 
-      token-sum : length text ≤ 32768 → at + (n + 1) < 2 ^ 64
-      token-sum short = omega (arith, token-fits)
+      token_sum : length text ≤ 32768 → at + (n + 1) < 2 ^ 64
+      token_sum short = omega (arith, token_fits)
 
-      token-less : length text - (at + (n + 1)) < length text - at
-      token-less = omega (arith, token-fits)
+      token_less : length text - (at + (n + 1)) < length text - at
+      token_less = omega (arith, token_fits)
 
       full : count ≡ 8192 → Done text records₀ values₀ (Refused 13 at) records values
-      full c = finished (refuse 13 at) (turned (from-full text at h (8192 - count) n back.it back.is (omega arith)))
+      full c = finished (refuse 13 at) (turned (from_full text at h (8192 - count) n back.it back.is (omega arith)))
 
-      token-passed : {x y : ℕ} {records' values' : List ℕ} → (count ≡ 8192 → ⊥) → y ≡ valueBy k v before → x ≡ pack k s at
-          → records' ≡ putCell 8 records count x → values' ≡ putCell 8 values count y
+      token_passed : {x y : ℕ} {records' values' : List ℕ} → (count ≡ 8192 → ⊥) → y ≡ value_by k v before → x ≡ pack k s at
+          → records' ≡ put_cell 8 records count x → values' ≡ put_cell 8 values count y
           → Inv text records₀ values₀ classes records' values' (at + (n + 1)) (count + 1) f
-      token-passed {x} {y} more ey ex er ev =
+      token_passed {x} {y} more ey ex er ev =
           let fewer : 8192 - count - 1 ≡ 8192 - (count + 1) = omega arith in
           let rest : from text at (8192 - count) ≡ followed back.it (from text (at + (n + 1)) (8192 - (count + 1)))
-          = rw fewer at (from-token text at h (8192 - count) n back.it back.is (omega (arith, inv.few))) in
+          = rw fewer at (from_token text at h (8192 - count) n back.it back.is (omega (arith, inv.few))) in
           record {
             classed = inv.classed;
-            within = token-fits;
+            within = token_fits;
             few = omega (arith, inv.few);
-            long-records = rw er (length-put 8 records (8 * count) x ∙ inv.long-records);
-            long-values = rw ev (length-put 8 values (8 * count) y ∙ inv.long-values);
+            long_records = rw er (length_put 8 records (8 * count) x ∙ inv.long_records);
+            long_values = rw ev (length_put 8 values (8 * count) y ∙ inv.long_values);
             left =
-                stored back.it _ (same-record back.it ex back.kind back.size placed.place)
-                (same-value back.it before ey back.kind back.value) back.free er ev (turned rest);
+                stored back.it _ (same_record back.it ex back.kind back.size placed.place)
+                (same_value back.it before ey back.kind back.value) back.free er ev (turned rest);
           }
 
 abbrev invariant-loop : tie.invariant-loop
@@ -167,13 +167,13 @@ abbrev decreases-loop : tie.decreases-loop
 decreases-loop text records₀ values₀ classes at₀ count₀ before₀ records values at count before = length text - at
 
 -- a token is stored, and the three ways out
-stored-turn : tie.Need-loop-preserved-2 invariant-loop decreases-loop
-stored-turn c =
+stored_turn : tie.Need-loop-preserved-2 invariant-loop decreases-loop
+stored_turn c =
     let put = c.before.before.before.before in
     let cell = put.before.before.before.before in
     let found = cell.before.before.before in
     let lexed = found.before.before in
-    token-passed lexed.before.before.before.loop.invariant lexed.before.before.loop-test.true lexed.lexeme-at.ensures
+    token_passed lexed.before.before.before.loop.invariant lexed.before.before.loop-test.true lexed.lexeme-at.ensures
     found.more2.given.1 cell.before.if1.false cell.value_cell.ensures put.before.packed.ensures put.put-token.ensures.0
     put.put-token.ensures.1
 
@@ -188,14 +188,14 @@ refused : tie.Need-returns-2 invariant-loop decreases-loop
 refused c =
     let found = c.before in
     let lexed = found.before.before in
-    refused-here lexed.before.before.before.loop.invariant lexed.before.before.loop-test.true lexed.lexeme-at.ensures found.number.given.1
+    refused_here lexed.before.before.before.loop.invariant lexed.before.before.loop-test.true lexed.lexeme-at.ensures found.number.given.1
 
 all_read : tie.Need-returns-3 invariant-loop decreases-loop
 all_read c = ended_here c.before.loop.invariant c.loop-test.false
 
-pub scan-spec : {M : Type 1} → statement M
-unfolding right classOf classIn
-scan-spec =
+pub scan_spec : {M : Type 1} → statement M
+unfolding right class_of class_in
+scan_spec =
     tie.close
     (tie.spec
     invariant-loop
@@ -203,10 +203,10 @@ scan-spec =
     (λ c. starts _ _ _ _ (classed _ refl tt))
     (λ c κs. search rules)
     (λ c. search rules)
-    (λ c. search (rules, nothing-more))
-    (λ c. search (rules, nothing-sum))
-    (λ c. search (rules, nothing-less))
-    (λ c. search (rules, nothing-passed))
+    (λ c. search (rules, nothing_more))
+    (λ c. search (rules, nothing_sum))
+    (λ c. search (rules, nothing_less))
+    (λ c. search (rules, nothing_passed))
     (λ c. search rules)
     (λ c. search rules)
     (λ c. search rules)
@@ -215,10 +215,10 @@ scan-spec =
     (λ c κs. search rules)
     (λ c κs. search rules)
     (λ c. search rules)
-    (λ c. search (rules, token-more))
-    (λ c. search (rules, token-sum))
-    (λ c. search (rules, token-less))
-    stored-turn
+    (λ c. search (rules, token_more))
+    (λ c. search (rules, token_sum))
+    (λ c. search (rules, token_less))
+    stored_turn
     (λ c. search rules)
     (λ c. search rules)
     (λ c. search rules)

@@ -2,17 +2,17 @@
 use Rattle.std.specs.Prelude.{◌≡◌, refl, Bool, true, false, ◌||◌, List, [], ◌∷◌, ℕ, zero, suc, ◌+◌, ◌-◌, ◌^◌, ◌<◌, ◌≤◌, eqb, ltb, length, get_or}
 use Rattle.std.proofs.Common.{ap, arith, ltb-true}
 use Rattle.cells.specs.Cells.{cells}
-use Rattle.rules.specs.Text.Tokens.{Token, kindNo}
-use Rattle.rules.specs.Text.Scan.{Scan, End, fine, refuse, scanEnd, followed, scanFrom, scan, Lexeme, lexeme, no-lexeme, token, bad-lexeme}
-use Rattle.rules.specs.Limits.{mostTokens}
+use Rattle.rules.specs.Text.Tokens.{Token, kind_no}
+use Rattle.rules.specs.Text.Scan.{Scan, End, fine, refuse, scan_end, followed, scan_from, scan, Lexeme, lexeme, no_lexeme, token, bad_lexeme}
+use Rattle.rules.specs.Limits.{most_tokens}
 use Rattle.lexemes.specs.Lexemes.{size_of}
-use Rattle.text.specs.Laws.Sound.{Sound, Placed, lexeme-sound}
-use Rattle.text.specs.Table.{valueBy, valueCells, writeCells}
+use Rattle.text.specs.Laws.Sound.{Sound, Placed, lexeme_sound}
+use Rattle.text.specs.Table.{value_by, value_cells, write_cells}
 use Rattle.text.specs.Laws.Writes.{Fitting, written}
 
 -- a token that stands from `low` on, before `high`
 pub record Stands (low high : ℕ) (t : Token) : Type 0 where
-  pub kind : kindNo t.kind < 42
+  pub kind : kind_no t.kind < 42
   pub size : size_of t ≤ 64
   pub value : t.info.value < 2 ^ 64
   pub free : t.info.free < 2 ^ 64
@@ -37,7 +37,7 @@ record Kept (p k high : ℕ) (s : Scan) : Type 0 where
 moved : {p k high : ℕ} {s : Scan} → Kept (p + 1) k high s → Kept p k high s
 moved {p} {k} {high} {s} r = record { few = r.few; rising = weaker p (p + 1) high s.tokens (omega arith) r.rising }
 
-none_kept : (p k high : ℕ) (e : End) → Kept p k high (scanEnd e)
+none_kept : (p k high : ℕ) (e : End) → Kept p k high (scan_end e)
 none_kept p k high e = record { few = omega arith; rising = tt }
 
 one_kept : (p k high n room : ℕ) (t : Token) (s : Scan) → 0 < k → p < high → Placed p room n t → Kept (p + 1) (k - 1) high s → Kept p k high (followed t s)
@@ -49,24 +49,24 @@ one_kept p k high n room t s some inside is rest = record {
   );
 }
 
-step : (p k b high : ℕ) (bs : List ℕ) → p < high → ((j n : ℕ) → Kept (p + 1) j high (scanFrom (p + 1) j n bs)) → (l : Lexeme) → lexeme p b bs ≡ l
-    → Sound p (length bs) l → Kept p k high (scanFrom p k 0 (b ∷ bs))
-unfolding scanFrom
-step p k b high bs inside more (no-lexeme n) e is = rw (scanFrom, e) (moved (more k n))
-step p k b high bs inside more (bad-lexeme m) e is = rw (scanFrom, e) (none_kept p k high (refuse m p))
+step : (p k b high : ℕ) (bs : List ℕ) → p < high → ((j n : ℕ) → Kept (p + 1) j high (scan_from (p + 1) j n bs)) → (l : Lexeme) → lexeme p b bs ≡ l
+    → Sound p (length bs) l → Kept p k high (scan_from p k 0 (b ∷ bs))
+unfolding scan_from
+step p k b high bs inside more (no_lexeme n) e is = rw (scan_from, e) (moved (more k n))
+step p k b high bs inside more (bad_lexeme m) e is = rw (scan_from, e) (none_kept p k high (refuse m p))
 step p k b high bs inside more (token n t) e is = go (ltb 0 k) refl
   where
-    go : (r : Bool) → ltb 0 k ≡ r → Kept p k high (scanFrom p k 0 (b ∷ bs))
+    go : (r : Bool) → ltb 0 k ≡ r → Kept p k high (scan_from p k 0 (b ∷ bs))
     go true q =
-        rw (scanFrom, e, q) (one_kept p k high n (length bs) t (scanFrom (p + 1) (k - 1) n bs) (ltb-true 0 k q) inside is (more (k - 1) n))
-    go false q = rw (scanFrom, e, q) (none_kept p k high (refuse 13 p))
+        rw (scan_from, e, q) (one_kept p k high n (length bs) t (scan_from (p + 1) (k - 1) n bs) (ltb-true 0 k q) inside is (more (k - 1) n))
+    go false q = rw (scan_from, e, q) (none_kept p k high (refuse 13 p))
 
-kept : (p k n high : ℕ) (bs : List ℕ) → high ≡ p + length bs → Kept p k high (scanFrom p k n bs)
-unfolding scanFrom
+kept : (p k n high : ℕ) (bs : List ℕ) → high ≡ p + length bs → Kept p k high (scan_from p k n bs)
+unfolding scan_from
 kept p k n high [] h = none_kept p k high fine
 kept p k (suc n) high (b ∷ bs) h = moved (kept (p + 1) k n high bs (omega arith))
 kept p k zero high (b ∷ bs) h =
-    step p k b high bs (omega arith) (λ j n. kept (p + 1) j n high bs (omega arith)) (lexeme p b bs) refl (lexeme-sound p b bs)
+    step p k b high bs (omega arith) (λ j n. kept (p + 1) j n high bs (omega arith)) (lexeme p b bs) refl (lexeme_sound p b bs)
 
 -- token i, and any two of them
 stands_at : (low high : ℕ) (ts : List Token) → Rising low high ts → (d : Token) (i : ℕ) → i < length ts → Stands low high (get_or ts i d)
@@ -83,25 +83,25 @@ rise low high (t ∷ ts) r d zero (suc j) h l = omega (arith, (stands_at (t.info
 rise low high (t ∷ ts) r d (suc i) (suc j) h l = rise (t.info.place + 1) high ts r.1 d i j (omega arith) (omega arith)
 
 -- both lists of cells are as long as the tokens, and fit their cells
-pub length-values : (before : ℕ) (ts : List Token) → length (valueCells before ts) ≡ length ts
-unfolding valueCells
-length-values before [] = refl
-length-values before (t ∷ ts) = ap suc (length-values t.info.free ts)
+pub length_values : (before : ℕ) (ts : List Token) → length (value_cells before ts) ≡ length ts
+unfolding value_cells
+length_values before [] = refl
+length_values before (t ∷ ts) = ap suc (length_values t.info.free ts)
 
-value-fits : (k v m : ℕ) → v < 2 ^ 64 → m < 2 ^ 64 → valueBy k v m < 2 ^ 64
-unfolding valueBy
-value-fits k v m hv hm = go (eqb k 1 || eqb k 2)
+value_fits : (k v m : ℕ) → v < 2 ^ 64 → m < 2 ^ 64 → value_by k v m < 2 ^ 64
+unfolding value_by
+value_fits k v m hv hm = go (eqb k 1 || eqb k 2)
   where
     go : (r : Bool) → elim r [ true ↦ v | false ↦ m ] < 2 ^ 64
     go true = hv
     go false = hm
 
-values-fit : (low high before : ℕ) (ts : List Token) → Rising low high ts → before < 2 ^ 64 → Fitting 8 (valueCells before ts)
-unfolding valueCells
-values-fit low high before [] r h = tt
-values-fit low high before (t ∷ ts) r h = (
-  value-fits (kindNo t.kind) t.info.value before r.0.value h,
-  values-fit (t.info.place + 1) high t.info.free ts r.1 r.0.free,
+values_fit : (low high before : ℕ) (ts : List Token) → Rising low high ts → before < 2 ^ 64 → Fitting 8 (value_cells before ts)
+unfolding value_cells
+values_fit low high before [] r h = tt
+values_fit low high before (t ∷ ts) r h = (
+  value_fits (kind_no t.kind) t.info.value before r.0.value h,
+  values_fit (t.info.place + 1) high t.info.free ts r.1 r.0.free,
 )
 
 -- the tokens of a text
@@ -113,40 +113,40 @@ module _ (text : List ℕ) where
   unfolding scan
   whole = kept 0 8192 0 (length text) text (omega arith)
 
-  pub few-tokens : length tokens ≤ 8192
-  few-tokens = whole.few
+  pub few_tokens : length tokens ≤ 8192
+  few_tokens = whole.few
 
-  pub token-stands : (d : Token) (i : ℕ) → i < length tokens → Stands 0 (length text) (get_or tokens i d)
-  token-stands d i h = stands_at 0 (length text) tokens whole.rising d i h
+  pub token_stands : (d : Token) (i : ℕ) → i < length tokens → Stands 0 (length text) (get_or tokens i d)
+  token_stands d i h = stands_at 0 (length text) tokens whole.rising d i h
 
-  pub places-rise : (d : Token) (i j : ℕ) → i < j → j < length tokens → (get_or tokens i d).info.place < (get_or tokens j d).info.place
-  places-rise d i j h l = rise 0 (length text) tokens whole.rising d i j h l
+  pub places_rise : (d : Token) (i j : ℕ) → i < j → j < length tokens → (get_or tokens i d).info.place < (get_or tokens j d).info.place
+  places_rise d i j h l = rise 0 (length text) tokens whole.rising d i j h l
 
   -- what a scan leaves in a buffer of cells for all the tokens: the cells
   module _ (b : List ℕ) (room : 65536 ≤ length b) where
-    pub values-held : cells 8 (length tokens) (writeCells 8 b 0 (valueCells 0 tokens)) ≡ valueCells 0 tokens
-    values-held =
-        let size : length (valueCells 0 tokens) ≡ length tokens = length-values 0 tokens in
-        rw size at (written 8 b (valueCells 0 tokens) (omega (arith, size, few-tokens)) (values-fit 0 (length text) 0 tokens whole.rising (omega arith)))
+    pub values_held : cells 8 (length tokens) (write_cells 8 b 0 (value_cells 0 tokens)) ≡ value_cells 0 tokens
+    values_held =
+        let size : length (value_cells 0 tokens) ≡ length tokens = length_values 0 tokens in
+        rw size at (written 8 b (value_cells 0 tokens) (omega (arith, size, few_tokens)) (values_fit 0 (length text) 0 tokens whole.rising (omega arith)))
 
 -- a refusal's place is inside the text
-refuse-step : (p k b : ℕ) (bs : List ℕ) (m q : ℕ) → ((j n : ℕ) → (scanFrom (p + 1) j n bs).end ≡ refuse m q → q < p + 1 + length bs) → (l : Lexeme) → lexeme p b bs ≡ l
-    → (scanFrom p k 0 (b ∷ bs)).end ≡ refuse m q → q < p + suc (length bs)
-unfolding scanFrom
-refuse-step p k b bs m q more (no-lexeme n) e h = omega (arith, more k n (rw (scanFrom, e) at h))
-refuse-step p k b bs m q more (bad-lexeme x) e h = let is : refuse x p ≡ refuse m q = rw (scanFrom, e) at h in let same : p ≡ q = cc in omega arith
-refuse-step p k b bs m q more (token n t) e h = go (ltb 0 k) refl
+refuse_step : (p k b : ℕ) (bs : List ℕ) (m q : ℕ) → ((j n : ℕ) → (scan_from (p + 1) j n bs).end ≡ refuse m q → q < p + 1 + length bs) → (l : Lexeme) → lexeme p b bs ≡ l
+    → (scan_from p k 0 (b ∷ bs)).end ≡ refuse m q → q < p + suc (length bs)
+unfolding scan_from
+refuse_step p k b bs m q more (no_lexeme n) e h = omega (arith, more k n (rw (scan_from, e) at h))
+refuse_step p k b bs m q more (bad_lexeme x) e h = let is : refuse x p ≡ refuse m q = rw (scan_from, e) at h in let same : p ≡ q = cc in omega arith
+refuse_step p k b bs m q more (token n t) e h = go (ltb 0 k) refl
   where
     go : (r : Bool) → ltb 0 k ≡ r → q < p + suc (length bs)
-    go true z = omega (arith, more (k - 1) n (rw (scanFrom, e, z) at h))
-    go false z = let is : refuse 13 p ≡ refuse m q = rw (scanFrom, e, z) at h in let same : p ≡ q = cc in omega arith
+    go true z = omega (arith, more (k - 1) n (rw (scan_from, e, z) at h))
+    go false z = let is : refuse 13 p ≡ refuse m q = rw (scan_from, e, z) at h in let same : p ≡ q = cc in omega arith
 
-refuse-within : (p k n : ℕ) (bs : List ℕ) (m q : ℕ) → (scanFrom p k n bs).end ≡ refuse m q → q < p + length bs
-unfolding scanFrom
-refuse-within p k n [] m q h = let z : ◌≡◌ {A = ℕ} 0 1 = cc in absurd (omega arith)
-refuse-within p k (suc n) (b ∷ bs) m q h = omega (arith, refuse-within (p + 1) k n bs m q h)
-refuse-within p k zero (b ∷ bs) m q h = refuse-step p k b bs m q (λ j n. refuse-within (p + 1) j n bs m q) (lexeme p b bs) refl h
+refuse_within : (p k n : ℕ) (bs : List ℕ) (m q : ℕ) → (scan_from p k n bs).end ≡ refuse m q → q < p + length bs
+unfolding scan_from
+refuse_within p k n [] m q h = let z : ◌≡◌ {A = ℕ} 0 1 = cc in absurd (omega arith)
+refuse_within p k (suc n) (b ∷ bs) m q h = omega (arith, refuse_within (p + 1) k n bs m q h)
+refuse_within p k zero (b ∷ bs) m q h = refuse_step p k b bs m q (λ j n. refuse_within (p + 1) j n bs m q) (lexeme p b bs) refl h
 
-pub refused-inside : (text : List ℕ) (m q : ℕ) → (scan text).end ≡ refuse m q → q < length text
+pub refused_inside : (text : List ℕ) (m q : ℕ) → (scan text).end ≡ refuse m q → q < length text
 unfolding scan
-refused-inside text m q h = omega (arith, refuse-within 0 mostTokens 0 text m q h)
+refused_inside text m q h = omega (arith, refuse_within 0 most_tokens 0 text m q h)

@@ -2,7 +2,7 @@
 use Rattle.std.specs.Prelude.{ℕ, ◌+◌, length}
 use Rattle.rules.specs.Text.Scan.{Scan}
 use Rattle.text.specs.declared.Scanned.{Scanned}
-use Rattle.text.specs.Table.{endedAt}
+use Rattle.text.specs.Table.{ended_at}
 
-abbrev pub scannedFrom : ℕ → Scan → Scanned
-scannedFrom n s = endedAt (n + length s.tokens) s.end
+abbrev pub scanned_from : ℕ → Scan → Scanned
+scanned_from n s = ended_at (n + length s.tokens) s.end

@@ -6,8 +6,8 @@ use lib.ListN.{length-take}
 use Rattle.trace.proofs.compared.Statement.{statement}
 use Rattle.trace.proofs.compared.Tie as tie
 
-pub compared-spec : {M : Type 1} → statement M
-compared-spec =
+pub compared_spec : {M : Type 1} → statement M
+compared_spec =
     tie.close
     (tie.spec
     (λ c. simp length-take (omega arith))

@@ -6,8 +6,8 @@ use lib.ListN.{length-take}
 use Rattle.trace.proofs.take_list.Statement.{statement}
 use Rattle.trace.proofs.take_list.Tie as tie
 
-pub take-list-spec : {M : Type 1} → statement M
-take-list-spec =
+pub take_list_spec : {M : Type 1} → statement M
+take_list_spec =
     tie.close
     (tie.spec
     (λ c. search rules)

@@ -7,5 +7,5 @@ abbrev pub Block : Type 0
 Block = List Entry
 
 -- whether two entries are the same
-unfoldable pub sameEntry : Entry → Entry → Bool
-sameEntry x y = eqb x.place y.place && (eqb x.word y.word && eqb x.value y.value)
+unfoldable pub same_entry : Entry → Entry → Bool
+same_entry x y = eqb x.place y.place && (eqb x.word y.word && eqb x.value y.value)

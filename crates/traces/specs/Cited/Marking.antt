@@ -3,7 +3,7 @@
 use Rattle.std.specs.Prelude.{ℕ, zero, suc, cond, List, [], ◌∷◌, eqb}
 use Rattle.std.proofs.Math.Option.{Option, none, some}
 use Rattle.rules.specs.Stores.{Entry, TraceVerdict, just_so, up_to}
-use Rattle.traces.specs.Cited.Entries.{Block, sameEntry}
+use Rattle.traces.specs.Cited.Entries.{Block, same_entry}
 
 -- a number of an entry, counted from where one stands, or none
 pub data Pos : Type 0 where
@@ -19,23 +19,23 @@ lower (at zero) = at zero
 lower (at (suc n)) = at n
 lower never = never
 
-unfoldable pub lesserN : ℕ → ℕ → ℕ
-lesserN zero m = zero
-lesserN (suc n) zero = zero
-lesserN (suc n) (suc m) = suc (lesserN n m)
+unfoldable pub lesser_n : ℕ → ℕ → ℕ
+lesser_n zero m = zero
+lesser_n (suc n) zero = zero
+lesser_n (suc n) (suc m) = suc (lesser_n n m)
 
-unfoldable pub greaterN : ℕ → ℕ → ℕ
-greaterN zero m = m
-greaterN (suc n) zero = suc n
-greaterN (suc n) (suc m) = suc (greaterN n m)
+unfoldable pub greater_n : ℕ → ℕ → ℕ
+greater_n zero m = m
+greater_n (suc n) zero = suc n
+greater_n (suc n) (suc m) = suc (greater_n n m)
 
 abbrev pub lesser : Pos → Pos → Pos
-lesser (at n) (at m) = at (lesserN n m)
+lesser (at n) (at m) = at (lesser_n n m)
 lesser (at n) never = at n
 lesser never p = p
 
 abbrev pub greater : Pos → Pos → Pos
-greater (at n) (at m) = at (greaterN n m)
+greater (at n) (at m) = at (greater_n n m)
 greater (at n) never = never
 greater never p = never
 
@@ -60,7 +60,7 @@ unfoldable pub fit : Block → Cells → Marked
 fit [] cs = marked cs (at 0) never
 fit (x ∷ xs) [] = marked [] never never
 fit (x ∷ xs) (none ∷ cs) = marked (none ∷ cs) never (at 0)
-fit (x ∷ xs) (some y ∷ cs) = cond (sameEntry x y) (behind none (fit xs cs)) (marked (some y ∷ cs) never (at 0))
+fit (x ∷ xs) (some y ∷ cs) = cond (same_entry x y) (behind none (fit xs cs)) (marked (some y ∷ cs) never (at 0))
 
 -- here, if that is not too early
 abbrev pub here : Entry → Block → Pos → Cells → Marked

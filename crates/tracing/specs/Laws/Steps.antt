@@ -5,34 +5,34 @@ use Rattle.std.proofs.Common.{sym, ◌∙◌, ap, ap₂, subst}
 use Rattle.std.proofs.Math.Option.{Option, none, some}
 use Rattle.rules.specs.Declarations.{Table}
 use Rattle.rules.specs.Values.{Value}
-use Rattle.rules.specs.Stores.{made, ifGiven, entriesOf, stored}
-use Rattle.rules.specs.Steps.Actions.{transferPlace}
+use Rattle.rules.specs.Stores.{made, if_given, entries_of, stored}
+use Rattle.rules.specs.Steps.Actions.{transfer_place}
 use Rattle.rules.specs.Steps.Control.{Work, moves, tests, nothing}
-use Rattle.rules.specs.Steps.Evaluation.{Carriers, Outcome, gives, faulty, then, Field, evaluate, evaluateAccesses, transferred, storeAll}
+use Rattle.rules.specs.Steps.Evaluation.{Carriers, Outcome, gives, faulty, then, Field, evaluate, evaluate_accesses, transferred, store_all}
 use Rattle.rules.specs.Steps.Runs.{Worked, moved, perform}
 use Rattle.rules.specs.Values.{cut}
-use Rattle.laws_orders.specs.Cited.Flat.{Link, at, exit, Instr, ifI, decodeI, goI, callI, stopI, moveI, Code, At, pc, over, halt, broken, go, find, picked, workM, nextM, put, putAfter, step_m}
+use Rattle.laws_orders.specs.Cited.Flat.{Link, at, exit, Instr, if_i, decode_i, go_i, call_i, stop_i, move_i, Code, At, pc, over, halt, broken, go, find, picked, work_m, next_m, put, put_after, step_m}
 use Rattle.laws_orders.specs.Orders.Tests.{impossible}
 use Rattle.stepping.specs.declared.steps.Moved.{Moved}
 use Rattle.stepping.specs.declared.steps.Moved.TheVariants.{Go, Call, Stop, Fault}
 use Rattle.stepping.specs.Steps.{onward, returning, control, Activates, Into}
 use Rattle.telling.specs.Cited.Passing.{Grouping, passage}
-use Rattle.telling.specs.Cited.Tracing.{Told, told, follow, pickedT, nextT, put_t, afterT, stepT}
-use Rattle.telling.specs.Taken.{activates, next-stays, next-over}
-use Rattle.turning.specs.Ways.{linkTo, way_of}
+use Rattle.telling.specs.Cited.Tracing.{Told, told, follow, picked_t, next_t, put_t, after_t, step_t}
+use Rattle.telling.specs.Taken.{activates, next_stays, next_over}
+use Rattle.turning.specs.Ways.{link_to, way_of}
 
 -- A transfer that faults makes no store.
-fault-quiet : (ds : Table) (w : Work) (s : Carriers) {m p : ℕ} → perform ds w s ≡ faulty m p → made ds w s ≡ []
+fault_quiet : (ds : Table) (w : Work) (s : Carriers) {m p : ℕ} → perform ds w s ≡ faulty m p → made ds w s ≡ []
 unfolding stored transferred then
-fault-quiet ds (moves d e) s {m} {p} h = by (evaluate ds s e) (evaluateAccesses ds s d) h
+fault_quiet ds (moves d e) s {m} {p} h = by (evaluate ds s e) (evaluate_accesses ds s d) h
   where
-    by : (x : Outcome Value) (y : Outcome (List Field)) → moved (then x (λ v. then y (λ fs. gives (storeAll s fs (cut (map (λ f. f.size) fs) v.number))))) ≡ faulty m p
-        → ifGiven (then x (λ v. then y (λ fs. gives (entriesOf (transferPlace d) s fs (cut (map (λ f. f.size) fs) v.number))))) ≡ []
+    by : (x : Outcome Value) (y : Outcome (List Field)) → moved (then x (λ v. then y (λ fs. gives (store_all s fs (cut (map (λ f. f.size) fs) v.number))))) ≡ faulty m p
+        → if_given (then x (λ v. then y (λ fs. gives (entries_of (transfer_place d) s fs (cut (map (λ f. f.size) fs) v.number))))) ≡ []
     by (gives v) (gives fs) q = impossible (cc)
     by (gives v) (faulty x y) q = refl
     by (faulty x y) z q = refl
-fault-quiet ds (tests e) s h = refl
-fault-quiet ds nothing s h = refl
+fault_quiet ds (tests e) s h = refl
+fault_quiet ds nothing s h = refl
 
 -- control that is at no fault
 abbrev pub Calm : At → Type 0
@@ -56,25 +56,25 @@ put_same s c u (broken x y) over h e = impossible (cc)
 put_same s c u (broken x y) halt h e = impossible (cc)
 put_same s c u a (broken m p) h e = absurd h
 
-put-broken : (s c u : Carriers) (a : At) (m p : ℕ) → put s c a ≡ put s u (broken m p) → a ≡ broken m p
-put-broken s c u (pc n σ) m p e = impossible (cc)
-put-broken s c u over m p e = impossible (cc)
-put-broken s c u halt m p e = impossible (cc)
-put-broken s c u (broken x y) m p e = let q : x ≡ m = cc in let r : y ≡ p = cc in ap₂ broken q r
+put_broken : (s c u : Carriers) (a : At) (m p : ℕ) → put s c a ≡ put s u (broken m p) → a ≡ broken m p
+put_broken s c u (pc n σ) m p e = impossible (cc)
+put_broken s c u over m p e = impossible (cc)
+put_broken s c u halt m p e = impossible (cc)
+put_broken s c u (broken x y) m p e = let q : x ≡ m = cc in let r : y ≡ p = cc in ap₂ broken q r
 
-fault-put : (s u : Carriers) (a : At) (m p : ℕ) → Calm a → put s s (broken m p) ≡ put s u a → ⊥
-fault-put s u (pc n σ) m p h e = impossible (cc)
-fault-put s u over m p h e = impossible (cc)
-fault-put s u halt m p h e = impossible (cc)
-fault-put s u (broken x y) m p h e = h
+fault_put : (s u : Carriers) (a : At) (m p : ℕ) → Calm a → put s s (broken m p) ≡ put s u a → ⊥
+fault_put s u (pc n σ) m p h e = impossible (cc)
+fault_put s u over m p h e = impossible (cc)
+fault_put s u halt m p h e = impossible (cc)
+fault_put s u (broken x y) m p h e = h
 
 still : (i : Instr) → (Activates i → ⊥) → activates i ≡ false
-still (ifI e g k) h = refl
-still (decodeI p e t) h = refl
-still (goI k) h = refl
-still (callI p k) h = absurd (h tt)
-still stopI h = refl
-still (moveI d e k) h = refl
+still (if_i e g k) h = refl
+still (decode_i p e t) h = refl
+still (go_i k) h = refl
+still (call_i p k) h = absurd (h tt)
+still stop_i h = refl
+still (move_i d e k) h = refl
 
 -- a body goes on, or all has ended
 abbrev Going : At → Type 0
@@ -84,79 +84,79 @@ Going halt = ⊥
 Going (broken m p) = ⊥
 
 module _ (C : Code) (M : Grouping) (n : ℕ) (κ : List ℕ) where
-  link-going : (k : Link) (a : At) → go k [] ≡ a → Going a
-  link-going (at g) a q = subst Going q tt
-  link-going exit a q = subst Going q tt
+  link_going : (k : Link) (a : At) → go k [] ≡ a → Going a
+  link_going (at g) a q = subst Going q tt
+  link_going exit a q = subst Going q tt
 
   -- a step behind which nothing goes on passes nothing
-  next-ends : (i : Instr) (v : ℕ) (a : At) → (Going a → ⊥) → nextM C i [] v ≡ a → nextT C M n i κ v ≡ told a []
-  next-ends (ifI e g k) zero a h q = absurd (h (link-going k a q))
-  next-ends (ifI e g k) (suc v) a h q = absurd (h (subst Going q tt))
-  next-ends (decodeI p e t) v a h q = by (find t v) q
+  next_ends : (i : Instr) (v : ℕ) (a : At) → (Going a → ⊥) → next_m C i [] v ≡ a → next_t C M n i κ v ≡ told a []
+  next_ends (if_i e g k) zero a h q = absurd (h (link_going k a q))
+  next_ends (if_i e g k) (suc v) a h q = absurd (h (subst Going q tt))
+  next_ends (decode_i p e t) v a h q = by (find t v) q
     where
-      by : (o : Option ℕ) → picked p [] o ≡ a → pickedT C M p (M.around n) κ o ≡ told a []
+      by : (o : Option ℕ) → picked p [] o ≡ a → picked_t C M p (M.around n) κ o ≡ told a []
       by none q = ap (λ a. told a []) q
       by (some g) q = absurd (h (subst Going q tt))
-  next-ends (goI k) v a h q = absurd (h (link-going k a q))
-  next-ends (callI p k) v a h q = absurd (h (subst Going q tt))
-  next-ends stopI v a h q = ap (λ a. told a []) q
-  next-ends (moveI d e k) v a h q = absurd (h (link-going k a q))
+  next_ends (go_i k) v a h q = absurd (h (link_going k a q))
+  next_ends (call_i p k) v a h q = absurd (h (subst Going q tt))
+  next_ends stop_i v a h q = ap (λ a. told a []) q
+  next_ends (move_i d e k) v a h q = absurd (h (link_going k a q))
 
-  next-calls : (i : Instr) (v f k : ℕ) → Activates i → nextM C i [] v ≡ pc f (returning k []) → nextT C M n i κ v ≡ told (pc f (n ∷ κ)) (passage M [] (M.around f))
-  next-calls (ifI e g l) v f k h q = absurd h
-  next-calls (decodeI p e t) v f k h q = absurd h
-  next-calls (goI l) v f k h q = absurd h
-  next-calls (callI p l) v f k h q = let x : C.first p ≡ f = cc in ap (λ f. told (pc f (n ∷ κ)) (passage M [] (M.around f))) x
-  next-calls stopI v f k h q = absurd h
-  next-calls (moveI d e l) v f k h q = absurd h
+  next_calls : (i : Instr) (v f k : ℕ) → Activates i → next_m C i [] v ≡ pc f (returning k []) → next_t C M n i κ v ≡ told (pc f (n ∷ κ)) (passage M [] (M.around f))
+  next_calls (if_i e g l) v f k h q = absurd h
+  next_calls (decode_i p e t) v f k h q = absurd h
+  next_calls (go_i l) v f k h q = absurd h
+  next_calls (call_i p l) v f k h q = let x : C.first p ≡ f = cc in ap (λ f. told (pc f (n ∷ κ)) (passage M [] (M.around f))) x
+  next_calls stop_i v f k h q = absurd h
+  next_calls (move_i d e l) v f k h q = absurd h
 
-  next-goes : (i : Instr) (v k : ℕ) → (Activates i → ⊥) → nextM C i [] v ≡ onward k [] → nextT C M n i κ v ≡ follow C M (M.around n) (linkTo k) κ
-  next-goes i v zero h q = next-over C M n i κ [] v (still i h) q
-  next-goes i v (suc k) h q = next-stays C M n i κ [] v (still i h) (suc k) [] q refl
+  next_goes : (i : Instr) (v k : ℕ) → (Activates i → ⊥) → next_m C i [] v ≡ onward k [] → next_t C M n i κ v ≡ follow C M (M.around n) (link_to k) κ
+  next_goes i v zero h q = next_over C M n i κ [] v (still i h) q
+  next_goes i v (suc k) h q = next_stays C M n i κ [] v (still i h) (suc k) [] q refl
 
 module _ (ds : Table) (C : Code) (M : Grouping) (n : ℕ) (κ : List ℕ) (s u : Carriers) where
   -- the step of the tracing machine, where the flat one is at r
   pub record Takes (r : Moved) : Type 0 where
-    pub is : stepT ds C M n κ s ≡ put_t s (made ds (workM (C.instr n)) s) u (way_of n r C M κ)
-    pub by : (n' : ℕ) (κ' : List ℕ) → (way_of n r C M κ).control ≡ pc n' κ' → (x : ℕ) × (nextT C M n (C.instr n) κ x ≡ way_of n r C M κ)
+    pub is : step_t ds C M n κ s ≡ put_t s (made ds (work_m (C.instr n)) s) u (way_of n r C M κ)
+    pub by : (n' : ℕ) (κ' : List ℕ) → (way_of n r C M κ).control ≡ pc n' κ' → (x : ℕ) × (next_t C M n (C.instr n) κ x ≡ way_of n r C M κ)
 
-  calm-takes : (o : Outcome Worked) → perform ds (workM (C.instr n)) s ≡ o → (r : Moved) → Calm (control r [])
-      → ((x : ℕ) → nextM C (C.instr n) [] x ≡ control r [] → nextT C M n (C.instr n) κ x ≡ way_of n r C M κ)
-      → putAfter s (nextM C (C.instr n) []) o ≡ put s u (control r []) → Takes r
-  calm-takes (gives w) g r h f e =
-      let z = put_same s w.carriers u (nextM C (C.instr n) [] w.number) (control r []) h e in
+  calm_takes : (o : Outcome Worked) → perform ds (work_m (C.instr n)) s ≡ o → (r : Moved) → Calm (control r [])
+      → ((x : ℕ) → next_m C (C.instr n) [] x ≡ control r [] → next_t C M n (C.instr n) κ x ≡ way_of n r C M κ)
+      → put_after s (next_m C (C.instr n) []) o ≡ put s u (control r []) → Takes r
+  calm_takes (gives w) g r h f e =
+      let z = put_same s w.carriers u (next_m C (C.instr n) [] w.number) (control r []) h e in
       let way = f w.number z.1 in
       record {
-        is = ap (afterT s (made ds (workM (C.instr n)) s) (nextT C M n (C.instr n) κ)) g
-            ∙ ap₂ (put_t s (made ds (workM (C.instr n)) s)) z.0 way;
+        is = ap (after_t s (made ds (work_m (C.instr n)) s) (next_t C M n (C.instr n) κ)) g
+            ∙ ap₂ (put_t s (made ds (work_m (C.instr n)) s)) z.0 way;
         by = λ n' κ' q. (w.number, way);
       }
-  calm-takes (faulty m p) g r h f e = absurd (fault-put s u (control r []) m p h e)
+  calm_takes (faulty m p) g r h f e = absurd (fault_put s u (control r []) m p h e)
 
-  fault-takes : (o : Outcome Worked) → perform ds (workM (C.instr n)) s ≡ o → (m p : ℕ)
-      → putAfter s (nextM C (C.instr n) []) o ≡ put s u (broken m p) → Takes (Fault m p)
-  fault-takes (gives w) g m p e =
-      let way = next-ends C M n κ (C.instr n) w.number (broken m p) (λ x. x) (put-broken s w.carriers u (nextM C (C.instr n) [] w.number) m p e) in
+  fault_takes : (o : Outcome Worked) → perform ds (work_m (C.instr n)) s ≡ o → (m p : ℕ)
+      → put_after s (next_m C (C.instr n) []) o ≡ put s u (broken m p) → Takes (Fault m p)
+  fault_takes (gives w) g m p e =
+      let way = next_ends C M n κ (C.instr n) w.number (broken m p) (λ x. x) (put_broken s w.carriers u (next_m C (C.instr n) [] w.number) m p e) in
       record {
-        is = ap (afterT s (made ds (workM (C.instr n)) s) (nextT C M n (C.instr n) κ)) g ∙ ap (put_t s (made ds (workM (C.instr n)) s) w.carriers) way;
+        is = ap (after_t s (made ds (work_m (C.instr n)) s) (next_t C M n (C.instr n) κ)) g ∙ ap (put_t s (made ds (work_m (C.instr n)) s) w.carriers) way;
         by = λ n' κ' q. impossible (cc);
       }
-  fault-takes (faulty x y) g m p e =
+  fault_takes (faulty x y) g m p e =
       let q : x ≡ m = cc in
       let r : y ≡ p = cc in
       record {
-        is = ap (afterT s (made ds (workM (C.instr n)) s) (nextT C M n (C.instr n) κ)) g
-            ∙ ap₂ (λ b (t : Told). put_t s b u t) (sym (fault-quiet ds (workM (C.instr n)) s g)) (ap₂ (λ x y. told (broken x y) []) q r);
+        is = ap (after_t s (made ds (work_m (C.instr n)) s) (next_t C M n (C.instr n) κ)) g
+            ∙ ap₂ (λ b (t : Told). put_t s b u t) (sym (fault_quiet ds (work_m (C.instr n)) s g)) (ap₂ (λ x y. told (broken x y) []) q r);
         by = λ n' κ' q. impossible (cc);
       }
 
   -- By whatever the flat machine comes to with any stack, the tracing one goes that way.
   pub takes : (r : Moved) → Into r (C.instr n) → ((σ : List ℕ) → step_m ds C n σ s ≡ put s u (control r σ)) → Takes r
-  takes (Go k) i e = calm-takes _ refl (Go k) (by k) (λ x q. next-goes C M n κ (C.instr n) x k i q) (e [])
+  takes (Go k) i e = calm_takes _ refl (Go k) (by k) (λ x q. next_goes C M n κ (C.instr n) x k i q) (e [])
     where
       by : (k : ℕ) → Calm (onward k [])
       by zero = tt
       by (suc k) = tt
-  takes (Call f k) i e = calm-takes _ refl (Call f k) tt (λ x q. next-calls C M n κ (C.instr n) x f k i q) (e [])
-  takes Stop i e = calm-takes _ refl Stop tt (λ x q. next-ends C M n κ (C.instr n) x halt (λ x. x) q) (e [])
-  takes (Fault m p) i e = fault-takes _ refl m p (e [])
+  takes (Call f k) i e = calm_takes _ refl (Call f k) tt (λ x q. next_calls C M n κ (C.instr n) x f k i q) (e [])
+  takes Stop i e = calm_takes _ refl Stop tt (λ x q. next_ends C M n κ (C.instr n) x halt (λ x. x) q) (e [])
+  takes (Fault m p) i e = fault_takes _ refl m p (e [])

@@ -2,41 +2,41 @@
 -- Assumes nothing.
 use Rattle.std.proofs.Common.{◌≡◌, ℕ, ◌+◌, ◌*◌, ◌^◌, ◌<◌, ◌≤◌, max, [], ◌++◌, ap, lt_of_lt_of_le, arith, pow_mono, rules}
 use Rattle.rules.specs.Text.Tokens.{Op, join, plus, minus, eql, neq, lss, leq, gtr, geq, and, eqv, or, xor}
-use Rattle.rules.specs.Values.{opBits, opNumber}
+use Rattle.rules.specs.Values.{op_bits, op_number}
 use Rattle.values.specs.Operands.{Operands}
-use Rattle.values.specs.Operators.{opAt, plain, relations}
-use Rattle.values.specs.Laws.Results.{result_fits, left-longer, right-longer}
+use Rattle.values.specs.Operators.{op_at, plain, relations}
+use Rattle.values.specs.Laws.Results.{result_fits, left_longer, right_longer}
 use Rattle.values.proofs.Arms.{arm, None, passed}
 use Rattle.values.proofs.operate.Statement.{statement}
 use Rattle.values.proofs.operate.Tie as tie
 
 -- the result fits 64 bits
-within : (o : Op) {m a n b : ℕ} → Operands o m a n b → opNumber o m a n b < 2 ^ 64
+within : (o : Op) {m a n b : ℕ} → Operands o m a n b → op_number o m a n b < 2 ^ 64
 within o h = lt_of_lt_of_le (result_fits o h.fit) (pow_mono h.short)
 
 joins : {m a n b : ℕ} → Operands join m a n b → (n < 64) × (a * 2 ^ n + b < 2 ^ 64)
-unfolding opBits opNumber
+unfolding op_bits op_number
 joins h = (omega (arith, h.short, h.some), within join h)
 
 adds : {m a n b : ℕ} → Operands plus m a n b → a + b < 2 ^ 64
-unfolding opNumber
+unfolding op_number
 adds h = within plus h
 
 subtracts : {m a n b l : ℕ} → Operands minus m a n b → l ≡ max m n → l + 1 ≤ 64
-unfolding opBits
-subtracts h is-longer = omega (arith, h.short)
+unfolding op_bits
+subtracts h is_longer = omega (arith, h.short)
 
 compares : {m a n b l : ℕ} → Operands eqv m a n b → l ≡ max m n → (l ≤ 64) × (a < 2 ^ l) × (b < 2 ^ l)
-unfolding opBits
-compares h is-longer = rw is-longer (h.short, left-longer h.fit, right-longer h.fit)
+unfolding op_bits
+compares h is_longer = rw is_longer (h.short, left_longer h.fit, right_longer h.fit)
 
-last : (k : ℕ) → None k Unit (plain ++ relations) → opAt k ≡ geq
-unfolding opAt
+last : (k : ℕ) → None k Unit (plain ++ relations) → op_at k ≡ geq
+unfolding op_at
 last k h = passed k Unit (plain ++ relations) [] h
 
-pub operate-spec : {M : Type 1} → statement M
-unfolding opBits opNumber
-operate-spec =
+pub operate_spec : {M : Type 1} → statement M
+unfolding op_bits op_number
+operate_spec =
     tie.close
     (tie.spec
     (λ c κs. joins (rw (arm join c.match.keys1) at c.before.requires))

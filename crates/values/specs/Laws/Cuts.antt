@@ -6,25 +6,25 @@ use Rattle.std.proofs.Common.{sym}
 use Rattle.std.proofs.Math.Nat.{mod-one, add-sub_cancel_left}
 use Rattle.std.proofs.lemmas.Nat.{mod-pow-add}
 use Rattle.rules.specs.Text.Tokens.{join}
-use Rattle.rules.specs.Values.{opNumber, field, total, cut}
+use Rattle.rules.specs.Values.{op_number, field, total, cut}
 
 -- the pieces xs, of the lengths ns, joined by `@`
 unfoldable pub joined : List ℕ → List ℕ → ℕ
 joined [] xs = 0
 joined (n ∷ ns) [] = 0
-joined (n ∷ ns) (x ∷ xs) = opNumber join n x (total ns) (joined ns xs)
+joined (n ∷ ns) (x ∷ xs) = op_number join n x (total ns) (joined ns xs)
 
-pub cut-joined : (ns : List ℕ) (v : ℕ) → joined ns (cut ns v) ≡ v % 2 ^ total ns
-unfolding joined cut total field opNumber
-cut-joined [] v = sym (mod-one v)
-cut-joined (n ∷ ns) v = rw (cut-joined ns v, mod-pow-add v n (total ns))
+pub cut_joined : (ns : List ℕ) (v : ℕ) → joined ns (cut ns v) ≡ v % 2 ^ total ns
+unfolding joined cut total field op_number
+cut_joined [] v = sym (mod-one v)
+cut_joined (n ∷ ns) v = rw (cut_joined ns v, mod-pow-add v n (total ns))
 
 -- the pieces from the left, where `rest` bits are left
 unfoldable pub pieces : List ℕ → ℕ → ℕ → List ℕ
 pieces [] rest v = []
 pieces (n ∷ ns) rest v = field (rest - n) n v ∷ pieces ns (rest - n) v
 
-pub cut-pieces : (ns : List ℕ) (v : ℕ) → pieces ns (total ns) v ≡ cut ns v
+pub cut_pieces : (ns : List ℕ) (v : ℕ) → pieces ns (total ns) v ≡ cut ns v
 unfolding pieces cut total
-cut-pieces [] v = refl
-cut-pieces (n ∷ ns) v = rw (add-sub_cancel_left, cut-pieces ns v)
+cut_pieces [] v = refl
+cut_pieces (n ∷ ns) v = rw (add-sub_cancel_left, cut_pieces ns v)

@@ -1,21 +1,21 @@
 -- The number of an operator's kind gives back the operator.
 -- Assumes nothing.
 use Rattle.std.specs.Prelude.{◌≡◌, refl}
-use Rattle.rules.specs.Text.Tokens.{Op, join, plus, minus, eql, neq, lss, leq, gtr, geq, and, eqv, or, xor, kindNo, opKind}
-use Rattle.values.specs.Operators.{opAt}
+use Rattle.rules.specs.Text.Tokens.{Op, join, plus, minus, eql, neq, lss, leq, gtr, geq, and, eqv, or, xor, kind_no, op_kind}
+use Rattle.values.specs.Operators.{op_at}
 
-pub opAt-kind : (o : Op) → opAt (kindNo (opKind o)) ≡ o
-unfolding opAt
-opAt-kind join = refl
-opAt-kind plus = refl
-opAt-kind minus = refl
-opAt-kind eql = refl
-opAt-kind neq = refl
-opAt-kind lss = refl
-opAt-kind leq = refl
-opAt-kind gtr = refl
-opAt-kind geq = refl
-opAt-kind and = refl
-opAt-kind eqv = refl
-opAt-kind or = refl
-opAt-kind xor = refl
+pub op_at_kind : (o : Op) → op_at (kind_no (op_kind o)) ≡ o
+unfolding op_at
+op_at_kind join = refl
+op_at_kind plus = refl
+op_at_kind minus = refl
+op_at_kind eql = refl
+op_at_kind neq = refl
+op_at_kind lss = refl
+op_at_kind leq = refl
+op_at_kind gtr = refl
+op_at_kind geq = refl
+op_at_kind and = refl
+op_at_kind eqv = refl
+op_at_kind or = refl
+op_at_kind xor = refl

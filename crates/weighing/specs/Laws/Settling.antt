@@ -4,28 +4,28 @@ use Rattle.std.specs.Prelude.{ℕ, ◌+◌, ◌-◌, ◌*◌, ◌<◌, ◌≤◌
 use Rattle.std.proofs.Common.{sym, ◌∙◌, arith}
 use Rattle.std.proofs.Math.Path.{ap}
 use Rattle.std.proofs.Math.ListN.{length}
-use Rattle.rules.specs.Text.Tokens.{Token, tk, opKind, kindNo}
+use Rattle.rules.specs.Text.Tokens.{Token, tk, op_kind, kind_no}
 use Rattle.rules.specs.Grammar.Precedence.{tightness, Factor}
-use Rattle.rules.specs.Limits.{mostBits, longestText}
+use Rattle.rules.specs.Limits.{most_bits, longest_text}
 use Rattle.rules.specs.Faults.Bodies.{Judged}
 use Rattle.laws_grammar.specs.Cited.Shunting.{Waiting, looser, settled}
-use Rattle.records.specs.Holds.{tokenAt, kindByte, placeCell}
-use Rattle.table.specs.Laws.Positions.{kind-here, record-within}
+use Rattle.records.specs.Holds.{token_at, kind_byte, place_cell}
+use Rattle.table.specs.Laws.Positions.{kind_here, record_within}
 use Rattle.weighing.specs.Weights.{Weighs, operated}
 use Rattle.weighing.specs.Chains.{WaitsAt, Wait}
-use Rattle.weighing.specs.Laws.Chains.{after, looser-pass, settled-pass, looser-stop, settled-stop}
+use Rattle.weighing.specs.Laws.Chains.{after, looser_pass, settled_pass, looser_stop, settled_stop}
 use Rattle.weighing.specs.Settling.{SettleAt, Settles}
 
 -- on the way: settling the rest comes to the same
 pub record Settling {records ats keys lengths : List ℕ} {count₀ k₀ n₀ : ℕ} (v : SettleAt records ats keys lengths count₀ k₀ n₀)
     (operand : Factor → Judged) (tight count k n : ℕ) : Type 0 where
   pub here : SettleAt records ats keys lengths count k n
-  pub same-looser : looser operated operand tight here.waits here.value ≡ looser operated operand tight v.waits v.value
-  pub same-settled : settled operated operand tight here.waits here.value ≡ settled operated operand tight v.waits v.value
+  pub same_looser : looser operated operand tight here.waits here.value ≡ looser operated operand tight v.waits v.value
+  pub same_settled : settled operated operand tight here.waits here.value ≡ settled operated operand tight v.waits v.value
 
-none-wait : (ws : List (Waiting Judged)) → length ws ≡ 0 → ws ≡ []
-none-wait [] e = refl
-none-wait (w ∷ ws) e = absurd (omega arith)
+none_wait : (ws : List (Waiting Judged)) → length ws ≡ 0 → ws ≡ []
+none_wait [] e = refl
+none_wait (w ∷ ws) e = absurd (omega arith)
 
 module _ {records ats keys lengths : List ℕ} {count k n : ℕ} (v : SettleAt records ats keys lengths count k n) where
   -- the last that waits
@@ -47,26 +47,26 @@ module _ {records ats keys lengths : List ℕ} {count k n : ℕ} (v : SettleAt r
     top_within : a < length v.tokens
     top_within = let q = t.at.within in omega arith
 
-    top-here : tokenAt v.tokens a ≡ tk (opKind t.last.op) t.last.info
-    top-here = ap (tokenAt v.tokens) e ∙ t.at.here
+    top_here : token_at v.tokens a ≡ tk (op_kind t.last.op) t.last.info
+    top_here = ap (token_at v.tokens) e ∙ t.at.here
 
-    pub top-room : 8 * a + 8 ≤ length records
-    top-room = record-within v.holds a top_within
+    pub top_room : 8 * a + 8 ≤ length records
+    top_room = record_within v.holds a top_within
 
-    pub top-kind : kindByte records a ≡ kindNo (opKind t.last.op)
-    top-kind = kind-here v.holds a _ top_within top-here
+    pub top_kind : kind_byte records a ≡ kind_no (op_kind t.last.op)
+    top_kind = kind_here v.holds a _ top_within top_here
 
-    pub top-place : placeCell records a ≡ t.last.info.place
-    top-place = (v.holds.entry a top_within).place ∙ ap (λ (t : Token). t.info.place) top-here
+    pub top_place : place_cell records a ≡ t.last.info.place
+    top_place = (v.holds.entry a top_within).place ∙ ap (λ (t : Token). t.info.place) top_here
 
-    pub top_small : placeCell records a ≤ longestText
+    pub top_small : place_cell records a ≤ longest_text
     top_small = omega (arith, (v.holds.entry a top_within).place, (v.holds.entry a top_within).inside, v.holds.short)
 
-  pub length-fits : n ≤ mostBits
-  length-fits = omega (arith, v.weighs.bits, v.weighs.fine.few)
+  pub length_fits : n ≤ most_bits
+  length_fits = omega (arith, v.weighs.bits, v.weighs.fine.few)
 
-  pub left-fits : Top → get_or lengths (count - 1) 0 ≤ mostBits
-  left-fits t = omega (arith, t.at.left.bits, t.at.left.fine.few)
+  pub left_fits : Top → get_or lengths (count - 1) 0 ≤ most_bits
+  left_fits t = omega (arith, t.at.left.bits, t.at.left.fine.few)
 
 -- one turn, and the end
 module _ {records ats keys lengths : List ℕ} {count₀ k₀ n₀ : ℕ} {v : SettleAt records ats keys lengths count₀ k₀ n₀}
@@ -86,30 +86,30 @@ module _ {records ats keys lengths : List ℕ} {count₀ k₀ n₀ : ℕ} {v : S
       waiting = t.waiting;
       weighs = w;
     };
-    same-looser =
-        sym (looser-pass operand tight t.last t.below s.here.value h)
+    same_looser =
+        sym (looser_pass operand tight t.last t.below s.here.value h)
         ∙ ap (λ ws. looser operated operand tight ws s.here.value) (sym t.are)
-        ∙ s.same-looser;
-    same-settled =
-        sym (settled-pass operand tight t.last t.below s.here.value h)
+        ∙ s.same_looser;
+    same_settled =
+        sym (settled_pass operand tight t.last t.below s.here.value h)
         ∙ ap (λ ws. settled operated operand tight ws s.here.value) (sym t.are)
-        ∙ s.same-settled;
+        ∙ s.same_settled;
   }
 
   pub stopped : (t : Top s.here) → tightness t.last.op < tight → Settles operand tight v.waits v.value count k n
   stopped t h =
-      let l = ap (λ ws. looser operated operand tight ws s.here.value) t.are ∙ looser-stop operand tight t.last t.below s.here.value h in
-      let m = ap (λ ws. settled operated operand tight ws s.here.value) t.are ∙ settled-stop operand tight t.last t.below s.here.value h in
+      let l = ap (λ ws. looser operated operand tight ws s.here.value) t.are ∙ looser_stop operand tight t.last t.below s.here.value h in
+      let m = ap (λ ws. settled operated operand tight ws s.here.value) t.are ∙ settled_stop operand tight t.last t.below s.here.value h in
       record {
-        left = s.here.counts ∙ ap length (t.are ∙ sym l ∙ s.same-looser);
-        weighs = rw (sym s.same-settled ∙ m) s.here.weighs;
+        left = s.here.counts ∙ ap length (t.are ∙ sym l ∙ s.same_looser);
+        weighs = rw (sym s.same_settled ∙ m) s.here.weighs;
       }
 
   pub emptied : count ≡ 0 → Settles operand tight v.waits v.value count k n
   unfolding looser settled
   emptied z =
-      let e = none-wait s.here.waits (sym s.here.counts ∙ z) in
+      let e = none_wait s.here.waits (sym s.here.counts ∙ z) in
       record {
-        left = s.here.counts ∙ ap length (e ∙ ap (λ ws. looser operated operand tight ws s.here.value) (sym e) ∙ s.same-looser);
-        weighs = rw (sym s.same-settled ∙ ap (λ ws. settled operated operand tight ws s.here.value) e) s.here.weighs;
+        left = s.here.counts ∙ ap length (e ∙ ap (λ ws. looser operated operand tight ws s.here.value) (sym e) ∙ s.same_looser);
+        weighs = rw (sym s.same_settled ∙ ap (λ ws. settled operated operand tight ws s.here.value) e) s.here.weighs;
       }

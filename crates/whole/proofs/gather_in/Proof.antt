@@ -5,12 +5,12 @@ use native.Mathlib.Omega.{arith}
 use lib.ListN.{length-take}
 use lib.Seq.{length-take-le}
 use Rattle.room.specs.Whole.{labels_from}
-use Rattle.whole.specs.Laws.Whole.{gathered-in}
+use Rattle.whole.specs.Laws.Whole.{gathered_in}
 use Rattle.whole.proofs.gather_in.Statement.{statement}
 use Rattle.whole.proofs.gather_in.Tie as tie
 
-pub gather-in-spec : {M : Type 1} → statement M
-gather-in-spec =
+pub gather_in_spec : {M : Type 1} → statement M
+gather_in_spec =
     tie.close
     (tie.spec
     (λ c. search rules)
@@ -24,6 +24,6 @@ gather-in-spec =
       ),
     ))
     (λ c. search rules)
-    (λ c. gathered-in c.before.before.before.before.before.before.before.args.room.now _
+    (λ c. gathered_in c.before.before.before.before.before.before.before.args.room.now _
     c.before.before.before.before.before.before.before.requires.1.0 c.before.before.gather-all.auto.1.1.0
     c.before.before.gather-all.ensures))

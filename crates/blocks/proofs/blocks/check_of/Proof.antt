@@ -4,7 +4,7 @@ use borrow.Author.Rules.{rules}
 use Prim.Native.Nat.{◌-◌}
 use native.Mathlib.Omega.{arith}
 use lib.ListN.{length}
-use Rattle.blocks.specs.Laws.Loops.{Summed, none-summed, more-summed, all-summed}
+use Rattle.blocks.specs.Laws.Loops.{Summed, none_summed, more_summed, all_summed}
 use Rattle.blocks.proofs.blocks.check_of.Statement.{statement}
 use Rattle.blocks.proofs.blocks.check_of.Tie as tie
 
@@ -14,17 +14,17 @@ invariant-loop front sum₀ i₀ sum i = Summed front sum i
 abbrev decreases-loop : tie.decreases-loop
 decreases-loop front sum₀ i₀ sum i = length front - i
 
-pub check-of-spec : {M : Type 1} → statement M
-check-of-spec =
+pub check_of_spec : {M : Type 1} → statement M
+check_of_spec =
     tie.close
     (tie.spec
     invariant-loop
     decreases-loop
-    (λ c. search (rules, none-summed))
+    (λ c. search (rules, none_summed))
     (λ c. search rules)
     (λ c κs. search rules)
     (λ c. search rules)
     (λ c. search rules)
     (λ c. search rules)
-    (λ c. search (rules, more-summed))
-    (λ c. all-summed c.before.loop.invariant (omega arith) c.before.before.before.requires))
+    (λ c. search (rules, more_summed))
+    (λ c. all_summed c.before.loop.invariant (omega arith) c.before.before.before.requires))

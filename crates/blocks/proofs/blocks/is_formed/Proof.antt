@@ -3,24 +3,24 @@
 use borrow.Author.Rules.{rules}
 use mathlib.Core.Path.{◌∙◌}
 use native.Mathlib.Omega.{arith}
-use Rattle.blocks.specs.Laws.Puts.{other-number, other-edition, other-count, by-padding}
+use Rattle.blocks.specs.Laws.Puts.{other_number, other_edition, other_count, by_padding}
 use Rattle.blocks.proofs.blocks.is_formed.Statement.{statement}
 use Rattle.blocks.proofs.blocks.is_formed.Tie as tie
 
 returns : tie.Need-returns
-returns c = other-number c.before.before.before.args.block.now c.before.before.before.args.number c.before.before.before.args.used c.if1.true
+returns c = other_number c.before.before.before.args.block.now c.before.before.before.args.number c.before.before.before.args.used c.if1.true
 
 returns-2 : tie.Need-returns-2
-returns-2 c = other-edition c.before.before.before.before.before.args.block.now c.before.before.before.before.before.args.number c.before.before.before.before.before.args.used (omega arith) c.if2.true
+returns-2 c = other_edition c.before.before.before.before.before.args.block.now c.before.before.before.before.before.args.number c.before.before.before.before.before.args.used (omega arith) c.if2.true
 
 returns-3 : tie.Need-returns-3
-returns-3 c = other-count c.before.before.before.before.before.before.before.args.block.now c.before.before.before.before.before.before.before.args.number c.before.before.before.before.before.before.before.args.used (omega arith) (omega arith) (λ e. c.if3.true (c.before.get16.ensures ∙ e))
+returns-3 c = other_count c.before.before.before.before.before.before.before.args.block.now c.before.before.before.before.before.before.before.args.number c.before.before.before.before.before.before.before.args.used (omega arith) (omega arith) (λ e. c.if3.true (c.before.get16.ensures ∙ e))
 
 returns-4 : tie.Need-returns-4
-returns-4 c = c.is_zero.ensures ∙ by-padding c.before.before.before.before.before.before.before.before.before.args.block.now c.before.before.before.before.before.before.before.before.before.args.number c.before.before.before.before.before.before.before.before.before.args.used (omega arith) (omega arith) (omega arith)
+returns-4 c = c.is_zero.ensures ∙ by_padding c.before.before.before.before.before.before.before.before.before.args.block.now c.before.before.before.before.before.before.before.before.before.args.number c.before.before.before.before.before.before.before.before.before.args.used (omega arith) (omega arith) (omega arith)
 
-pub is-formed-spec : {M : Type 1} → statement M
-is-formed-spec =
+pub is_formed_spec : {M : Type 1} → statement M
+is_formed_spec =
     tie.close
     (tie.spec
     (λ c. search rules)

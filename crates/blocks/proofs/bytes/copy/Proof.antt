@@ -3,7 +3,7 @@
 use borrow.Author.Rules.{rules}
 use Prim.Native.Nat.{◌-◌}
 use lib.ListN.{length}
-use Rattle.blocks.specs.Laws.Loops.{Copied, none-copied, more-copied, all-copied}
+use Rattle.blocks.specs.Laws.Loops.{Copied, none_copied, more_copied, all_copied}
 use Rattle.blocks.proofs.bytes.copy.Statement.{statement}
 use Rattle.blocks.proofs.bytes.copy.Tie as tie
 
@@ -19,12 +19,12 @@ copy_spec =
     (tie.spec
     invariant-loop
     decreases-loop
-    (λ c. search (rules, none-copied))
+    (λ c. search (rules, none_copied))
     (λ c. search rules)
     (λ c. search rules)
     (λ c. search rules)
     (λ c. search rules)
     (λ c. search rules)
-    (λ c. search (rules, more-copied))
+    (λ c. search (rules, more_copied))
     (λ c. search rules)
-    (λ c. search (rules, all-copied)))
+    (λ c. search (rules, all_copied)))

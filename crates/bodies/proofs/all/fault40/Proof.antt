@@ -7,7 +7,7 @@ use mathlib.Core.List.{List}
 use Prim.Native.Nat.{ℕ, ◌-◌}
 use lib.ListN.{length}
 use Rattle.bodies.specs.Bodies.{BodiesView}
-use Rattle.bodies.specs.Laws.All.{Left, all_left, none_left, cell_room, here-view, one_less}
+use Rattle.bodies.specs.Laws.All.{Left, all_left, none_left, cell_room, here_view, one_less}
 use Rattle.bodies.proofs.all.fault40.Statement.{statement}
 use Rattle.bodies.proofs.all.fault40.Tie as tie
 
@@ -21,8 +21,8 @@ invariant-loop records values decls room₀ m key₀ k₀ room key k = Inv recor
 abbrev decreases-loop : tie.decreases-loop
 decreases-loop records values decls room₀ m key₀ k₀ room key k = m - k
 
-pub fault40-spec : {M : Type 1} → statement M
-fault40-spec =
+pub fault40_spec : {M : Type 1} → statement M
+fault40_spec =
     tie.close
     (tie.spec
     invariant-loop
@@ -30,7 +30,7 @@ fault40-spec =
     (λ c. record { long = refl; left = λ text v. all_left v })
     (λ c κs. cell_room c.before.before.before.before.before.before.requires.1 c.loop-test.true)
     (λ c. search rules)
-    (λ c κs. (_, here-view c.before.before.before.before.before.before.before.before.requires.1 c.before.before.loop-test.true c.before.before.before.loop.invariant.long c.before.get16.ensures))
+    (λ c κs. (_, here_view c.before.before.before.before.before.before.before.before.requires.1 c.before.before.loop-test.true c.before.before.before.loop.invariant.long c.before.get16.ensures))
     (λ c κs. search rules)
     (λ c. search rules)
     (λ c. search rules)

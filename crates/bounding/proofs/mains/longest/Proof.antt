@@ -4,8 +4,8 @@ use Rattle.bounding.specs.Laws.Mains.{to_fill}
 use Rattle.bounding.proofs.mains.longest.Statement.{statement}
 use Rattle.bounding.proofs.mains.longest.Tie as tie
 
-pub longest-spec : {M : Type 1} → statement M
-longest-spec =
+pub longest_spec : {M : Type 1} → statement M
+longest_spec =
     tie.close
     (tie.spec
     (λ c κs. search rules)

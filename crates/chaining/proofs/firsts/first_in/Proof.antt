@@ -3,7 +3,7 @@ use borrow.Author.Rules.{rules}
 use mathlib.Core.Path.{refl}
 use Prim.Native.Nat.{◌-◌}
 use Rattle.reading.specs.Laws.Reading.{kinded}
-use Rattle.chaining.specs.Laws.Firsts.{Choosing, chosen_none, choice-name, choices-fewer, chosen, choose-on}
+use Rattle.chaining.specs.Laws.Firsts.{Choosing, chosen_none, choice_name, choices_fewer, chosen, choose_on}
 use Rattle.chaining.proofs.firsts.first_in.Statement.{statement}
 use Rattle.chaining.proofs.firsts.first_in.Tie as tie
 
@@ -16,8 +16,8 @@ decreases-loop records decls m n from level all at₀ depth₀ mode₀ at depth 
 loop-holds : tie.Need-loop-init invariant-loop decreases-loop
 loop-holds c = record { shallow = search rules; counted = search rules; reading = search rules; left = λ v. refl }
 
-pub first-in-spec : {M : Type 1} → statement M
-first-in-spec =
+pub first_in_spec : {M : Type 1} → statement M
+first_in_spec =
     tie.close
     (tie.spec
     invariant-loop
@@ -25,8 +25,8 @@ first-in-spec =
     loop-holds
     (λ c κs. search (rules, kinded))
     (λ c. search (rules, chosen_none))
-    (λ c κs. search (rules, choice-name))
+    (λ c κs. search (rules, choice_name))
     (λ c κs. search rules)
     (λ c. search (rules, chosen))
-    (λ c. search (rules, choices-fewer))
-    (λ c. search (rules, choose-on)))
+    (λ c. search (rules, choices_fewer))
+    (λ c. search (rules, choose_on)))

@@ -1,7 +1,7 @@
 -- `chains::chains::next_level` meets its contract.
 use borrow.Author.Rules.{rules}
 use Prim.Native.Nat.{◌-◌}
-use Rattle.chains.specs.Laws.Chains.{Rising, none-rising, risen, rise}
+use Rattle.chains.specs.Laws.Chains.{Rising, none_rising, risen, rise}
 use Rattle.chains.proofs.chains.next_level.Statement.{statement}
 use Rattle.chains.proofs.chains.next_level.Tie as tie
 
@@ -11,14 +11,14 @@ invariant-loop records decls m n level all set₀ k₀ set k = Rising records de
 abbrev decreases-loop : tie.decreases-loop
 decreases-loop records decls m n level all set₀ k₀ set k = m - k
 
-pub next-level-spec : {M : Type 1} → statement M
-next-level-spec =
+pub next_level_spec : {M : Type 1} → statement M
+next_level_spec =
     tie.close
     (tie.spec
     invariant-loop
     decreases-loop
     (λ c κs. search rules)
-    (λ c. search (rules, none-rising))
+    (λ c. search (rules, none_rising))
     (λ c. search rules)
     (λ c κs. search rules)
     (λ c κs. search rules)

@@ -1,7 +1,7 @@
 -- `chains::chains::over_longest` meets its contract.
 use borrow.Author.Rules.{rules}
 use Prim.Native.Nat.{◌-◌}
-use Rattle.chains.specs.Laws.Least.{Climbing, first-level, climb, nothing_above, at_top}
+use Rattle.chains.specs.Laws.Least.{Climbing, first_level, climb, nothing_above, at_top}
 use Rattle.chains.proofs.chains.over_longest.Statement.{statement}
 use Rattle.chains.proofs.chains.over_longest.Tie as tie
 
@@ -11,15 +11,15 @@ invariant-loop records decls m n level₀ k₀ level k = Climbing records decls 
 abbrev decreases-loop : tie.decreases-loop
 decreases-loop records decls m n level₀ k₀ level k = 16 - k
 
-pub over-longest-spec : {M : Type 1} → statement M
-over-longest-spec =
+pub over_longest_spec : {M : Type 1} → statement M
+over_longest_spec =
     tie.close
     (tie.spec
     invariant-loop
     decreases-loop
     (λ c κs. search rules)
     (λ c κs. search rules)
-    (λ c. first-level _ _ c.before.before.before.before.requires c.next_level.ensures)
+    (λ c. first_level _ _ c.before.before.before.before.requires c.next_level.ensures)
     (λ c κs. search rules)
     (λ c. search (rules, nothing_above))
     (λ c κs. search rules)

@@ -1,7 +1,7 @@
 -- `chains::mains::main_key` meets its contract.
 use borrow.Author.Rules.{rules}
 use Prim.Native.Nat.{◌-◌}
-use Rattle.chains.specs.Laws.Mains.{Seeing, none_seen, see-more, all_seen}
+use Rattle.chains.specs.Laws.Mains.{Seeing, none_seen, see_more, all_seen}
 use Rattle.chains.proofs.mains.main_key.Statement.{statement}
 use Rattle.chains.proofs.mains.main_key.Tie as tie
 
@@ -11,8 +11,8 @@ invariant-loop records decls m n key₀ seen₀ k₀ key seen k = Seeing records
 abbrev decreases-loop : tie.decreases-loop
 decreases-loop records decls m n key₀ seen₀ k₀ key seen k = m - k
 
-pub main-key-spec : {M : Type 1} → statement M
-main-key-spec =
+pub main_key_spec : {M : Type 1} → statement M
+main_key_spec =
     tie.close
     (tie.spec
     invariant-loop
@@ -24,7 +24,7 @@ main-key-spec =
     (λ c κs. search rules)
     (λ c. search rules)
     (λ c. search rules)
-    (λ c. search (rules, see-more))
+    (λ c. search (rules, see_more))
     (λ c κs. search rules)
     (λ c κs. search rules)
     (λ c. search (rules, all_seen)))

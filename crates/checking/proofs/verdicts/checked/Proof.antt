@@ -5,8 +5,8 @@ use Rattle.checking.specs.Laws.Checked.{near, told}
 use Rattle.checking.proofs.verdicts.checked.Statement.{statement}
 use Rattle.checking.proofs.verdicts.checked.Tie as tie
 
-pub checked-spec : {M : Type 1} → statement M
-checked-spec =
+pub checked_spec : {M : Type 1} → statement M
+checked_spec =
     tie.close
     (tie.spec
     (λ c. search rules)

@@ -5,13 +5,13 @@ use mathlib.Core.Path.{◌≡◌}
 use mathlib.Core.List.{List}
 use Prim.Native.Nat.{ℕ, ◌<◌}
 use lib.ListN.{get_or}
-use Rattle.rules.specs.Text.Bytes.{classNo, classOf}
+use Rattle.rules.specs.Text.Bytes.{class_no, class_of}
 use Rattle.classes.specs.Classes.{Classed}
 use Rattle.classes.proofs.classes.class_of.Statement.{statement}
 use Rattle.classes.proofs.classes.class_of.Tie as tie
 
-found : {l : List ℕ} (b : ℕ) → Classed l → b < 256 → get_or l b 0 ≡ classNo (classOf b)
+found : {l : List ℕ} (b : ℕ) → Classed l → b < 256 → get_or l b 0 ≡ class_no (class_of b)
 found b rule h = rule.each b h
 
-pub class-of-spec : {M : Type 1} → statement M
-class-of-spec = tie.close (tie.spec (λ c. search rules) (λ c. search (rules, found)))
+pub class_of_spec : {M : Type 1} → statement M
+class_of_spec = tie.close (tie.spec (λ c. search rules) (λ c. search (rules, found)))

@@ -7,9 +7,9 @@ use mathlib.Core.Path.{◌≡◌}
 use mathlib.Core.Bool.{false}
 use Prim.Native.Nat.{ℕ, ◌/◌, ◌%◌, ◌^◌}
 use lib.Dec.{eqb}
-use Rattle.rules.specs.Text.Bytes.{classNo, classOf}
+use Rattle.rules.specs.Text.Bytes.{class_no, class_of}
 use Rattle.classes.specs.Classes.{among}
-use Rattle.classes.specs.Laws.Runs.{class-small}
+use Rattle.classes.specs.Laws.Runs.{class_small}
 use Rattle.classes.proofs.classes.goes_on.Statement.{statement}
 use Rattle.classes.proofs.classes.goes_on.Tie as tie
 
@@ -17,16 +17,16 @@ newline : (set b : ℕ) → b ≡ 10 → false ≡ among set b
 unfolding among
 newline set b e = rw e
 
-tested : (set b n : ℕ) → (b ≡ 10 → ⊥) → n ≡ classNo (classOf b) → eqb (set / 2 ^ n % 2) 1 ≡ among set b
+tested : (set b n : ℕ) → (b ≡ 10 → ⊥) → n ≡ class_no (class_of b) → eqb (set / 2 ^ n % 2) 1 ≡ among set b
 unfolding among
 tested set b n ne e = rw (ne_eqb _ _ ne, e)
 
-pub goes-on-spec : {M : Type 1} → statement M
-goes-on-spec =
+pub goes_on_spec : {M : Type 1} → statement M
+goes_on_spec =
     tie.close
     (tie.spec
     (λ c. search (rules, newline))
     (λ c κs. search rules)
     (λ c. search rules)
-    (λ c. omega (arith, c.class_of.ensures, class-small (classOf c.before.before.args.b)))
+    (λ c. omega (arith, c.class_of.ensures, class_small (class_of c.before.before.args.b)))
     (λ c. search (rules, tested)))

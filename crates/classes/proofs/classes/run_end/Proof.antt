@@ -9,7 +9,7 @@ use Prim.Native.Nat.{ℕ, ◌+◌, ◌-◌, ◌<◌, ◌≤◌}
 use lib.ListN.{length, get_or, drop}
 use Rattle.rules.specs.Text.Bytes.{leading}
 use Rattle.classes.specs.Classes.{among, RunEnds}
-use Rattle.classes.specs.Laws.Runs.{run_step, run-stop, run-over}
+use Rattle.classes.specs.Laws.Runs.{run_step, run_stop, run_over}
 use Rattle.classes.proofs.classes.run_end.Statement.{statement}
 use Rattle.classes.proofs.classes.run_end.Tie as tie
 
@@ -20,7 +20,7 @@ record Inv (text : List ℕ) (from set i : ℕ) : Type 0 where
 module _ {text : List ℕ} {from set i : ℕ} (inv : Inv text from set i) where
   stopped : {r : Bool} → i < length text → r ≡ among set (get_or text i 0) → r ≡ false → RunEnds set text from i
   stopped h e f = record {
-    ends = omega (arith, inv.left, ap length (run-stop (among set) text i h (cc)));
+    ends = omega (arith, inv.left, ap length (run_stop (among set) text i h (cc)));
     within = inv.within;
   }
 
@@ -31,7 +31,7 @@ module _ {text : List ℕ} {from set i : ℕ} (inv : Inv text from set i) where
   }
 
   ended : length text ≤ i → RunEnds set text from i
-  ended h = record { ends = omega (arith, inv.left, ap length (run-over (among set) text i h)); within = inv.within }
+  ended h = record { ends = omega (arith, inv.left, ap length (run_over (among set) text i h)); within = inv.within }
 
 abbrev invariant-loop : tie.invariant-loop
 invariant-loop text classes from set i₀ i = Inv text from set i
@@ -39,8 +39,8 @@ invariant-loop text classes from set i₀ i = Inv text from set i
 abbrev decreases-loop : tie.decreases-loop
 decreases-loop text classes from set i₀ i = length text - i
 
-pub run-end-spec : {M : Type 1} → statement M
-run-end-spec =
+pub run_end_spec : {M : Type 1} → statement M
+run_end_spec =
     tie.close
     (tie.spec
     invariant-loop

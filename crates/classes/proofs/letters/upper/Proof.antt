@@ -20,6 +20,6 @@ lower : (b : ℕ) → 97 ≤ b → b ≤ 122 → b - 32 ≡ fold b
 unfolding fold
 lower b l h = rw (le-leb 97 b l, le-leb b 122 h, fold)
 
-pub upper-spec : {M : Type 1} → statement M
-upper-spec =
+pub upper_spec : {M : Type 1} → statement M
+upper_spec =
     tie.close (tie.spec (λ c. search (rules, below)) (λ c. search (rules, above)) (λ c. search rules) (λ c. search (rules, lower)))

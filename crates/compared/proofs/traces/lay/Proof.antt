@@ -10,8 +10,8 @@ returns c =
     let p = c.before.before.before.before.before.before.before.before.before.before.before.requires in
     laid _ _ _ _ _ _ p.1.0 p.1.1 c.before.before.before.before.before.before.copy.ensures (search rules) c.before.before.mark.ensures
 
-pub lay-spec : {M : Type 1} → statement M
-lay-spec =
+pub lay_spec : {M : Type 1} → statement M
+lay_spec =
     tie.close
     (tie.spec
     (λ c κs. search rules)

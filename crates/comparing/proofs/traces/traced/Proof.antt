@@ -2,31 +2,31 @@
 -- Assumes nothing.
 use native.Mathlib.Omega.{arith}
 use borrow.Author.Rules.{rules}
-use Rattle.reader.specs.Laws.Cases.{refuses-by, accepts-by}
-use Rattle.comparing.specs.Laws.Traced.{refused-text}
+use Rattle.reader.specs.Laws.Cases.{refuses_by, accepts_by}
+use Rattle.comparing.specs.Laws.Traced.{refused_text}
 use Rattle.comparing.proofs.traces.traced.Statement.{statement}
 use Rattle.comparing.proofs.traces.traced.Tie as tie
 
-refusal-requires : tie.Need-refusal-requires
-refusal-requires c κs = omega (arith, (refuses-by c.before.before.before.before.before.before.before.before.before.before.check.ensures c.before.number.given.1).near)
+refusal_requires : tie.Need-refusal-requires
+refusal_requires c κs = omega (arith, (refuses_by c.before.before.before.before.before.before.before.before.before.before.check.ensures c.before.number.given.1).near)
 
-compare-accepted-requires : tie.Need-compare-accepted-requires
-compare-accepted-requires c κs = (accepts-by c.before.before.before.before.before.before.before.before.before.before.before.before.before.before.before.check.ensures c.before.before.before.before.before.before.m.given.1, search rules)
+compare_accepted_requires : tie.Need-compare-accepted-requires
+compare_accepted_requires c κs = (accepts_by c.before.before.before.before.before.before.before.before.before.before.before.before.before.before.before.check.ensures c.before.before.before.before.before.before.m.given.1, search rules)
 
 returns : tie.Need-returns
-returns c = refused-text (refuses-by c.before.before.before.before.before.before.before.before.before.before.before.check.ensures c.before.before.number.given.1) c.refusal.ensures
+returns c = refused_text (refuses_by c.before.before.before.before.before.before.before.before.before.before.before.check.ensures c.before.before.number.given.1) c.refusal.ensures
 
-pub traced-spec : {M : Type 1} → statement M
-traced-spec =
+pub traced_spec : {M : Type 1} → statement M
+traced_spec =
     tie.close
     (tie.spec
     (λ c. search rules)
     (λ c κs. search rules)
     (λ c. search rules)
-    refusal-requires
+    refusal_requires
     (λ c. search rules)
     (λ c. search rules)
-    compare-accepted-requires
+    compare_accepted_requires
     (λ c. search rules)
     (λ c. search rules)
     (λ c. search rules)

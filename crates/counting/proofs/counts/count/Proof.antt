@@ -1,6 +1,6 @@
 -- `counting::counts::count` meets its contract.
 use borrow.Author.Rules.{rules}
-use Rattle.counting.specs.Laws.Holding.{count-shown}
+use Rattle.counting.specs.Laws.Holding.{count_shown}
 use Rattle.counting.proofs.counts.count.Statement.{statement}
 use Rattle.counting.proofs.counts.count.Tie as tie
 
@@ -9,4 +9,4 @@ count_spec =
     tie.close
     (tie.spec
     (λ c κs. search rules)
-    (λ c. search (rules, count-shown)))
+    (λ c. search (rules, count_shown)))

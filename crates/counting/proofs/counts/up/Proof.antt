@@ -4,9 +4,9 @@ use Rattle.bounds.specs.Cited.Counts.{up}
 use Rattle.counting.proofs.counts.up.Statement.{statement}
 use Rattle.counting.proofs.counts.up.Tie as tie
 
-pub up-spec : {M : Type 1} → statement M
+pub up_spec : {M : Type 1} → statement M
 unfolding up
-up-spec =
+up_spec =
     tie.close
     (tie.spec
     (λ c. search rules)

@@ -1,6 +1,6 @@
 -- `counting::frames::close` meets its contract.
 use borrow.Author.Rules.{rules}
-use Rattle.counting.specs.Laws.Holding.{close-none, close-shown}
+use Rattle.counting.specs.Laws.Holding.{close_none, close_shown}
 use Rattle.counting.proofs.frames.close.Statement.{statement}
 use Rattle.counting.proofs.frames.close.Tie as tie
 
@@ -8,10 +8,10 @@ pub close_spec : {M : Type 1} → statement M
 close_spec =
     tie.close
     (tie.spec
-    (λ c. search (rules, close-none))
+    (λ c. search (rules, close_none))
     (λ c. search rules)
     (λ c. search rules)
     (λ c κs. search rules)
     (λ c. search rules)
     (λ c κs. search rules)
-    (λ c. search (rules, close-shown)))
+    (λ c. search (rules, close_shown)))

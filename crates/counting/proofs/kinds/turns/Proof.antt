@@ -7,9 +7,9 @@ use Rattle.table.specs.Laws.Scans.{missing}
 use Rattle.counting.proofs.kinds.turns.Statement.{statement}
 use Rattle.counting.proofs.kinds.turns.Tie as tie
 
-pub turns-spec : {M : Type 1} → statement M
+pub turns_spec : {M : Type 1} → statement M
 unfolding turns member
-turns-spec =
+turns_spec =
     tie.close
     (tie.spec
     (λ c. sym (ap turns c.match.keys1))

@@ -1,28 +1,28 @@
 -- `declare::faults::bad_mapping` meets its contract: the declaration that the target means is judged.
 -- Assumes nothing.
 use borrow.Author.Rules.{rules}
-use Rattle.declare.proofs.Choosing.{chosen-room, chosen-view}
-use Rattle.declare.proofs.Targets.{no-mapping, target-and-outer, target-record, outer-target, unknown-target, target_room, both-views, judged-target}
+use Rattle.declare.proofs.Choosing.{chosen_room, chosen_view}
+use Rattle.declare.proofs.Targets.{no_mapping, target_and_outer, target_record, outer_target, unknown_target, target_room, both_views, judged_target}
 use Rattle.declare.proofs.faults.bad_mapping.Statement.{statement}
 use Rattle.declare.proofs.faults.bad_mapping.Tie as tie
 
-pub bad-mapping-spec : {M : Type 1} → statement M
-bad-mapping-spec =
+pub bad_mapping_spec : {M : Type 1} → statement M
+bad_mapping_spec =
     tie.close
     (tie.spec
-    (λ c κs. search (rules, chosen-room))
+    (λ c κs. search (rules, chosen_room))
     (λ c. search rules)
-    (λ c κs. (_, chosen-view c.before.before.before.before.before.requires c.get16.ensures))
-    (λ c. search (rules, no-mapping))
-    (λ c κs. search (rules, target-and-outer))
+    (λ c κs. (_, chosen_view c.before.before.before.before.before.requires c.get16.ensures))
+    (λ c. search (rules, no_mapping))
+    (λ c κs. search (rules, target_and_outer))
     (λ c.
     let t = c.before.before.before in
-    outer-target _ _ _ _ _ _ t.before.get16.ensures t.target-of.ensures c.before.before.if1.false c.before.same_word.ensures
+    outer_target _ _ _ _ _ _ t.before.get16.ensures t.target-of.ensures c.before.before.if1.false c.before.same_word.ensures
     c.if2.true)
-    (λ c κs. search (rules, target-record))
+    (λ c κs. search (rules, target_record))
     (λ c.
     let t = c.before.before.before in
-    unknown-target _ _ _ _ _ _ t.before.before.before.get16.ensures t.before.before.target-of.ensures t.before.if1.false
+    unknown_target _ _ _ _ _ _ t.before.before.before.get16.ensures t.before.before.target-of.ensures t.before.if1.false
     t.same_word.ensures c.before.inside-at.ensures c.before.before.if2.false c.if3.true)
     (λ c κs.
     let t = c.before.before.before in
@@ -31,11 +31,11 @@ bad-mapping-spec =
     (λ c. search rules)
     (λ c κs.
     let t = c.before.before.before.before in
-    both-views _ _ _ _ _ _ t.before.before.before.get16.ensures t.before.before.target-of.ensures t.before.if1.false t.same_word.ensures
+    both_views _ _ _ _ _ _ t.before.before.before.get16.ensures t.before.before.target-of.ensures t.before.if1.false t.same_word.ensures
     c.before.before.inside-at.ensures c.before.before.before.if2.false c.before.if3.false c.get162.ensures
     t.before.before.before.before.before.before.before.before.requires)
     (λ c.
     let t = c.before.before.before in
-    judged-target _ _ _ _ _ _ t.before.before.before.before.before.get16.ensures t.before.before.before.before.target-of.ensures
+    judged_target _ _ _ _ _ _ t.before.before.before.before.before.get16.ensures t.before.before.before.before.target-of.ensures
     t.before.before.before.if1.false t.before.before.same_word.ensures t.inside-at.ensures t.before.if2.false
     c.before.before.if3.false c.before.get162.ensures c.good-target.ensures))

@@ -5,8 +5,8 @@ use Rattle.declare.proofs.Depth.{held, ended, goes_on}
 use Rattle.declare.proofs.finding.ends_here.Statement.{statement}
 use Rattle.declare.proofs.finding.ends_here.Tie as tie
 
-pub ends-here-spec : {M : Type 1} → statement M
-ends-here-spec =
+pub ends_here_spec : {M : Type 1} → statement M
+ends_here_spec =
     tie.close
     (tie.spec
     (λ c. search (rules, held))

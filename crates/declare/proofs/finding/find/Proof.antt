@@ -4,7 +4,7 @@ use borrow.Author.Rules.{rules}
 use native.Mathlib.Omega.{arith}
 use Prim.Native.Nat.{◌+◌, ◌-◌}
 use lib.ListN.{length}
-use Rattle.declare.proofs.Gathering.{Turn, Placed, Gathered, nothing-gathered, beginning, naming, turn, end-turn, gathered-all, gathered-more}
+use Rattle.declare.proofs.Gathering.{Turn, Placed, Gathered, nothing_gathered, beginning, naming, turn, end_turn, gathered_all, gathered_more}
 use Rattle.declare.proofs.finding.find.Statement.{statement}
 use Rattle.declare.proofs.finding.find.Tie as tie
 
@@ -26,7 +26,7 @@ ended : (c : tie.After-end-of invariant-loop decreases-loop) →
 ended c =
     let t = c.before.before.before.before.before in
     let s = t.before.before.before.before in
-    end-turn s.requires.1 t.before.loop.invariant t.name-from.ensures c.end-of.ensures s.requires.0
+    end_turn s.requires.1 t.before.loop.invariant t.name-from.ensures c.end-of.ensures s.requires.0
 
 pub find_spec : {M : Type 1} → statement M
 find_spec =
@@ -34,7 +34,7 @@ find_spec =
     (tie.spec
     invariant-loop
     decreases-loop
-    (λ c. nothing-gathered)
+    (λ c. nothing_gathered)
     (λ c κs. search (rules, beginning))
     (λ c. omega (arith, named c.before))
     (λ c κs. omega (arith, named c.before))
@@ -42,7 +42,7 @@ find_spec =
     (λ c κs. search (rules, naming))
     (λ c κs. omega (arith, ended c))
     (λ c. search rules)
-    (λ c. search (rules, gathered-all))
+    (λ c. search (rules, gathered_all))
     (λ c. omega (arith, ended c.before.before))
     (λ c. omega (arith, named c.before.before.before.before.before.before.before, ended c.before.before))
-    (λ c. search (rules, gathered-more)))
+    (λ c. search (rules, gathered_more)))

@@ -6,9 +6,9 @@ use Rattle.destinations.specs.Carriers.{holds}
 use Rattle.destinations.proofs.carriers.has.Statement.{statement}
 use Rattle.destinations.proofs.carriers.has.Tie as tie
 
-pub has-spec : {M : Type 1} → statement M
+pub has_spec : {M : Type 1} → statement M
 unfolding holds
-has-spec =
+has_spec =
     tie.close
     (tie.spec
     (λ c. search rules)

@@ -19,8 +19,8 @@ unfolding added
 bit_kept w i =
     ap (λ x. set w (i / 64) (bit_or (get_or w (i / 64) 0) x)) (shl_exact {a = 1} 1 (i % 64) 64 (omega arith) (omega arith) ∙ one-mul (2 ^ (i % 64)))
 
-pub with-spec : {M : Type 1} → statement M
-with-spec =
+pub with_spec : {M : Type 1} → statement M
+with_spec =
     tie.close
     (tie.spec
     (λ c. search rules)

@@ -10,86 +10,86 @@ use Prim.Native.Nat.{ℕ, ◌+◌, ◌*◌, ◌<◌, ◌≤◌}
 use lib.ListN.{length}
 use Rattle.cells.specs.Cells.{cell}
 use Rattle.rules.specs.Grammar.Trees.{Tokens}
-use Rattle.rules.specs.Declarations.{Target, declaredOf}
-use Rattle.table.specs.Meaning.{outerOnly}
-use Rattle.table.specs.Laws.Positions.{record-within}
+use Rattle.rules.specs.Declarations.{Target, declared_of}
+use Rattle.table.specs.Meaning.{outer_only}
+use Rattle.table.specs.Laws.Positions.{record_within}
 use Rattle.table.specs.Views.{View, TargetStands, TargetAt}
-use Rattle.table.specs.Shown.{shownBits}
+use Rattle.table.specs.Shown.{shown_bits}
 use Rattle.table.specs.declared.views.Names.{Names}
 use Rattle.destinations.specs.declared.owners.Storage.TheVariants.{Carrier, Nothing}
 use Rattle.accesses.specs.Laws.Lookups.{view_of, numbered}
-use Rattle.accesses.specs.Names.{isMissing}
-use Rattle.accesses.specs.Laws.Names.{missing-bits, present-bits}
+use Rattle.accesses.specs.Names.{is_missing}
+use Rattle.accesses.specs.Laws.Names.{missing_bits, present_bits}
 use Rattle.destinations.specs.Owners.{NameHere, Owns}
-use Rattle.destinations.specs.Laws.Owners.{owner-none, owner-found, owner-bitless, owner-own, owner-storage, owner-under}
+use Rattle.destinations.specs.Laws.Owners.{owner_none, owner_found, owner_bitless, owner_own, owner_storage, owner_under}
 use Rattle.destinations.proofs.owners.owner.Statement.{statement}
 use Rattle.destinations.proofs.owners.owner.Tie as tie
-use Rattle.records.specs.Holds.{insideCell}
+use Rattle.records.specs.Holds.{inside_cell}
 
 no_target : (ts : Tokens) (r : ℕ) (g : Option Target) → TargetAt ts r g → r ≡ 0 → g ≡ none
 no_target ts r none a z = refl
 no_target ts r (some t) a z = absurd (let p = a.past in omega arith)
 
-a-target : (ts : Tokens) (r : ℕ) (g : Option Target) → TargetAt ts r g → (r ≡ 0 → ⊥) → (t : Target) × (g ≡ some t) × TargetStands ts r t
-a-target ts r none a n = absurd (n a)
-a-target ts r (some t) a n = (t, refl, a)
+a_target : (ts : Tokens) (r : ℕ) (g : Option Target) → TargetAt ts r g → (r ≡ 0 → ⊥) → (t : Target) × (g ≡ some t) × TargetStands ts r t
+a_target ts r none a n = absurd (n a)
+a_target ts r (some t) a n = (t, refl, a)
 
 module _ {records values decls : List ℕ} {i : ℕ} where
-  undeclared : (k : ℕ) → k ≡ insideCell records i → outerOnly ≤ k → (v : NameHere records values decls i) → Owns v Nothing
-  undeclared k e h v = record { are = owner-none v (rw e at h); small = tt }
+  undeclared : (k : ℕ) → k ≡ inside_cell records i → outer_only ≤ k → (v : NameHere records values decls i) → Owns v Nothing
+  undeclared k e h v = record { are = owner_none v (rw e at h); small = tt }
 
-  module _ {k : ℕ} (e : k ≡ insideCell records i) (h : k < outerOnly) where
+  module _ {k : ℕ} (e : k ≡ inside_cell records i) (h : k < outer_only) where
     cell_room : NameHere records values decls i → 2 * k + 2 ≤ length decls
-    cell_room v = (owner-found v e h).room
+    cell_room v = (owner_found v e h).room
 
     small : NameHere records values decls i → k < 256
-    small v = (owner-found v e h).small
+    small v = (owner_found v e h).small
 
     module _ {d : ℕ} (ed : d ≡ cell 2 decls k) where
       abbrev view : NameHere records values decls i → View records values d
-      view v = view_of v.scene ed (owner-found v e h)
+      view v = view_of v.scene ed (owner_found v e h)
 
-      some-view : NameHere records values decls i → (values : List ℕ) × View records values d
-      some-view v = (values, view v)
+      some_view : NameHere records values decls i → (values : List ℕ) × View records values d
+      some_view v = (values, view v)
 
-      module _ {r : ℕ} (f : (values : List ℕ) (u : View records values d) → TargetAt u.tokens r (declaredOf u.declaration).target) where
+      module _ {r : ℕ} (f : (values : List ℕ) (u : View records values d) → TargetAt u.tokens r (declared_of u.declaration).target) where
         module _ (nz : r ≡ 0 → ⊥) where
           target : (v : NameHere records values decls i)
-              → (t : Target) × ((declaredOf (owner-found v e h).declaration).target ≡ some t) × TargetStands v.scene.tokens r t
-          target v = a-target v.scene.tokens r (declaredOf (owner-found v e h).declaration).target (f values (view v)) nz
+              → (t : Target) × ((declared_of (owner_found v e h).declaration).target ≡ some t) × TargetStands v.scene.tokens r t
+          target v = a_target v.scene.tokens r (declared_of (owner_found v e h).declaration).target (f values (view v)) nz
 
           target_room : NameHere records values decls i → 8 * r + 8 ≤ length records
-          target_room v = record-within v.scene.ready.holds r (target v).2.within
+          target_room v = record_within v.scene.ready.holds r (target v).2.within
 
-          module _ {n : ℕ} (en : n ≡ insideCell records r) where
-            under : (v : NameHere records values decls i) → (n ≡ (owner-storage v e h (target v).1).number) × (n < 256)
+          module _ {n : ℕ} (en : n ≡ inside_cell records r) where
+            under : (v : NameHere records values decls i) → (n ≡ (owner_storage v e h (target v).1).number) × (n < 256)
             under v =
                 let t = target v in
-                let s = owner-storage v e h t.1 in
+                let s = owner_storage v e h t.1 in
                 let q = numbered v.scene r t.0.name t.2.within t.2.name s.number s.numbers in
                 (en ∙ q.0, (let l = q.1 in let m = q.0 in omega arith))
 
-            under-small : NameHere records values decls i → n < 256
-            under-small v = (under v).1
+            under_small : NameHere records values decls i → n < 256
+            under_small v = (under v).1
 
             mapping : (v : NameHere records values decls i) → Owns v (Carrier n)
-            mapping v = record { are = ap (λ x. x ∷ []) (under v).0 ∙ owner-under v e h (target v).1; small = (under v).1 }
+            mapping v = record { are = ap (λ x. x ∷ []) (under v).0 ∙ owner_under v e h (target v).1; small = (under v).1 }
 
-        module _ (z : r ≡ 0) {own : Names} (eo : (u : View records values d) → own ≡ shownBits (declaredOf u.declaration).bits) {m : Bool} (em : m ≡ isMissing own) where
-          untargeted : (v : NameHere records values decls i) → (declaredOf (owner-found v e h).declaration).target ≡ none
-          untargeted v = no_target v.scene.tokens r (declaredOf (owner-found v e h).declaration).target (f values (view v)) z
+        module _ (z : r ≡ 0) {own : Names} (eo : (u : View records values d) → own ≡ shown_bits (declared_of u.declaration).bits) {m : Bool} (em : m ≡ is_missing own) where
+          untargeted : (v : NameHere records values decls i) → (declared_of (owner_found v e h).declaration).target ≡ none
+          untargeted v = no_target v.scene.tokens r (declared_of (owner_found v e h).declaration).target (f values (view v)) z
 
-          missing : (v : NameHere records values decls i) → m ≡ isMissing (shownBits (declaredOf (owner-found v e h).declaration).bits)
-          missing v = em ∙ ap isMissing (eo (view v))
+          missing : (v : NameHere records values decls i) → m ≡ is_missing (shown_bits (declared_of (owner_found v e h).declaration).bits)
+          missing v = em ∙ ap is_missing (eo (view v))
 
           bitless : m ≡ true → (v : NameHere records values decls i) → Owns v Nothing
-          bitless t v = record { are = owner-bitless v e h (untargeted v) (missing-bits _ (sym (missing v) ∙ t)); small = tt }
+          bitless t v = record { are = owner_bitless v e h (untargeted v) (missing_bits _ (sym (missing v) ∙ t)); small = tt }
 
           storage : m ≡ false → (v : NameHere records values decls i) → Owns v (Carrier k)
-          storage t v = let b = present-bits _ (sym (missing v) ∙ t) in record { are = owner-own v e h (untargeted v) b.0 b.1; small = small v }
+          storage t v = let b = present_bits _ (sym (missing v) ∙ t) in record { are = owner_own v e h (untargeted v) b.0 b.1; small = small v }
 
-pub owner-spec : {M : Type 1} → statement M
-owner-spec =
+pub owner_spec : {M : Type 1} → statement M
+owner_spec =
     tie.close
     (tie.spec
     (λ c κs. search rules)
@@ -97,9 +97,9 @@ owner-spec =
     (λ c. search rules)
     (λ c κs. search (rules, cell_room))
     (λ c. search rules)
-    (λ c κs. some-view c.before.before.inside16-at.ensures c.before.if1.false c.get16.ensures c.before.before.before.before.before.before.requires)
+    (λ c κs. some_view c.before.before.inside16-at.ensures c.before.if1.false c.get16.ensures c.before.before.before.before.before.before.requires)
     (λ c κs. target_room c.before.before.before.before.inside16-at.ensures c.before.before.before.if1.false c.before.before.get16.ensures c.before.target-of.ensures c.if2.true c.before.before.before.before.before.before.before.before.requires)
-    (λ c. record { fits = omega (arith, under-small c.before.before.before.before.before.inside16-at.ensures c.before.before.before.before.if1.false c.before.before.before.get16.ensures c.before.before.target-of.ensures c.before.if2.true c.inside16-at2.ensures c.before.before.before.before.before.before.before.before.before.requires) })
+    (λ c. record { fits = omega (arith, under_small c.before.before.before.before.before.inside16-at.ensures c.before.before.before.before.if1.false c.before.before.before.get16.ensures c.before.before.target-of.ensures c.before.if2.true c.inside16-at2.ensures c.before.before.before.before.before.before.before.before.before.requires) })
     (λ c. mapping c.before.before.before.before.before.inside16-at.ensures c.before.before.before.before.if1.false c.before.before.before.get16.ensures c.before.before.target-of.ensures c.before.if2.true c.inside16-at2.ensures)
     (λ c κs. view c.before.before.before.before.inside16-at.ensures c.before.before.before.if1.false c.before.before.get16.ensures c.before.before.before.before.before.before.before.before.requires)
     (λ c κs. search rules)

@@ -40,13 +40,13 @@ use denote.Exit.{yes}
 use Rattle.listed.specs.declared.entries.Entry.{Entry}
 use Rattle.listed.specs.contracts.entries.Entry as T
 use Rattle.listed.proofs.entries.Entry.TheLaws as T'
-use Rattle.entries.specs.Named.{noEntry}
+use Rattle.entries.specs.Named.{no_entry}
 use Rattle.entries.specs.contracts.named.named_at.Key.{name as #entries·named-at}
-use Rattle.entries.specs.contracts.named.named_at as namedOne
+use Rattle.entries.specs.contracts.named.named_at as named_one
 use Rattle.entries.proofs.named.named_at.Statement as stated
 use Rattle.entries.proofs.named.named_at.Code as code
 
-abbrev stayed : Stays (namedOne.ended).signature.params (namedOne.ended).kept
+abbrev stayed : Stays (named_one.ended).signature.params (named_one.ended).kept
 stayed = (stay_none_slice (0 ∷ []) tt (plain (λ _. T.the_row)) yes, (stay_none (λ _. usize) yes, tt))
 
 reckoned : (n i : ℕ) → n * 16 < 2 ^ 63 → i < n → i * 16 < 2 ^ 64
@@ -59,7 +59,7 @@ module _ {M : Type 1} {𝓤 : Ura M} (𝓛 : Logic 𝓤) (mem : Memory → SProp
   x = (record { ref_ptr = (b, o); now = ys }, (i, tt))
 
   abbrev elem : Entry
-  elem = get_or ys i noEntry
+  elem = get_or ys i no_entry
 
   abbrev vals : List Val
   vals = LL.vals T.the_type T'.the_laws elem
@@ -67,11 +67,11 @@ module _ {M : Type 1} {𝓤 : Ura M} (𝓛 : Logic 𝓤) (mem : Memory → SProp
   abbrev mach : Val
   mach = denote.Steps.only vals
 
-  abbrev at : Vals namedOne.signature (κ, tt)
+  abbrev at : Vals named_one.signature (κ, tt)
   at = (slice_val (b, o) (length ys) ∷ [], (vint w64 i ∷ [], tt))
 
   abbrev Post : Val → SProp 𝓤
-  Post = (walk_of 𝓛 namedOne.ended stayed (namedOne.clauses 𝓛 mem run)).post (((κ, tt), (q, tt), tt, x, at), tt)
+  Post = (walk_of 𝓛 named_one.ended stayed (named_one.clauses 𝓛 mem run)).post (((κ, tt), (q, tt), tt, x, at), tt)
 
   abbrev Own : Fml
   Own = (T.the_row).own_val elem vals
@@ -79,11 +79,11 @@ module _ {M : Type 1} {𝓤 : Ura M} (𝓛 : Logic 𝓤) (mem : Memory → SProp
   exits : ent 𝓤 (⋆ 𝓛 (‵ (flft κ q) ∷ ‵ ((ShrSlice (named 0) κ T.the_row).own_val x.0 at.0) ∷ ‵ (usize.own_val i (vint w64 i ∷ [])) ∷ ‵ Own ∷ [])) (Post mach)
   exits =
       qed 𝓛 (‵ (flft κ q) ∷ ‵ ((ShrSlice (named 0) κ T.the_row).own_val x.0 at.0) ∷ ‵ (usize.own_val i (vint w64 i ∷ [])) ∷ ‵ Own ∷ []) ∵
-      suffices ! _ (ends_at 𝓛 namedOne.ended stayed (namedOne.clauses 𝓛 mem run) (((κ, tt), (q, tt), tt, x, at), tt) mach elem (tt, (tt, tt)) (tt, (tt, tt))) $ says ! refl $
+      suffices ! _ (ends_at 𝓛 named_one.ended stayed (named_one.clauses 𝓛 mem run) (((κ, tt), (q, tt), tt, x, at), tt) mach elem (tt, (tt, tt)) (tt, (tt, tt))) $ says ! refl $
       nothing ! $ move ! (1 ∷ 0 ∷ []) $ join ! $ nothing ! $ move ! (3 ∷ 0 ∷ []) $ fjoin ! $ move ! (2 ∷ 0 ∷ []) $ fjoin ! $ move ! (1 ∷ 0 ∷ []) $ frame ! $ frame ! $ done !
 
   module _ (C : Calls 𝓤 H) (Λ : Loops 𝓤 H) where
-    walk : Room T.the_row (length ys) → i < 2 ^ 64 → i < length ys → ent 𝓤 (on_entry 𝓛 namedOne.signature (κ, tt) (q, tt) x at)
+    walk : Room T.the_row (length ys) → i < 2 ^ 64 → i < length ys → ent 𝓤 (on_entry 𝓛 named_one.signature (κ, tt) (q, tt) x at)
         (WpFn 𝓤 H C Λ code.function (slice_val (b, o) (length ys) ∷ vint w64 i ∷ []) Post)
     walk room gi l =
         qed 𝓛 ((‵ (flft κ q) ⊛ ‵ ftrue) ∷ ‵ (owns (ShrSlice (named 0) κ T.the_row ∷ usize ∷ []) x at) ∷ []) ∵ enter ! C Λ code.function (slice_val (b, o) (length ys) ∷ vint w64 i ∷ []) _ $
@@ -96,13 +96,13 @@ module _ {M : Type 1} {𝓤 : Ura M} (𝓛 : Logic 𝓤) (mem : Memory → SProp
         rewrite ! 2 (λ (p : ℕ). ‵ (fat full_share ty_ptr l₄ 0 (vptr b p))) (sym (place_is 16 o i)) refl $
         move ! (13 ∷ []) $ fsplit ! $ fsplit ! $ move ! (1 ∷ []) $ fsplit ! $ move ! (16 ∷ []) $ split ! $ move ! (3 ∷ 0 ∷ []) $
         looks_slice ! tt T.the_row (Is T.the_row) (shows 𝓛 T.the_row) (LL.vals T.the_type T'.the_laws) (LL.tells T.the_type T'.the_laws) (LL.copy T.the_type T'.the_copy 𝓛) ys b o (λ q'.
-        elem_out ! T.the_row (Is T.the_row) (shows 𝓛 T.the_row) (LL.vals T.the_type T'.the_laws) (LL.tells T.the_type T'.the_laws) q' ys i noEntry b o l (λ is.
+        elem_out ! T.the_row (Is T.the_row) (shows 𝓛 T.the_row) (LL.vals T.the_type T'.the_laws) (LL.tells T.the_type T'.the_laws) q' ys i no_entry b o l (λ is.
         -- an entry is Copy: what it owns is had twice, once for the list and once for the result
         move ! (1 ∷ []) $ use1 𝓛 (‵ Own ⊛ ‵ Own) ((LL.copy T.the_type T'.the_copy 𝓛).twice elem vals) $ split ! $ move ! (2 ∷ 0 ∷ 3 ∷ []) $
         -- [list[i]; what it owns; the others; the same again; what shuts; the fractured borrow; true; res; list's fact; i's; _5; …; _4; …; _3; …; _2; …; _1; …; _0; …]
         assigns ! (of_opd ! (load ! (from ! (hop ! (look ! 12 refl) (stop !))) (look_raw ! 0 refl))) (from ! (stop !)) (init ! 10 refl ((LL.lawful T.the_type T'.the_laws 𝓛).typed elem _ is).0) $
         assigns ! (of_opd ! (load ! (from ! (stop !)) (look ! 10 refl))) (from ! (stop !)) (init ! 20 refl ((LL.lawful T.the_type T'.the_laws 𝓛).typed elem _ is).0) $
-        elem_back ! T.the_row q' ys i noEntry vals b o l $ move ! (0 ∷ 2 ∷ []) $ shuts_slice ! tt T.the_row q' ys b o $
+        elem_back ! T.the_row q' ys i no_entry vals b o l $ move ! (0 ∷ 2 ∷ []) $ shuts_slice ! tt T.the_row q' ys b o $
         returns ! (look ! 17 refl) $ forget ! 7 refl $ forget ! 9 refl $ forget ! 11 refl $ forget ! 13 refl $ forget ! 15 refl $ forget ! 17 refl $
         move ! (17 ∷ 18 ∷ []) $ free1 ! $ move ! (15 ∷ 16 ∷ []) $ free1 ! $ move ! (13 ∷ 14 ∷ []) $ free1 ! $ move ! (11 ∷ 12 ∷ []) $ free1 ! $ move ! (9 ∷ 10 ∷ []) $ free1 ! $ move ! (7 ∷ 8 ∷ []) $ free1 ! $ free0 ! $
         move ! (4 ∷ 2 ∷ []) $ fjoin ! $ move ! (4 ∷ 0 ∷ []) $ fjoin ! $ move ! (4 ∷ []) $ fsplit ! $ keep ! (3 ∷ 2 ∷ 0 ∷ 4 ∷ []) $ by ! exits))))))))
@@ -110,21 +110,21 @@ module _ {M : Type 1} {𝓤 : Ura M} (𝓛 : Logic 𝓤) (mem : Memory → SProp
 module _ {M : Type 1} {𝓤 : Ura M} (𝓛 : Logic 𝓤) (mem : Memory → SProp 𝓤) (run : Routine → Fun 𝓤) where
   open 𝓛 use {H}
 
-  named-at-walks : (C : Calls 𝓤 H) (Λ : Loops 𝓤 H) → Walks 𝓛 namedOne.ended stayed (WpFn 𝓤 H C Λ code.function) (namedOne.clauses 𝓛 mem run)
-  named-at-walks C Λ = walked 𝓛 namedOne.ended stayed (namedOne.clauses 𝓛 mem run) (WpFn 𝓤 H C Λ code.function) (λ κs. (shr_slice_vals, (uint_vals w64, tt)))
+  named_at_walks : (C : Calls 𝓤 H) (Λ : Loops 𝓤 H) → Walks 𝓛 named_one.ended stayed (WpFn 𝓤 H C Λ code.function) (named_one.clauses 𝓛 mem run)
+  named_at_walks C Λ = walked 𝓛 named_one.ended stayed (named_one.clauses 𝓛 mem run) (WpFn 𝓤 H C Λ code.function) (λ κs. (shr_slice_vals, (uint_vals w64, tt)))
       (λ κs. (shr_slice_Tells (named 0) κs.0 T.the_row, (uint_Tells w64, tt)))
       (λ κs qs bounds a g are. needs 𝓤 (a.1.0 < length a.0.now) _
       (walk 𝓛 mem run κs.0 qs.0 a.0.ref_ptr.0 a.0.ref_ptr.1 0 a.0.now a.1.0 C Λ are.0.0.1 are.1.0.1))
 
-named-at-meets : {M : Type 1} {𝓤 : Ura M} (𝓛 : Logic 𝓤) → (mem : Memory → SProp 𝓤) (run : Routine → Fun 𝓤) (𝓣 : Tables 𝓤 𝓛.H)
-    → Meets 𝓛 namedOne.signature (WpFn 𝓤 𝓛.H 𝓣.C 𝓣.Λ code.function) (namedOne.spec 𝓛 mem run)
-named-at-meets {𝓤 = 𝓤} 𝓛 mem run 𝓣 =
-    walk_Meets 𝓛 namedOne.ended stayed (Goes-none_slice 𝓛 1 (0 ∷ []) tt (plain (λ _. T.the_row)) yes, (Goes-none 𝓛 1 (λ _. usize) yes (λ κs x f. refl), tt))
-    (namedOne.clauses 𝓛 mem run) (WpFn 𝓤 𝓛.H 𝓣.C 𝓣.Λ code.function) (WpFn-mono 𝓤 𝓛.H 𝓛.laws 𝓣 code.function) (named-at-walks 𝓛 mem run 𝓣.C 𝓣.Λ)
+named_at_meets : {M : Type 1} {𝓤 : Ura M} (𝓛 : Logic 𝓤) → (mem : Memory → SProp 𝓤) (run : Routine → Fun 𝓤) (𝓣 : Tables 𝓤 𝓛.H)
+    → Meets 𝓛 named_one.signature (WpFn 𝓤 𝓛.H 𝓣.C 𝓣.Λ code.function) (named_one.spec 𝓛 mem run)
+named_at_meets {𝓤 = 𝓤} 𝓛 mem run 𝓣 =
+    walk_Meets 𝓛 named_one.ended stayed (Goes-none_slice 𝓛 1 (0 ∷ []) tt (plain (λ _. T.the_row)) yes, (Goes-none 𝓛 1 (λ _. usize) yes (λ κs x f. refl), tt))
+    (named_one.clauses 𝓛 mem run) (WpFn 𝓤 𝓛.H 𝓣.C 𝓣.Λ code.function) (WpFn-mono 𝓤 𝓛.H 𝓛.laws 𝓣 code.function) (named_at_walks 𝓛 mem run 𝓣.C 𝓣.Λ)
 
-pub named-at-spec : {M : Type 1} → stated.statement M
+pub named_at_spec : {M : Type 1} → stated.statement M
 unfolding code.routine tables_of
-named-at-spec 𝓤 𝓛 𝓜 𝓡 =
-    entered 𝓤 𝓛.H (triple_of 𝓛 namedOne.signature (namedOne.spec 𝓛 𝓜.mem 𝓡.run))
+named_at_spec 𝓤 𝓛 𝓜 𝓡 =
+    entered 𝓤 𝓛.H (triple_of 𝓛 named_one.signature (named_one.spec 𝓛 𝓜.mem 𝓡.run))
     (tables 𝓤 𝓛.H 𝓜 𝓡 code.env).C (tables 𝓤 𝓛.H 𝓜 𝓡 code.env).Λ #entries·named-at code.function (code.unfolded 𝓤 𝓛.H 𝓜 𝓡)
-    (named-at-meets 𝓛 𝓜.mem 𝓡.run (tables_of 𝓤 𝓛.H 𝓜 (tables 𝓤 𝓛.H 𝓜 𝓡 code.env)))
+    (named_at_meets 𝓛 𝓜.mem 𝓡.run (tables_of 𝓤 𝓛.H 𝓜 (tables 𝓤 𝓛.H 𝓜 𝓡 code.env)))

@@ -4,7 +4,7 @@ use borrow.Author.Rules.{rules}
 use native.Mathlib.Omega.{arith}
 use Prim.Native.Nat.{◌-◌}
 use Rattle.evaluation.specs.Stores.{StoresAt}
-use Rattle.evaluation.specs.Laws.Stores.{Storing, storing, stored-all, part-fits, store-fits, stored-turn}
+use Rattle.evaluation.specs.Laws.Stores.{Storing, storing, stored_all, part_fits, store_fits, stored_turn}
 use Rattle.evaluation.proofs.transfers.store_all.Statement.{statement}
 use Rattle.evaluation.proofs.transfers.store_all.Tie as tie
 
@@ -14,8 +14,8 @@ invariant-loop carriers₀ fields count bits v rest₀ k₀ carriers rest k = (s
 abbrev decreases-loop : tie.decreases-loop
 decreases-loop carriers₀ fields count bits v rest₀ k₀ carriers rest k = count - k
 
-pub store-all-spec : {M : Type 1} → statement M
-store-all-spec =
+pub store_all_spec : {M : Type 1} → statement M
+store_all_spec =
     tie.close
     (tie.spec
     invariant-loop
@@ -24,11 +24,11 @@ store-all-spec =
     (λ c κs. search rules)
     (λ c. search rules)
     (λ c. search rules)
-    (λ c κs. part-fits _ _ (c.before.before.before.loop.invariant c.before.before.before.before.before.before.requires.0) c.before.before.loop-test.true c.before.get64.ensures)
-    (λ c κs. store-fits _ _ (c.before.before.before.before.loop.invariant c.before.before.before.before.before.before.before.requires.0) c.before.before.before.loop-test.true c.before.before.get64.ensures)
-    (λ c. omega (arith, part-fits _ _ (c.before.before.before.before.before.before.before.loop.invariant c.before.before.before.before.before.before.before.before.before.before.requires.0) c.before.before.before.before.before.before.loop-test.true c.before.before.before.before.before.get64.ensures))
+    (λ c κs. part_fits _ _ (c.before.before.before.loop.invariant c.before.before.before.before.before.before.requires.0) c.before.before.loop-test.true c.before.get64.ensures)
+    (λ c κs. store_fits _ _ (c.before.before.before.before.loop.invariant c.before.before.before.before.before.before.before.requires.0) c.before.before.before.loop-test.true c.before.before.get64.ensures)
+    (λ c. omega (arith, part_fits _ _ (c.before.before.before.before.before.before.before.loop.invariant c.before.before.before.before.before.before.before.before.before.before.requires.0) c.before.before.before.before.before.before.loop-test.true c.before.before.before.before.before.get64.ensures))
     (λ c. search rules)
     (λ c. search rules)
-    (λ c s. stored-turn _ _ (c.before.before.before.before.before.before.before.loop.invariant s) c.before.before.before.before.before.before.loop-test.true c.before.before.before.before.before.get64.ensures (rw c.before.before.before.part.ensures at c.before.before.store.ensures))
+    (λ c s. stored_turn _ _ (c.before.before.before.before.before.before.before.loop.invariant s) c.before.before.before.before.before.before.loop-test.true c.before.before.before.before.before.get64.ensures (rw c.before.before.before.part.ensures at c.before.before.store.ensures))
     (λ c. (c.before.loop.invariant c.before.before.before.before.requires.0).long)
-    (λ c s. stored-all _ _ (c.before.loop.invariant s) c.loop-test.false))
+    (λ c s. stored_all _ _ (c.before.loop.invariant s) c.loop-test.false))

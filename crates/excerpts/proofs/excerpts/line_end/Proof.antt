@@ -12,8 +12,8 @@ invariant-loop text offset end₀ end = (offset ≤ end) × (end ≤ length text
 abbrev decreases-loop : tie.decreases-loop
 decreases-loop text offset end₀ end = length text - end
 
-pub line-end-spec : {M : Type 1} → statement M
-line-end-spec =
+pub line_end_spec : {M : Type 1} → statement M
+line_end_spec =
     tie.close
     (tie.spec
     invariant-loop

@@ -11,8 +11,8 @@ invariant-loop text offset start₀ start = start ≤ offset
 abbrev decreases-loop : tie.decreases-loop
 decreases-loop text offset start₀ start = start
 
-pub line-start-spec : {M : Type 1} → statement M
-line-start-spec =
+pub line_start_spec : {M : Type 1} → statement M
+line_start_spec =
     tie.close
     (tie.spec
     invariant-loop

@@ -13,8 +13,8 @@ invariant-loop out₀ at text from to next₀ k₀ out next k = (length out ≡ 
 abbrev decreases-loop : tie.decreases-loop
 decreases-loop out₀ at text from to next₀ k₀ out next k = to - k
 
-pub put-shown-spec : {M : Type 1} → statement M
-put-shown-spec =
+pub put_shown_spec : {M : Type 1} → statement M
+put_shown_spec =
     tie.close
     (tie.spec
     invariant-loop

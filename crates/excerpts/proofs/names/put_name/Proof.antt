@@ -13,8 +13,8 @@ invariant-loop out₀ at text offset next₀ k₀ out next k = (length out ≡ l
 abbrev decreases-loop : tie.decreases-loop
 decreases-loop out₀ at text offset next₀ k₀ out next k = 32 - k
 
-pub put-name-spec : {M : Type 1} → statement M
-put-name-spec =
+pub put_name_spec : {M : Type 1} → statement M
+put_name_spec =
     tie.close
     (tie.spec
     invariant-loop

@@ -16,8 +16,8 @@ returns-2 c =
     (redeclared c.before.before.before.before.before.before.before.before.before.before.before.before.before.before.requires.0 _ _ c.before.before.before.before.before.before.before.declare.result
     (c.before.before.before.before.before.before.before.declare.ensures (described c.before.before.before.before.before.before.before.before.before.before.before.before.before.before.requires.0) (nested c.before.before.before.before.before.before.before.before.before.before.before.before.before.before.requires.0)))
 
-pub declared-spec : {M : Type 1} → statement M
-declared-spec =
+pub declared_spec : {M : Type 1} → statement M
+declared_spec =
     tie.close
     (tie.spec
     (λ c κs. search rules)

@@ -5,59 +5,59 @@ use native.Mathlib.Omega.{arith}
 use borrow.Fn.Kinds.{In}
 use borrow.Fn.PlainCycle.{Measures, is, falls, and}
 use Rattle.gathering.proofs.gathering.descend.Reads as descend
-use Rattle.gathering.proofs.gathering.descend.Kinds as descend-kinds
-use Rattle.gathering.proofs.gathering.+descend_gather.Lts-descend as descend-lts
+use Rattle.gathering.proofs.gathering.descend.Kinds as descend_kinds
+use Rattle.gathering.proofs.gathering.+descend_gather.Lts-descend as descend_lts
 use Rattle.gathering.proofs.gathering.gather.Reads as gather
-use Rattle.gathering.proofs.gathering.gather.Kinds as gather-kinds
-use Rattle.gathering.proofs.gathering.+descend_gather.Lts-gather as gather-lts
-use Rattle.reading.proofs.bodies.body_at.Reads as body-at-reads
-use Rattle.reading.proofs.calls.next_call.Reads as next-call-reads
-use Rattle.gathering.proofs.memory.mark_in.Reads as mark-in-reads
-use Rattle.gathering.proofs.memory.nothing.Reads as nothing-reads
-use Rattle.gathering.proofs.memory.remember.Reads as remember-reads
-use Rattle.records.proofs.fields.inside_at.Reads as inside-at-reads
-use Rattle.gathering.proofs.touches.touched.Reads as touched-reads
+use Rattle.gathering.proofs.gathering.gather.Kinds as gather_kinds
+use Rattle.gathering.proofs.gathering.+descend_gather.Lts-gather as gather_lts
+use Rattle.reading.proofs.bodies.body_at.Reads as body_at_reads
+use Rattle.reading.proofs.calls.next_call.Reads as next_call_reads
+use Rattle.gathering.proofs.memory.mark_in.Reads as mark_in_reads
+use Rattle.gathering.proofs.memory.nothing.Reads as nothing_reads
+use Rattle.gathering.proofs.memory.remember.Reads as remember_reads
+use Rattle.records.proofs.fields.inside_at.Reads as inside_at_reads
+use Rattle.gathering.proofs.touches.touched.Reads as touched_reads
 use Rattle.reading.specs.Laws.Reading.{kinded}
-use Rattle.gathering.specs.Laws.Filling.{fill-unknown, fill_done, fill-bodiless, fill-body, still-carrying, chain-down, some_left, Descending, go-down, descended, call-short, call-name, call-fewer, call-done, token-room, entry-room, few-declared}
+use Rattle.gathering.specs.Laws.Filling.{fill_unknown, fill_done, fill_bodiless, fill_body, still_carrying, chain_down, some_left, Descending, go_down, descended, call_short, call_name, call_fewer, call_done, token_room, entry_room, few_declared}
 use Rattle.gathering.proofs.gathering.+descend_gather.{statement}
 use Rattle.gathering.proofs.gathering.+descend_gather.Tie.{close}
 
-abbrev μ-descend : Measures 3 descend-kinds.ps ℕ
-μ-descend κs a = 2 * a.1.1.1.1.1.1.0 + 1
+abbrev μ_descend : Measures 3 descend_kinds.ps ℕ
+μ_descend κs a = 2 * a.1.1.1.1.1.1.0 + 1
 
-abbrev μ-gather : Measures 3 gather-kinds.ps ℕ
-μ-gather κs a = 2 * a.1.1.1.1.1.1.0
+abbrev μ_gather : Measures 3 gather_kinds.ps ℕ
+μ_gather κs a = 2 * a.1.1.1.1.1.1.0
 
-abbrev descend-at : ℕ → In 3 descend-kinds.ps
-descend-at t = and 3 descend-kinds.ps (is 3 descend-kinds.ps μ-descend t) descend.Pre
+abbrev descend_at : ℕ → In 3 descend_kinds.ps
+descend_at t = and 3 descend_kinds.ps (is 3 descend_kinds.ps μ_descend t) descend.Pre
 
-abbrev descend-below : ℕ → In 3 descend-kinds.ps
-descend-below t = and 3 descend-kinds.ps (falls 3 descend-kinds.ps ◌<◌ μ-descend t) descend.Pre
+abbrev descend_below : ℕ → In 3 descend_kinds.ps
+descend_below t = and 3 descend_kinds.ps (falls 3 descend_kinds.ps ◌<◌ μ_descend t) descend.Pre
 
-abbrev gather-at : ℕ → In 3 gather-kinds.ps
-gather-at t = and 3 gather-kinds.ps (is 3 gather-kinds.ps μ-gather t) gather.Pre
+abbrev gather_at : ℕ → In 3 gather_kinds.ps
+gather_at t = and 3 gather_kinds.ps (is 3 gather_kinds.ps μ_gather t) gather.Pre
 
-abbrev gather-below : ℕ → In 3 gather-kinds.ps
-gather-below t = and 3 gather-kinds.ps (falls 3 gather-kinds.ps ◌<◌ μ-gather t) gather.Pre
+abbrev gather_below : ℕ → In 3 gather_kinds.ps
+gather_below t = and 3 gather_kinds.ps (falls 3 gather_kinds.ps ◌<◌ μ_gather t) gather.Pre
 
-abbrev descend-Inv-loop : descend-lts.invariant-loop
-descend-Inv-loop records decls memo₀ m n from left at₀ depth₀ mode₀ memo at depth mode = Descending records decls memo₀ memo m n from left at depth mode
+abbrev descend_Inv_loop : descend_lts.invariant-loop
+descend_Inv_loop records decls memo₀ m n from left at₀ depth₀ mode₀ memo at depth mode = Descending records decls memo₀ memo m n from left at depth mode
 
-abbrev descend-μ-loop : descend-lts.decreases-loop
-descend-μ-loop records decls memo₀ m n from left at₀ depth₀ mode₀ memo at depth mode = n - at
+abbrev descend_μ_loop : descend_lts.decreases-loop
+descend_μ_loop records decls memo₀ m n from left at₀ depth₀ mode₀ memo at depth mode = n - at
 
-pub +descend-gather-spec : {M : Type 1} → statement M
-+descend-gather-spec = close μ-descend μ-gather (λ t. descend-lts.spec (
-  next-call-reads.Asked,
-  next-call-reads.Learnt,
-  gather-below t,
+pub +descend_gather_spec : {M : Type 1} → statement M
++descend_gather_spec = close μ_descend μ_gather (λ t. descend_lts.spec (
+  next_call_reads.Asked,
+  next_call_reads.Learnt,
+  gather_below t,
   gather.Post,
 )
-    (descend-at t)
+    (descend_at t)
     descend.Post
-    descend-Inv-loop
-    descend-μ-loop
-    (λ c. go-down _ _ c.before.before.before.requires.1.0 c.before.before.before.requires.1.1.1)
+    descend_Inv_loop
+    descend_μ_loop
+    (λ c. go_down _ _ c.before.before.before.requires.1.0 c.before.before.before.requires.1.1.1)
     (λ c κs. (kinded c.loop.invariant.fillable.reading, (c.loop.invariant.shallow, c.loop.invariant.counted)))
     (λ c. search rules)
     (λ c. (c.before.before.loop.invariant.grows, descended c.before.before.loop.invariant c.before.next-call.ensures c.if1.true))
@@ -66,35 +66,35 @@ pub +descend-gather-spec : {M : Type 1} → statement M
     let call = c.before.before.next-call.ensures in
     let h = c.before.if1.false in (
       omega (arith, c.before.before.before.before.before.before.before.requires.0),
-      (inv.fillable, (h, (call-name inv call h, (c.before.before.before.before.before.before.before.requires.1.1.0, call-short inv call h)))),
+      (inv.fillable, (h, (call_name inv call h, (c.before.before.before.before.before.before.before.requires.1.1.0, call_short inv call h)))),
     ))
-    (λ c. call-fewer c.before.before.before.before.before.before.loop.invariant c.before.before.before.before.before.next-call.ensures
+    (λ c. call_fewer c.before.before.before.before.before.before.loop.invariant c.before.before.before.before.before.next-call.ensures
     c.before.before.before.before.if1.false)
-    (λ c. call-done c.before.before.before.before.before.before.loop.invariant c.before.before.before.before.before.next-call.ensures
+    (λ c. call_done c.before.before.before.before.before.before.loop.invariant c.before.before.before.before.before.next-call.ensures
     c.before.before.before.before.if1.false (search rules) c.before.before.gather.ensures))
-    λ t. gather-lts.spec (
-      inside-at-reads.Asked,
-      inside-at-reads.Learnt,
-      mark-in-reads.Asked,
-      mark-in-reads.Learnt,
-      body-at-reads.Asked,
-      body-at-reads.Learnt,
-      nothing-reads.Asked,
-      nothing-reads.Learnt,
-      remember-reads.Asked,
-      remember-reads.Learnt,
-      descend-below t,
+    λ t. gather_lts.spec (
+      inside_at_reads.Asked,
+      inside_at_reads.Learnt,
+      mark_in_reads.Asked,
+      mark_in_reads.Learnt,
+      body_at_reads.Asked,
+      body_at_reads.Learnt,
+      nothing_reads.Asked,
+      nothing_reads.Learnt,
+      remember_reads.Asked,
+      remember_reads.Learnt,
+      descend_below t,
       descend.Post,
-      touched-reads.Asked,
-      touched-reads.Learnt,
+      touched_reads.Asked,
+      touched_reads.Learnt,
     )
-    (gather-at t)
+    (gather_at t)
     gather.Post
-    (λ c κs. token-room c.before.before.before.requires.1.0 c.before.before.before.requires.1.1.0)
-    (λ c. fill-unknown c.before.before.before.before.before.requires.1.0 c.before.before.before.before.before.requires.1.1.0
+    (λ c κs. token_room c.before.before.before.requires.1.0 c.before.before.before.requires.1.1.0)
+    (λ c. fill_unknown c.before.before.before.before.before.requires.1.0 c.before.before.before.before.before.requires.1.1.0
     c.before.before.before.before.before.requires.1.1.1.0 c.before.inside-at.ensures c.if1.true)
-    (λ c. omega (arith, few-declared c.before.before.before.before.before.before.requires.1.0))
-    (λ c κs. omega (arith, entry-room c.before.before.before.before.before.before.requires.1.0 c.before.if1.false))
+    (λ c. omega (arith, few_declared c.before.before.before.before.before.before.requires.1.0))
+    (λ c κs. omega (arith, entry_room c.before.before.before.before.before.before.requires.1.0 c.before.if1.false))
     (λ c. search rules)
     (λ c. fill_done c.before.before.before.before.before.before.before.before.requires.1.0
     c.before.before.before.before.before.before.before.before.requires.1.1.0
@@ -102,11 +102,11 @@ pub +descend-gather-spec : {M : Type 1} → statement M
     c.before.before.before.if1.false c.before.mark-in.ensures c.if2.true)
     (λ c κs. (c.before.before.before.before.before.before.before.before.requires.1.0.reading, c.before.before.before.if1.false))
     (λ c κs. search rules)
-    (λ c κs. entry-room c.before.before.before.before.before.before.before.before.before.before.before.before.requires.1.0
+    (λ c κs. entry_room c.before.before.before.before.before.before.before.before.before.before.before.before.requires.1.0
     c.before.before.before.before.before.before.before.if1.false)
     (λ c. search rules)
     (λ c.
-    fill-bodiless c.before.before.before.before.before.before.before.before.before.before.before.before.before.before.before.requires.1.0
+    fill_bodiless c.before.before.before.before.before.before.before.before.before.before.before.before.before.before.before.requires.1.0
     c.before.before.before.before.before.before.before.before.before.before.before.before.before.before.before.requires.1.1.0
     c.before.before.before.before.before.before.before.before.before.before.before.before.before.before.before.requires.1.1.1.0
     c.before.before.before.before.before.before.before.before.before.before.before.inside-at.ensures
@@ -131,7 +131,7 @@ pub +descend-gather-spec : {M : Type 1} → statement M
         c.before.before.before.before.before.before.before.before.before.before.before.requires.1.0,
         (
           search rules,
-          chain-down c.before.before.before.before.before.before.before.before.before.before.before.requires.1.0
+          chain_down c.before.before.before.before.before.before.before.before.before.before.before.requires.1.0
               c.before.before.before.before.before.before.before.before.before.before.before.requires.1.1.0
               c.before.before.before.before.before.before.before.before.before.before.before.requires.1.1.1.0
               c.before.before.before.before.before.before.before.inside-at.ensures c.before.before.before.before.before.before.if1.false
@@ -140,17 +140,17 @@ pub +descend-gather-spec : {M : Type 1} → statement M
         ),
       ),
     ))
-    (λ c κs. (c.before.before.before.before.before.before.before.before.before.before.before.before.before.before.before.requires.1.0.reading, (omega (arith, c.before.before.before.before.before.before.before.before.before.before.before.before.before.before.before.requires.1.0.room, c.before.before.before.descend.auto.1.1.0), still-carrying c.before.before.before.before.before.before.before.before.before.before.before.before.before.before.before.requires.1.0 c.before.before.before.descend.ensures.0)))
+    (λ c κs. (c.before.before.before.before.before.before.before.before.before.before.before.before.before.before.before.requires.1.0.reading, (omega (arith, c.before.before.before.before.before.before.before.before.before.before.before.before.before.before.before.requires.1.0.room, c.before.before.before.descend.auto.1.1.0), still_carrying c.before.before.before.before.before.before.before.before.before.before.before.before.before.before.before.requires.1.0 c.before.before.before.descend.ensures.0)))
     (λ c κs. omega (
       arith,
-      entry-room
+      entry_room
           c.before.before.before.before.before.before.before.before.before.before.before.before.before.before.before.before.before.requires.1.0
           c.before.before.before.before.before.before.before.before.before.before.before.before.if1.false,
       c.before.before.before.before.before.descend.auto.1.1.0,
     ))
     (λ c. search rules)
     (λ c.
-    fill-body c.before.before.before.before.before.before.before.before.before.before.before.before.before.before.before.before.before.before.before.before.requires.1.0 c.before.before.before.before.before.before.before.before.before.before.before.before.before.before.before.before.before.before.before.before.requires.1.1.0 c.before.before.before.before.before.before.before.before.before.before.before.before.before.before.before.before.before.before.before.before.requires.1.1.1.0 c.before.before.before.before.before.before.before.before.before.before.before.before.before.before.before.before.inside-at.ensures c.before.before.before.before.before.before.before.before.before.before.before.before.before.before.before.if1.false c.before.before.before.before.before.before.before.before.before.before.before.body_at.ensures _ c.before.before.before.before.before.before.before.before.before.before.if3.false
+    fill_body c.before.before.before.before.before.before.before.before.before.before.before.before.before.before.before.before.before.before.before.before.requires.1.0 c.before.before.before.before.before.before.before.before.before.before.before.before.before.before.before.before.before.before.before.before.requires.1.1.0 c.before.before.before.before.before.before.before.before.before.before.before.before.before.before.before.before.before.before.before.before.requires.1.1.1.0 c.before.before.before.before.before.before.before.before.before.before.before.before.before.before.before.before.inside-at.ensures c.before.before.before.before.before.before.before.before.before.before.before.before.before.before.before.if1.false c.before.before.before.before.before.before.before.before.before.before.before.body_at.ensures _ c.before.before.before.before.before.before.before.before.before.before.if3.false
     c.before.before.before.before.before.before.before.before.descend.ensures.0
     c.before.before.before.before.before.before.before.before.descend.ensures.1 c.before.before.before.before.touched.ensures
     c.before.before.remember2.ensures)

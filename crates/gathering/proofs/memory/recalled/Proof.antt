@@ -6,8 +6,8 @@ use lib.Dec.{eqb}
 use Rattle.gathering.proofs.memory.recalled.Statement.{statement}
 use Rattle.gathering.proofs.memory.recalled.Tie as tie
 
-pub recalled-spec : {M : Type 1} → statement M
-recalled-spec =
+pub recalled_spec : {M : Type 1} → statement M
+recalled_spec =
     tie.close
     (tie.spec
     (λ c. search rules)

@@ -4,8 +4,8 @@ use Rattle.gathering.specs.Laws.Memory.{stored}
 use Rattle.gathering.proofs.memory.remember.Statement.{statement}
 use Rattle.gathering.proofs.memory.remember.Tie as tie
 
-pub remember-spec : {M : Type 1} → statement M
-remember-spec =
+pub remember_spec : {M : Type 1} → statement M
+remember_spec =
     tie.close
     (tie.spec
     (λ c. search rules)

@@ -1,6 +1,6 @@
 -- `gathering::steps::step` meets its contract.
 use borrow.Author.Rules.{rules}
-use Rattle.gathering.specs.Laws.Steps.{of-kind}
+use Rattle.gathering.specs.Laws.Steps.{of_kind}
 use Rattle.gathering.proofs.steps.step.Statement.{statement}
 use Rattle.gathering.proofs.steps.step.Tie as tie
 
@@ -22,17 +22,17 @@ step_spec =
     (λ c κs. search rules)
     (λ c κs. search rules)
     (λ c κs. search rules)
-    (λ c. search (rules, of-kind))
-    (λ c. search (rules, of-kind))
-    (λ c. search (rules, of-kind))
-    (λ c. search (rules, of-kind))
-    (λ c. search (rules, of-kind))
-    (λ c. search (rules, of-kind))
-    (λ c. search (rules, of-kind))
-    (λ c. search (rules, of-kind))
-    (λ c. search (rules, of-kind))
-    (λ c. search (rules, of-kind))
-    (λ c. search (rules, of-kind))
-    (λ c. search (rules, of-kind))
-    (λ c. search (rules, of-kind))
+    (λ c. search (rules, of_kind))
+    (λ c. search (rules, of_kind))
+    (λ c. search (rules, of_kind))
+    (λ c. search (rules, of_kind))
+    (λ c. search (rules, of_kind))
+    (λ c. search (rules, of_kind))
+    (λ c. search (rules, of_kind))
+    (λ c. search (rules, of_kind))
+    (λ c. search (rules, of_kind))
+    (λ c. search (rules, of_kind))
+    (λ c. search (rules, of_kind))
+    (λ c. search (rules, of_kind))
+    (λ c. search (rules, of_kind))
     (λ c. search rules))

@@ -2,9 +2,9 @@
 use borrow.Author.Rules.{rules}
 use Prim.Native.Nat.{◌-◌}
 use Rattle.reading.specs.Laws.Reading.{kinded}
-use Rattle.reading.specs.Laws.Ends.{seek-from, comes-to-nothing}
+use Rattle.reading.specs.Laws.Ends.{seek_from, comes_to_nothing}
 use Rattle.gathering.specs.Laws.Shown.{listen, heard_all}
-use Rattle.gathering.specs.Laws.Steps.{Passing, is_name, pass-name, pass-stop, pass-mark, heard-before, comes-before, heard-with, comes-with}
+use Rattle.gathering.specs.Laws.Steps.{Passing, is_name, pass_name, pass_stop, pass_mark, heard_before, comes_before, heard_with, comes_with}
 use Rattle.gathering.proofs.touches.passed.Statement.{statement}
 use Rattle.gathering.proofs.touches.passed.Tie as tie
 
@@ -14,25 +14,25 @@ invariant-loop records decls memo m n from t₀ d₀ mode₀ i₀ t d mode i = P
 abbrev decreases-loop : tie.decreases-loop
 decreases-loop records decls memo m n from t₀ d₀ mode₀ i₀ t d mode i = n - i
 
-pub passed-spec : {M : Type 1} → statement M
-passed-spec =
+pub passed_spec : {M : Type 1} → statement M
+passed_spec =
     tie.close
     (tie.spec
     invariant-loop
     decreases-loop
     (λ c κs. search rules)
-    (λ c. search (rules, listen, seek-from, kinded))
+    (λ c. search (rules, listen, seek_from, kinded))
     (λ c κs. search rules)
     (λ c. search rules)
     (λ c κs. search (rules, is_name))
     (λ c. search rules)
-    (λ c. search (rules, pass-name))
+    (λ c. search (rules, pass_name))
     (λ c κs. search rules)
     (λ c. search rules)
-    (λ c. search (rules, pass-stop))
+    (λ c. search (rules, pass_stop))
     (λ c κs. search rules)
-    (λ c. search (rules, heard-before, comes-before))
-    (λ c. search (rules, heard-with, comes-with))
+    (λ c. search (rules, heard_before, comes_before))
+    (λ c. search (rules, heard_with, comes_with))
     (λ c. search rules)
-    (λ c. search (rules, pass-mark))
-    (λ c. search (rules, heard_all, comes-to-nothing)))
+    (λ c. search (rules, pass_mark))
+    (λ c. search (rules, heard_all, comes_to_nothing)))

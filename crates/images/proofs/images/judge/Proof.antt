@@ -5,7 +5,7 @@ use Prim.Native.Nat.{◌-◌}
 use mathlib.Core.Path.{sym, ◌∙◌}
 use borrow.Author.Tests.{not-true, not-false}
 use native.Mathlib.Omega.{arith}
-use Rattle.images.specs.Laws.Turns.{Judging, none-judged, unchecked, unformed, more-judged, all-judged}
+use Rattle.images.specs.Laws.Turns.{Judging, none_judged, unchecked, unformed, more_judged, all_judged}
 use Rattle.images.proofs.images.judge.Statement.{statement}
 use Rattle.images.proofs.images.judge.Tie as tie
 
@@ -25,17 +25,17 @@ returns-2 c =
 
 loop-again : tie.Need-loop-preserved invariant-loop decreases-loop
 loop-again c =
-    more-judged c.before.before.before.before.before.before.before.loop.invariant (omega arith) (sym c.before.before.before.before.is-checked.ensures ∙ not-false _ c.before.before.before.if1.false) _ c.before.before.used-in.ensures
+    more_judged c.before.before.before.before.before.before.before.loop.invariant (omega arith) (sym c.before.before.before.before.is-checked.ensures ∙ not-false _ c.before.before.before.if1.false) _ c.before.before.used-in.ensures
     (sym c.before.is-formed.ensures ∙ not-false _ c.if2.false)
 
-pub judge-spec : {M : Type 1} → statement M
-judge-spec =
+pub judge_spec : {M : Type 1} → statement M
+judge_spec =
     tie.close
     (tie.spec
     invariant-loop
     decreases-loop
     (λ c κs. search rules)
-    (λ c. search (rules, none-judged))
+    (λ c. search (rules, none_judged))
     (λ c. search rules)
     (λ c. search rules)
     (λ c. search rules)
@@ -49,4 +49,4 @@ judge-spec =
     (λ c. search rules)
     (λ c. search rules)
     loop-again
-    (λ c. search (rules, all-judged)))
+    (λ c. search (rules, all_judged)))

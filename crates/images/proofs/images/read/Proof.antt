@@ -3,7 +3,7 @@
 use borrow.Author.Rules.{rules}
 use Prim.Native.Nat.{◌-◌}
 use native.Mathlib.Omega.{arith}
-use Rattle.images.specs.Laws.Turns.{Reading, none_read, payload-room, more-read, all_read}
+use Rattle.images.specs.Laws.Turns.{Reading, none_read, payload_room, more_read, all_read}
 use Rattle.images.proofs.images.read.Statement.{statement}
 use Rattle.images.proofs.images.read.Tie as tie
 
@@ -13,11 +13,11 @@ invariant-loop image carriers₀ size blocks i₀ carriers i = Reading size bloc
 abbrev decreases-loop : tie.decreases-loop
 decreases-loop image carriers₀ size blocks i₀ carriers i = blocks - i
 
-copy-requires : tie.Need-copy-requires invariant-loop decreases-loop
-copy-requires c κs = payload-room c.before.before.before.before.loop.invariant (omega arith) _ c.before.before.used-in.ensures
+copy_requires : tie.Need-copy-requires invariant-loop decreases-loop
+copy_requires c κs = payload_room c.before.before.before.before.loop.invariant (omega arith) _ c.before.before.used-in.ensures
 
 loop-again : tie.Need-loop-preserved invariant-loop decreases-loop
-loop-again c = more-read c.before.before.before.before.before.before.before.loop.invariant (omega arith) _ c.before.before.before.before.before.used-in.ensures _ c.before.before.copy.ensures
+loop-again c = more_read c.before.before.before.before.before.before.before.loop.invariant (omega arith) _ c.before.before.before.before.before.used-in.ensures _ c.before.before.copy.ensures
 
 same_length : tie.Need-same-length invariant-loop decreases-loop
 same_length c = c.before.loop.invariant.sized
@@ -41,7 +41,7 @@ read_spec =
     (λ c. search rules)
     (λ c. search rules)
     (λ c. search rules)
-    copy-requires
+    copy_requires
     (λ c. search rules)
     (λ c. search rules)
     loop-again

@@ -5,8 +5,8 @@ use Rattle.lexemes.specs.Laws.Digits.{binary, octal, hexadecimal}
 use Rattle.lexemes.proofs.constants.base_of.Statement.{statement}
 use Rattle.lexemes.proofs.constants.base_of.Tie as tie
 
-pub base-of-spec : {M : Type 1} → statement M
-base-of-spec =
+pub base_of_spec : {M : Type 1} → statement M
+base_of_spec =
     tie.close
     (tie.spec
     (λ c. rw (binary _ c.if1.true) (omega arith))

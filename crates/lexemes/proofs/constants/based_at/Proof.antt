@@ -7,30 +7,30 @@ use mathlib.Core.List.{List}
 use Prim.Native.Nat.{ℕ, ◌+◌, ◌-◌}
 use lib.ListN.{length, get_or, drop}
 use lib.Seq.{slice}
-use Rattle.rules.specs.Text.Bytes.{prefix, inConstant, leading}
-use Rattle.rules.specs.Text.Constants.{based, digitBits}
-use Rattle.rules.specs.Text.Scan.{lexemeBy}
+use Rattle.rules.specs.Text.Bytes.{prefix, in_constant, leading}
+use Rattle.rules.specs.Text.Constants.{based, digit_bits}
+use Rattle.rules.specs.Text.Scan.{lexeme_by}
 use Rattle.classes.specs.Classes.{RunEnds}
-use Rattle.lexemes.specs.Lexemes.{lexemeOf}
+use Rattle.lexemes.specs.Lexemes.{lexeme_of}
 use Rattle.lexemes.specs.Numbers.{number_of, constant_of}
-use Rattle.classes.specs.Laws.Runs.{Run, ran, constant-set}
-use Rattle.lexemes.specs.Laws.Constants.{based-law}
+use Rattle.classes.specs.Laws.Runs.{Run, ran, constant_set}
+use Rattle.lexemes.specs.Laws.Constants.{based_law}
 use Rattle.lexemes.specs.declared.constants.Number.{Number}
 use Rattle.lexemes.specs.declared.lexemes.Lexeme.{Lexeme}
 use Rattle.lexemes.proofs.constants.based_at.Statement.{statement}
 use Rattle.lexemes.proofs.constants.based_at.Tie as tie
 
 found : (text : List ℕ) (at end : ℕ) {x : Number} {r : Lexeme} → RunEnds 184 text (at + 1) end
-    → x ≡ number_of (based (digitBits (get_or text at 0)) (slice (at + 1) end text)) → r ≡ constant_of (end - (at + 1)) x
-    → r ≡ lexemeOf (lexemeBy prefix at (get_or text at 0) (drop (at + 1) text))
-unfolding lexemeBy
+    → x ≡ number_of (based (digit_bits (get_or text at 0)) (slice (at + 1) end text)) → r ≡ constant_of (end - (at + 1)) x
+    → r ≡ lexeme_of (lexeme_by prefix at (get_or text at 0) (drop (at + 1) text))
+unfolding lexeme_by
 found text at end {x} {r} runs ex er =
-    let digits : Run inConstant text (at + 1) end = ran inConstant text 184 (at + 1) end constant-set runs in
-    let more : end - (at + 1) ≡ length (leading inConstant (drop (at + 1) text)) = omega (arith, digits.ends) in
-    er ∙ rw (more, ex, digits.part) (sym (based-law at _ (get_or text at 0) _))
+    let digits : Run in_constant text (at + 1) end = ran in_constant text 184 (at + 1) end constant_set runs in
+    let more : end - (at + 1) ≡ length (leading in_constant (drop (at + 1) text)) = omega (arith, digits.ends) in
+    er ∙ rw (more, ex, digits.part) (sym (based_law at _ (get_or text at 0) _))
 
-pub based-at-spec : {M : Type 1} → statement M
-based-at-spec =
+pub based_at_spec : {M : Type 1} → statement M
+based_at_spec =
     tie.close
     (tie.spec
     (λ c. search rules)

@@ -6,8 +6,8 @@ use Rattle.lexemes.specs.Laws.Digits.{binary, octal, hexadecimal}
 use Rattle.lexemes.proofs.constants.based_bits.Statement.{statement}
 use Rattle.lexemes.proofs.constants.based_bits.Tie as tie
 
-pub based-bits-spec : {M : Type 1} → statement M
-based-bits-spec =
+pub based_bits_spec : {M : Type 1} → statement M
+based_bits_spec =
     tie.close
     (tie.spec
     (λ c. rw (binary _ c.if1.true) (omega arith))

@@ -11,9 +11,9 @@ use lib.Dec.{ltb, leb}
 use lib.ListN.{length}
 use lib.Pow.{pow_mono}
 use lib.Seq.{slice, length-slice}
-use Rattle.rules.specs.Text.Constants.{malformed, based, all, isBasedDigit, valueFrom, freeFrom}
-use Rattle.lexemes.specs.Laws.Bounds.{pow-times}
-use Rattle.lexemes.specs.Numbers.{number_of, known, basedDigits}
+use Rattle.rules.specs.Text.Constants.{malformed, based, all, is_based_digit, value_from, free_from}
+use Rattle.lexemes.specs.Laws.Bounds.{pow_times}
+use Rattle.lexemes.specs.Numbers.{number_of, known, based_digits}
 use Rattle.lexemes.specs.Laws.Numbers.{known_by}
 use Rattle.lexemes.specs.declared.constants.Number.{Number}
 use Rattle.lexemes.specs.declared.constants.Number.TheVariants.{Malformed}
@@ -22,11 +22,11 @@ use Rattle.lexemes.proofs.constants.based_value.Tie as tie
 
 module _ (n : ℕ) (ds : List ℕ) where
   sound : Bool
-  sound = all (isBasedDigit (2 ^ n)) ds
+  sound = all (is_based_digit (2 ^ n)) ds
 
-  law : based n ds ≡ known (sound && (ltb 0 (length ds) && leb (n * length ds) 64)) (valueFrom (2 ^ n) 0 ds) (freeFrom (2 ^ n) 0 ds) (n * length ds)
+  law : based n ds ≡ known (sound && (ltb 0 (length ds) && leb (n * length ds) 64)) (value_from (2 ^ n) 0 ds) (free_from (2 ^ n) 0 ds) (n * length ds)
   unfolding sound based
-  law = sym (known_by (sound && (ltb 0 (length ds) && leb (n * length ds) 64)) (valueFrom (2 ^ n) 0 ds) (freeFrom (2 ^ n) 0 ds) (n * length ds))
+  law = sym (known_by (sound && (ltb 0 (length ds) && leb (n * length ds) 64)) (value_from (2 ^ n) 0 ds) (free_from (2 ^ n) 0 ds) (n * length ds))
 
   none : length ds ≡ 0 → based n ds ≡ malformed
   none e = law ∙ rw (le-ltb 0 (length ds) (omega arith), and-false sound)
@@ -34,7 +34,7 @@ module _ (n : ℕ) (ds : List ℕ) where
   over : 64 < n * length ds → based n ds ≡ malformed
   over h = law ∙ rw (lt-leb (n * length ds) 64 h, and-false (ltb 0 (length ds)), and-false sound)
 
-  within : 0 < length ds → n * length ds ≤ 64 → based n ds ≡ basedDigits (2 ^ n) (n * length ds) ds
+  within : 0 < length ds → n * length ds ≤ 64 → based n ds ≡ based_digits (2 ^ n) (n * length ds) ds
   unfolding sound
   within some h = law ∙ rw (lt-ltb 0 (length ds) some, le-leb (n * length ds) 64 h, and-true sound)
 
@@ -56,17 +56,17 @@ module _ (text : List ℕ) (from end n : ℕ) (inside : end ≤ length text) whe
     long h = ap number_of (sym (over n ds (rw size (omega arith))))
 
     fits : {base : ℕ} → base ≡ 2 ^ n → bits ≤ 64 → base ^ (end - from) ≤ 2 ^ 64
-    fits b h = rw (b, pow-times) (pow_mono {i = n * (end - from)} {j = 64} (omega arith))
+    fits b h = rw (b, pow_times) (pow_mono {i = n * (end - from)} {j = 64} (omega arith))
 
-    whole : {base : ℕ} {r : Number} → (end - from ≡ 0 → ⊥) → base ≡ 2 ^ n → bits ≤ 64 → r ≡ number_of (basedDigits base bits (slice from end text))
+    whole : {base : ℕ} {r : Number} → (end - from ≡ 0 → ⊥) → base ≡ 2 ^ n → bits ≤ 64 → r ≡ number_of (based_digits base bits (slice from end text))
         → r ≡ number_of (based n (slice from end text))
     unfolding ds
     whole {base} {r} some b h x =
-        let same : based n ds ≡ basedDigits base bits ds = within n ds (rw size (omega arith)) (rw size (omega arith)) ∙ rw (b, e, size) in
+        let same : based n ds ≡ based_digits base bits ds = within n ds (rw size (omega arith)) (rw size (omega arith)) ∙ rw (b, e, size) in
         x ∙ ap number_of (sym same)
 
-pub based-value-spec : {M : Type 1} → statement M
-based-value-spec =
+pub based_value_spec : {M : Type 1} → statement M
+based_value_spec =
     tie.close
     (tie.spec
     (λ c. search rules)

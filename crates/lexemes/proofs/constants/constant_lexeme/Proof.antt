@@ -3,16 +3,16 @@
 use borrow.Author.Rules.{rules}
 use mathlib.Core.Path.{◌≡◌, refl}
 use Prim.Native.Nat.{ℕ, zero, suc}
-use Rattle.lexemes.specs.Numbers.{freeKind}
+use Rattle.lexemes.specs.Numbers.{free_kind}
 use Rattle.lexemes.proofs.constants.constant_lexeme.Statement.{statement}
 use Rattle.lexemes.proofs.constants.constant_lexeme.Tie as tie
 
-masked : (f : ℕ) → (f ≡ 0 → ⊥) → freeKind f ≡ 2
+masked : (f : ℕ) → (f ≡ 0 → ⊥) → free_kind f ≡ 2
 masked zero h = absurd (h refl)
 masked (suc f) h = refl
 
-pub constant-lexeme-spec : {M : Type 1} → statement M
-constant-lexeme-spec =
+pub constant_lexeme_spec : {M : Type 1} → statement M
+constant_lexeme_spec =
     tie.close
     (tie.spec
     (λ c. search rules)

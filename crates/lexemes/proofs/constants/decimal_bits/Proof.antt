@@ -9,7 +9,7 @@ use native.Mathlib.Numerals.{add-one}
 use mathlib.Core.Path.{◌≡◌, refl, sym, ap, ◌∙◌}
 use Prim.Native.Nat.{ℕ, zero, suc, ◌+◌, ◌-◌, ◌/◌, ◌^◌, ◌<◌, ◌≤◌}
 use lib.Pow.{pow_pos}
-use Rattle.rules.specs.Text.Constants.{bitsFrom, decimalBits}
+use Rattle.rules.specs.Text.Constants.{bits_from, decimal_bits}
 use Rattle.lexemes.proofs.constants.decimal_bits.Statement.{statement}
 use Rattle.lexemes.proofs.constants.decimal_bits.Tie as tie
 
@@ -17,7 +17,7 @@ record Inv (value bits rest : ℕ) : Type 0 where
   pub low : 1 ≤ bits
   pub high : bits ≤ 64
   pub left : rest ≡ value / 2 ^ bits
-  pub so_far : bitsFrom (64 - bits) bits value ≡ decimalBits value
+  pub so_far : bits_from (64 - bits) bits value ≡ decimal_bits value
 
 -- the tests by what is left
 enough : (v k : ℕ) → v / 2 ^ k ≡ 0 → v < 2 ^ k
@@ -30,13 +30,13 @@ too_few v k ne = go (dec_lt v (2 ^ k))
     go (yes l) = absurd (ne (div-eq_of_lt l))
     go (no g) = omega arith
 
-found : (n k v : ℕ) → v < 2 ^ k → bitsFrom n k v ≡ k
-unfolding bitsFrom
+found : (n k v : ℕ) → v < 2 ^ k → bits_from n k v ≡ k
+unfolding bits_from
 found zero k v h = refl
-found (suc n) k v h = rw (bitsFrom, lt-ltb v (2 ^ k) h)
+found (suc n) k v h = rw (bits_from, lt-ltb v (2 ^ k) h)
 
 starts : (v : ℕ) → Inv v 1 (v / 2)
-unfolding decimalBits
+unfolding decimal_bits
 starts v = record { low = omega arith; high = omega arith; left = refl; so_far = refl }
 
 module _ {value bits rest : ℕ} (inv : Inv value bits rest) where
@@ -51,7 +51,7 @@ module _ {value bits rest : ℕ} (inv : Inv value bits rest) where
           absurd (omega (arith, rw all at past))
 
   passed : value < 2 ^ 64 → (rest ≡ 0 → ⊥) → Inv value (bits + 1) (rest / 2)
-  unfolding bitsFrom
+  unfolding bits_from
   passed fits ne =
       let room : bits < 64 = more fits ne in
       let past : 2 ^ bits ≤ value = too_few value bits (λ e. ne (inv.left ∙ e)) in
@@ -60,10 +60,10 @@ module _ {value bits rest : ℕ} (inv : Inv value bits rest) where
         low = omega arith;
         high = omega arith;
         left = rw (add-one, pow-suc) (ap (λ (n : ℕ). n / 2) inv.left ∙ div-div-eq-div-mul value (2 ^ bits) 2);
-        so_far = rw (fuel, bitsFrom, le-ltb value (2 ^ bits) past) at inv.so_far;
+        so_far = rw (fuel, bits_from, le-ltb value (2 ^ bits) past) at inv.so_far;
       }
 
-  ended : rest ≡ 0 → bits ≡ decimalBits value
+  ended : rest ≡ 0 → bits ≡ decimal_bits value
   ended e = sym (found (64 - bits) bits value (enough value bits (sym inv.left ∙ e))) ∙ inv.so_far
 
 abbrev invariant-loop : tie.invariant-loop
@@ -72,8 +72,8 @@ invariant-loop value bits₀ rest₀ bits rest = Inv value bits rest
 abbrev decreases-loop : tie.decreases-loop
 decreases-loop value bits₀ rest₀ bits rest = rest
 
-pub decimal-bits-spec : {M : Type 1} → statement M
-decimal-bits-spec =
+pub decimal_bits_spec : {M : Type 1} → statement M
+decimal_bits_spec =
     tie.close
     (tie.spec
     invariant-loop

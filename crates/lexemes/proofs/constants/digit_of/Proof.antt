@@ -1,40 +1,40 @@
--- `lexemes::constants::digit_of` meets its contract: each return has the tests of `upperDigit`.
+-- `lexemes::constants::digit_of` meets its contract: each return has the tests of `upper_digit`.
 -- Assumes nothing.
 use borrow.Author.Rules.{rules}
 use borrow.Author.Tests.{ne_eqb, lt-ltb, le-ltb}
 use mathlib.Core.Path.{◌≡◌, ap, ◌∙◌}
 use Prim.Native.Nat.{ℕ, ◌-◌, ◌<◌, ◌≤◌}
 use Rattle.rules.specs.Text.Bytes.{fold}
-use Rattle.lexemes.specs.Digits.{upperDigit, digitNo}
+use Rattle.lexemes.specs.Digits.{upper_digit, digit_no}
 use Rattle.lexemes.proofs.constants.digit_of.Statement.{statement}
 use Rattle.lexemes.proofs.constants.digit_of.Tie as tie
 
 module _ (n b : ℕ) (e : n ≡ fold b) where
-  of : {r : ℕ} → r ≡ upperDigit n → r ≡ digitNo b
-  unfolding digitNo
-  of x = x ∙ ap upperDigit e
+  of : {r : ℕ} → r ≡ upper_digit n → r ≡ digit_no b
+  unfolding digit_no
+  of x = x ∙ ap upper_digit e
 
-  query : n ≡ 63 → 16 ≡ digitNo b
+  query : n ≡ 63 → 16 ≡ digit_no b
   query q = of (rw q)
 
   module _ (q : n ≡ 63 → ⊥) where
-    low : n < 48 → 17 ≡ digitNo b
+    low : n < 48 → 17 ≡ digit_no b
     low h = of (rw (ne_eqb n 63 q, lt-ltb n 48 h))
 
-    decimal : 48 ≤ n → n < 58 → n - 48 ≡ digitNo b
+    decimal : 48 ≤ n → n < 58 → n - 48 ≡ digit_no b
     decimal l h = of (rw (ne_eqb n 63 q, le-ltb n 48 l, lt-ltb n 58 h))
 
-    between : 48 ≤ n → 58 ≤ n → n < 65 → 17 ≡ digitNo b
+    between : 48 ≤ n → 58 ≤ n → n < 65 → 17 ≡ digit_no b
     between l m h = of (rw (ne_eqb n 63 q, le-ltb n 48 l, le-ltb n 58 m, lt-ltb n 65 h))
 
-    letter : 48 ≤ n → 58 ≤ n → 65 ≤ n → n < 71 → n - 55 ≡ digitNo b
+    letter : 48 ≤ n → 58 ≤ n → 65 ≤ n → n < 71 → n - 55 ≡ digit_no b
     letter l m k h = of (rw (ne_eqb n 63 q, le-ltb n 48 l, le-ltb n 58 m, le-ltb n 65 k, lt-ltb n 71 h))
 
-    high : 48 ≤ n → 58 ≤ n → 65 ≤ n → 71 ≤ n → 17 ≡ digitNo b
+    high : 48 ≤ n → 58 ≤ n → 65 ≤ n → 71 ≤ n → 17 ≡ digit_no b
     high l m k h = of (rw (ne_eqb n 63 q, le-ltb n 48 l, le-ltb n 58 m, le-ltb n 65 k, le-ltb n 71 h))
 
-pub digit-of-spec : {M : Type 1} → statement M
-digit-of-spec =
+pub digit_of_spec : {M : Type 1} → statement M
+digit_of_spec =
     tie.close
     (tie.spec
     (λ c κs. search rules)

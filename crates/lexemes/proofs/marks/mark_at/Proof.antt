@@ -9,46 +9,46 @@ use mathlib.Core.List.{List}
 use Prim.Native.Nat.{ℕ, ◌+◌, ◌<◌}
 use lib.ListN.{length, get_or, take, drop}
 use Rattle.rules.specs.Text.Bytes.{mark}
-use Rattle.rules.specs.Text.Scan.{lexemeBy}
-use Rattle.lexemes.specs.Codes.{code_of, markDigit, markCode, kindBy, pairs, singles}
-use Rattle.lexemes.specs.Lexemes.{lexemeOf}
-use Rattle.classes.specs.Laws.Runs.{drop-from}
-use Rattle.lexemes.specs.Laws.Spellings.{all-bytes, all_drop, is_byte}
-use Rattle.lexemes.specs.Laws.Marks.{marked, mark-law, marked-some}
+use Rattle.rules.specs.Text.Scan.{lexeme_by}
+use Rattle.lexemes.specs.Codes.{code_of, mark_digit, mark_code, kind_by, pairs, singles}
+use Rattle.lexemes.specs.Lexemes.{lexeme_of}
+use Rattle.classes.specs.Laws.Runs.{drop_from}
+use Rattle.lexemes.specs.Laws.Spellings.{all_bytes, all_drop, is_byte}
+use Rattle.lexemes.specs.Laws.Marks.{marked, mark_law, marked_some}
 use Rattle.lexemes.specs.declared.lexemes.Lexeme.{Lexeme}
 use Rattle.lexemes.specs.declared.lexemes.Lexeme.TheVariants.{Token, Refused}
 use Rattle.lexemes.proofs.marks.mark_at.Statement.{statement}
 use Rattle.lexemes.proofs.marks.mark_at.Tie as tie
 
 module _ (text : List ℕ) (at : ℕ) (h : at < length text) (bytes : (i : ℕ) → Fits w8 (get_or text i 0)) {n pair : ℕ}
-    (en : n ≡ markCode (take 2 (drop at text)))
-    (ep : pair ≡ kindBy markCode n pairs) where
+    (en : n ≡ mark_code (take 2 (drop at text)))
+    (ep : pair ≡ kind_by mark_code n pairs) where
   here : Lexeme
-  here = lexemeOf (lexemeBy mark at (get_or text at 0) (drop (at + 1) text))
+  here = lexeme_of (lexeme_by mark at (get_or text at 0) (drop (at + 1) text))
 
-  law : here ≡ marked 2 pair (marked 1 (kindBy markCode (markCode (take 1 (drop at text))) singles) (Refused 10))
-  unfolding here lexemeBy
-  law = rw (← drop-from text at h) (mark-law at (drop at text) (all_drop is_byte at text (all-bytes text (λ i. (bytes i).fits))) ∙ rw (ep, en))
+  law : here ≡ marked 2 pair (marked 1 (kind_by mark_code (mark_code (take 1 (drop at text))) singles) (Refused 10))
+  unfolding here lexeme_by
+  law = rw (← drop_from text at h) (mark_law at (drop at text) (all_drop is_byte at text (all_bytes text (λ i. (bytes i).fits))) ∙ rw (ep, en))
 
   two : (pair ≡ 0 → ⊥) → Token 1 pair 0 0 0 ≡ here
-  two some = marked-some 2 pair _ some ∙ sym law
+  two some = marked_some 2 pair _ some ∙ sym law
 
-  module _ {m single : ℕ} (none : pair ≡ 0) (em : m ≡ markDigit (get_or text at 0)) (es : single ≡ kindBy markCode m singles) where
+  module _ {m single : ℕ} (none : pair ≡ 0) (em : m ≡ mark_digit (get_or text at 0)) (es : single ≡ kind_by mark_code m singles) where
     rest : here ≡ marked 1 single (Refused 10)
     unfolding code_of
     rest =
-        let code : markCode (take 1 (drop at text)) ≡ m = rw (drop-from text at h) (omega arith) in
+        let code : mark_code (take 1 (drop at text)) ≡ m = rw (drop_from text at h) (omega arith) in
         law ∙ rw (none, code, es)
 
     one : (single ≡ 0 → ⊥) → Token 0 single 0 0 0 ≡ here
-    one some = marked-some 1 single (Refused 10) some ∙ sym rest
+    one some = marked_some 1 single (Refused 10) some ∙ sym rest
 
     neither : single ≡ 0 → Refused 10 ≡ here
     neither e = sym (rest ∙ rw e)
 
-pub mark-at-spec : {M : Type 1} → statement M
+pub mark_at_spec : {M : Type 1} → statement M
 unfolding here
-mark-at-spec =
+mark_at_spec =
     tie.close
     (tie.spec
     (λ c κs. search rules)

@@ -2,14 +2,14 @@
 -- Assumes nothing.
 use mathlib.Core.Path.{sym}
 use Rattle.rules.specs.Text.Tokens.{keywords}
-use Rattle.lexemes.specs.Codes.{code_of, wordCode, kindBy}
+use Rattle.lexemes.specs.Codes.{code_of, word_code, kind_by}
 use Rattle.lexemes.specs.Laws.Spellings.{missed}
 use Rattle.lexemes.proofs.words.keyword_kind.Statement.{statement}
 use Rattle.lexemes.proofs.words.keyword_kind.Tie as tie
 
-pub keyword-kind-spec : {M : Type 1} → statement M
-unfolding code_of kindBy
-keyword-kind-spec =
+pub keyword_kind_spec : {M : Type 1} → statement M
+unfolding code_of kind_by
+keyword_kind_spec =
     tie.close
     (tie.spec
     (λ c. rw c.match.keys1)
@@ -35,4 +35,4 @@ keyword-kind-spec =
     (λ c. rw c.match.keys21)
     (λ c. rw c.match.keys22)
     (λ c. rw c.match.keys23)
-    (λ c. sym (missed Unit wordCode c.before.args.code keywords c.match.rest).1))
+    (λ c. sym (missed Unit word_code c.before.args.code keywords c.match.rest).1))

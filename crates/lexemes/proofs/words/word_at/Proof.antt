@@ -10,50 +10,50 @@ use mathlib.Core.List.{List, map}
 use Prim.Native.Nat.{ℕ, ◌+◌, ◌-◌, ◌<◌, ◌≤◌}
 use lib.ListN.{length, length-map, get_or, drop}
 use lib.Seq.{slice}
-use Rattle.rules.specs.Text.Bytes.{letter, fold, inName, leading}
-use Rattle.rules.specs.Text.Tokens.{keywords, kindNo}
+use Rattle.rules.specs.Text.Bytes.{letter, fold, in_name, leading}
+use Rattle.rules.specs.Text.Tokens.{keywords, kind_no}
 use Rattle.rules.specs.Text.Constants.{all}
-use Rattle.rules.specs.Text.Scan.{wordKind, wordLexeme, lexemeBy}
+use Rattle.rules.specs.Text.Scan.{word_kind, word_lexeme, lexeme_by}
 use Rattle.classes.specs.Classes.{RunEnds}
-use Rattle.lexemes.specs.Lexemes.{lexemeOf}
-use Rattle.classes.specs.Laws.Runs.{Run, drop-from, ran, one_more, all-run, name_set}
+use Rattle.lexemes.specs.Lexemes.{lexeme_of}
+use Rattle.classes.specs.Laws.Runs.{Run, drop_from, ran, one_more, all_run, name_set}
 use Rattle.lexemes.specs.declared.lexemes.Lexeme.{Lexeme}
 use Rattle.lexemes.specs.declared.lexemes.Lexeme.TheVariants.{Token, Refused}
 use Rattle.lexemes.proofs.words.word_at.Statement.{statement}
 use Rattle.lexemes.proofs.words.word_at.Tie as tie
 
-module _ (text : List ℕ) (at end : ℕ) (h : at < length text) (first : inName (get_or text at 0) ≡ true) (r : RunEnds 56 text (at + 1) end) where
-  word : Run inName text at end
-  word = one_more inName text at end h first (ran inName text 56 (at + 1) end name_set r)
+module _ (text : List ℕ) (at end : ℕ) (h : at < length text) (first : in_name (get_or text at 0) ≡ true) (r : RunEnds 56 text (at + 1) end) where
+  word : Run in_name text at end
+  word = one_more in_name text at end h first (ran in_name text 56 (at + 1) end name_set r)
 
   here : Lexeme
-  here = lexemeOf (lexemeBy letter at (get_or text at 0) (drop (at + 1) text))
+  here = lexeme_of (lexeme_by letter at (get_or text at 0) (drop (at + 1) text))
 
-  law : lexemeOf (wordLexeme at (leading inName (drop at text))) ≡ here
-  unfolding here lexemeBy
-  law = rw (drop-from text at h)
+  law : lexeme_of (word_lexeme at (leading in_name (drop at text))) ≡ here
+  unfolding here lexeme_by
+  law = rw (drop_from text at h)
 
   long : 32 < end - at → Refused 11 ≡ here
-  unfolding wordLexeme
-  long l = let e : 32 < length (leading inName (drop at text)) = omega (arith, word.ends) in rw (wordLexeme, lt-leb _ _ e) at law
+  unfolding word_lexeme
+  long l = let e : 32 < length (leading in_name (drop at text)) = omega (arith, word.ends) in rw (word_lexeme, lt-leb _ _ e) at law
 
-  names : all inName (slice at end text) ≡ true
-  names = rw word.part (all-run inName (drop at text))
+  names : all in_name (slice at end text) ≡ true
+  names = rw word.part (all_run in_name (drop at text))
 
-  found : {k : ℕ} → end - at ≤ 32 → k ≡ kindNo (wordKind keywords (map fold (slice at end text)))
+  found : {k : ℕ} → end - at ≤ 32 → k ≡ kind_no (word_kind keywords (map fold (slice at end text)))
       → Token (end - at - 1) k (end - at) 0 0 ≡ here
-  unfolding wordLexeme
+  unfolding word_lexeme
   found {k} l e =
-      let size : end - at ≡ length (leading inName (drop at text)) = omega (arith, word.ends) in
-      let kind : k ≡ kindNo (wordKind keywords (map fold (leading inName (drop at text)))) = e ∙ rw word.part in
-      let short : length (leading inName (drop at text)) ≤ 32 = omega arith in
-      let same : Token (end - at - 1) k (end - at) 0 0 ≡ lexemeOf (wordLexeme at (leading inName (drop at text)))
-      = rw (wordLexeme, le-leb _ _ short, size, kind, length-map, add-zero) in
+      let size : end - at ≡ length (leading in_name (drop at text)) = omega (arith, word.ends) in
+      let kind : k ≡ kind_no (word_kind keywords (map fold (leading in_name (drop at text)))) = e ∙ rw word.part in
+      let short : length (leading in_name (drop at text)) ≤ 32 = omega arith in
+      let same : Token (end - at - 1) k (end - at) 0 0 ≡ lexeme_of (word_lexeme at (leading in_name (drop at text)))
+      = rw (word_lexeme, le-leb _ _ short, size, kind, length-map, add-zero) in
       same ∙ law
 
-pub word-at-spec : {M : Type 1} → statement M
+pub word_at_spec : {M : Type 1} → statement M
 unfolding here
-word-at-spec =
+word_at_spec =
     tie.close
     (tie.spec
     (λ c. search rules)

@@ -9,7 +9,7 @@ use Prim.Native.Nat.{ℕ, suc, ◌+◌, ◌-◌, ◌*◌, ◌^◌, ◌<◌, ◌�
 use lib.ListN.{length, get_or}
 use lib.Seq.{slice, slice_empty, slice-cons}
 use Rattle.rules.specs.Text.Bytes.{fold}
-use Rattle.lexemes.specs.Codes.{code_of, wordDigit, wordCode}
+use Rattle.lexemes.specs.Codes.{code_of, word_digit, word_code}
 use Rattle.lexemes.proofs.words.word_code.Statement.{statement}
 use Rattle.lexemes.proofs.words.word_code.Tie as tie
 
@@ -17,7 +17,7 @@ record Inv (text : List ℕ) (at end code i : ℕ) : Type 0 where
   pub low : at ≤ i
   pub high : i ≤ end
   pub small : code < 64 ^ (end - i)
-  pub so_far : code ≡ wordCode (map fold (slice i end text))
+  pub so_far : code ≡ word_code (map fold (slice i end text))
 
 starts : (text : List ℕ) (at end : ℕ) → at ≤ end → Inv text at end 0 end
 unfolding code_of
@@ -32,7 +32,7 @@ module _ {text : List ℕ} {at end code i : ℕ} (inv : Inv text at end code i) 
   bounded : at < i → end ≤ at + 9 → code < 64 ^ 9
   bounded h short = omega (arith, inv.small, pow-le-pow_right {n = 64} (omega arith) {i = end - i} {j = 9} (omega (arith, inv.low)))
 
-  passed : {d : ℕ} → at < i → end ≤ length text → d ≡ wordDigit (fold (get_or text (i - 1) 0)) → d < 64 → Inv text at end (d + 64 * code) (i - 1)
+  passed : {d : ℕ} → at < i → end ≤ length text → d ≡ word_digit (fold (get_or text (i - 1) 0)) → d < 64 → Inv text at end (d + 64 * code) (i - 1)
   unfolding code_of
   passed {d} h within e u =
       let next : suc (i - 1) ≡ i = omega arith in
@@ -43,10 +43,10 @@ module _ {text : List ℕ} {at end code i : ℕ} (inv : Inv text at end code i) 
         low = omega arith;
         high = omega (arith, inv.high);
         small = rw more (omega (arith, inv.small, pow-succ' 64 (end - i)));
-        so_far = rw (whole, e) (ap (λ (n : ℕ). wordDigit (fold (get_or text (i - 1) 0)) + 64 * n) inv.so_far);
+        so_far = rw (whole, e) (ap (λ (n : ℕ). word_digit (fold (get_or text (i - 1) 0)) + 64 * n) inv.so_far);
       }
 
-  ended : i ≤ at → code ≡ wordCode (map fold (slice at end text))
+  ended : i ≤ at → code ≡ word_code (map fold (slice at end text))
   ended h = let e : i ≡ at = omega (arith, inv.low) in rw e at inv.so_far
 
 abbrev invariant-loop : tie.invariant-loop
@@ -55,8 +55,8 @@ invariant-loop text at end code₀ i₀ code i = Inv text at end code i
 abbrev decreases-loop : tie.decreases-loop
 decreases-loop text at end code₀ i₀ code i = i
 
-pub word-code-spec : {M : Type 1} → statement M
-word-code-spec =
+pub word_code_spec : {M : Type 1} → statement M
+word_code_spec =
     tie.close
     (tie.spec
     invariant-loop

@@ -8,25 +8,25 @@ use mathlib.Core.List.{List, map}
 use Prim.Native.Nat.{ℕ, ◌-◌, ◌<◌, ◌≤◌}
 use lib.ListN.{length, length-map}
 use lib.Seq.{slice, length-slice}
-use Rattle.rules.specs.Text.Bytes.{fold, inName}
-use Rattle.rules.specs.Text.Tokens.{keywords, kindNo}
+use Rattle.rules.specs.Text.Bytes.{fold, in_name}
+use Rattle.rules.specs.Text.Tokens.{keywords, kind_no}
 use Rattle.rules.specs.Text.Constants.{all}
-use Rattle.rules.specs.Text.Scan.{wordKind}
-use Rattle.lexemes.specs.Codes.{wordCode, kindBy}
-use Rattle.lexemes.specs.Laws.Words.{keyword-by, no-keyword}
+use Rattle.rules.specs.Text.Scan.{word_kind}
+use Rattle.lexemes.specs.Codes.{word_code, kind_by}
+use Rattle.lexemes.specs.Laws.Words.{keyword_by, no_keyword}
 use Rattle.lexemes.proofs.words.word_kind.Statement.{statement}
 use Rattle.lexemes.proofs.words.word_kind.Tie as tie
 
-long : (text : List ℕ) (at end : ℕ) → end ≤ length text → 9 < end - at → 0 ≡ kindNo (wordKind keywords (map fold (slice at end text)))
+long : (text : List ℕ) (at end : ℕ) → end ≤ length text → 9 < end - at → 0 ≡ kind_no (word_kind keywords (map fold (slice at end text)))
 long text at end within h =
-    no-keyword (map fold (slice at end text)) (omega (arith, length-map (slice at end text) fold, length-slice at end text within))
+    no_keyword (map fold (slice at end text)) (omega (arith, length-map (slice at end text) fold, length-slice at end text within))
 
-found : (w : List ℕ) {n r : ℕ} → all inName w ≡ true → n ≡ wordCode (map fold w) → r ≡ kindBy wordCode n keywords
-    → r ≡ kindNo (wordKind keywords (map fold w))
-found w h e f = f ∙ ap (λ (n : ℕ). kindBy wordCode n keywords) e ∙ sym (keyword-by w h)
+found : (w : List ℕ) {n r : ℕ} → all in_name w ≡ true → n ≡ word_code (map fold w) → r ≡ kind_by word_code n keywords
+    → r ≡ kind_no (word_kind keywords (map fold w))
+found w h e f = f ∙ ap (λ (n : ℕ). kind_by word_code n keywords) e ∙ sym (keyword_by w h)
 
-pub word-kind-spec : {M : Type 1} → statement M
-word-kind-spec =
+pub word_kind_spec : {M : Type 1} → statement M
+word_kind_spec =
     tie.close
     (tie.spec
     (λ c. search rules)

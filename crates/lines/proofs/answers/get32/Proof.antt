@@ -5,8 +5,8 @@ use Rattle.lines.proofs.Reports.{two_cells}
 use Rattle.lines.proofs.answers.get32.Statement.{statement}
 use Rattle.lines.proofs.answers.get32.Tie as tie
 
-pub get32-spec : {M : Type 1} → statement M
-get32-spec =
+pub get32_spec : {M : Type 1} → statement M
+get32_spec =
     tie.close
     (tie.spec
     (λ c. search rules)

@@ -5,5 +5,5 @@ use Rattle.lines.specs.Laws.Appended.{one_more}
 use Rattle.lines.proofs.bytes.put_byte.Statement.{statement}
 use Rattle.lines.proofs.bytes.put_byte.Tie as tie
 
-pub put-byte-spec : {M : Type 1} → statement M
-put-byte-spec = tie.close (tie.spec (λ c. search rules) (λ c. search rules) (λ c. search rules) (λ c. search (rules, one_more)))
+pub put_byte_spec : {M : Type 1} → statement M
+put_byte_spec = tie.close (tie.spec (λ c. search rules) (λ c. search rules) (λ c. search rules) (λ c. search (rules, one_more)))

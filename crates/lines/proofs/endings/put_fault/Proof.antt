@@ -5,8 +5,8 @@ use Rattle.lines.specs.Laws.Appended.{and_then}
 use Rattle.lines.proofs.endings.put_fault.Statement.{statement}
 use Rattle.lines.proofs.endings.put_fault.Tie as tie
 
-pub put-fault-spec : {M : Type 1} → statement M
-put-fault-spec =
+pub put_fault_spec : {M : Type 1} → statement M
+put_fault_spec =
     tie.close
     (tie.spec
     (λ c. search rules)

@@ -5,8 +5,8 @@ use Rattle.lines.specs.Laws.Appended.{and_then}
 use Rattle.lines.proofs.said.put_place.Statement.{statement}
 use Rattle.lines.proofs.said.put_place.Tie as tie
 
-pub put-place-spec : {M : Type 1} → statement M
-put-place-spec =
+pub put_place_spec : {M : Type 1} → statement M
+put_place_spec =
     tie.close
     (tie.spec
     (λ c κs. search rules)

@@ -5,8 +5,8 @@ use Rattle.lines.specs.Laws.Appended.{and_then}
 use Rattle.lines.proofs.said.put_steps.Statement.{statement}
 use Rattle.lines.proofs.said.put_steps.Tie as tie
 
-pub put-steps-spec : {M : Type 1} → statement M
-put-steps-spec =
+pub put_steps_spec : {M : Type 1} → statement M
+put_steps_spec =
     tie.close
     (tie.spec
     (λ c κs. search rules)

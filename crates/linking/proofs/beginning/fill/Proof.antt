@@ -3,24 +3,24 @@
 use borrow.Author.Rules.{rules}
 use native.Mathlib.Omega.{arith}
 use Prim.Native.Nat.{◌-◌, ◌≤◌}
-use Rattle.rules.specs.Limits.{mostWords}
+use Rattle.rules.specs.Limits.{most_words}
 use Rattle.matching.specs.Room.{Filled}
-use Rattle.linking.specs.Laws.Chains.{none_filled, more-filled, all-filled}
+use Rattle.linking.specs.Laws.Chains.{none_filled, more_filled, all_filled}
 use Rattle.linking.proofs.beginning.fill.Statement.{statement}
 use Rattle.linking.proofs.beginning.fill.Tie as tie
 
 abbrev invariant-loop : tie.invariant-loop
-invariant-loop room₀ v w₀ room w = Filled room₀ room v w × (w ≤ mostWords)
+invariant-loop room₀ v w₀ room w = Filled room₀ room v w × (w ≤ most_words)
 
 abbrev decreases-loop : tie.decreases-loop
-decreases-loop room₀ v w₀ room w = mostWords - w
+decreases-loop room₀ v w₀ room w = most_words - w
 
 loop-again : tie.Need-loop-preserved invariant-loop decreases-loop
 loop-again c =
-    (more-filled c.before.before.before.before.before.loop.invariant.0 (omega arith) (omega arith) (omega arith) c.before.before.put16.ensures, omega arith)
+    (more_filled c.before.before.before.before.before.loop.invariant.0 (omega arith) (omega arith) (omega arith) c.before.before.put16.ensures, omega arith)
 
 returns : tie.Need-returns invariant-loop decreases-loop
-returns c = all-filled c.before.loop.invariant.0 (omega arith)
+returns c = all_filled c.before.loop.invariant.0 (omega arith)
 
 pub fill_spec : {M : Type 1} → statement M
 fill_spec =

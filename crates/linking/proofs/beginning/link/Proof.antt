@@ -17,8 +17,8 @@ returns-2 c =
     linked t.args.i t.requires c.before.before.before.before.before.before.before.before.before.before.before.before.before.before.before.put16.ensures c.before.before.before.before.before.before.before.before.before.before.before.before.entry_at.ensures (omega arith) c.before.before.before.before.before.before.before.before.get16.ensures (omega arith)
     c.before.before.before.before.before.before.put162.ensures c.before.before.put163.ensures
 
-pub link-spec : {M : Type 1} → statement M
-link-spec =
+pub link_spec : {M : Type 1} → statement M
+link_spec =
     tie.close
     (tie.spec
     (λ c κs. search rules)

@@ -3,20 +3,20 @@
 use borrow.Author.Rules.{rules}
 use mathlib.Core.Path.{◌≡◌, refl}
 use lib.ListN.{length}
-use Rattle.rules.specs.Entries.{entriesIn}
+use Rattle.rules.specs.Entries.{entries_in}
 use Rattle.matching.specs.Room.{Linked}
 use Rattle.linking.specs.Laws.Chains.{one_less, none_before}
 use Rattle.linking.proofs.beginning.link_all.Statement.{statement}
 use Rattle.linking.proofs.beginning.link_all.Tie as tie
 
 abbrev invariant-loop : tie.invariant-loop
-invariant-loop room₀ entries i₀ room i = Linked (entriesIn entries) room i × (length room ≡ length room₀)
+invariant-loop room₀ entries i₀ room i = Linked (entries_in entries) room i × (length room ≡ length room₀)
 
 abbrev decreases-loop : tie.decreases-loop
 decreases-loop room₀ entries i₀ room i = i
 
-pub link-all-spec : {M : Type 1} → statement M
-link-all-spec =
+pub link_all_spec : {M : Type 1} → statement M
+link_all_spec =
     tie.close
     (tie.spec
     invariant-loop

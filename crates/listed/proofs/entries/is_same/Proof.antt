@@ -1,7 +1,7 @@
 -- `listed::entries::is_same` meets its contract: the first difference decides.
 -- Assumes nothing.
 use Rattle.listed.specs.Named.{entry_of}
-use Rattle.listed.specs.Laws.Entries.{other_place, other_word, value-decides}
+use Rattle.listed.specs.Laws.Entries.{other_place, other_word, value_decides}
 use Rattle.listed.proofs.entries.is_same.Statement.{statement}
 use Rattle.listed.proofs.entries.is_same.Tie as tie
 
@@ -16,7 +16,7 @@ returns-2 c =
 returns-3 : tie.Need-returns-3
 returns-3 c =
     let s = c.before.before.before.before.before.before.before.before.args in
-    value-decides (entry_of s.a) (entry_of s.b) c.before.before.before.before.before.if1.false c.before.before.if2.false
+    value_decides (entry_of s.a) (entry_of s.b) c.before.before.before.before.before.if1.false c.before.before.if2.false
 
-pub is-same-spec : {M : Type 1} → statement M
-is-same-spec = tie.close (tie.spec returns returns-2 returns-3)
+pub is_same_spec : {M : Type 1} → statement M
+is_same_spec = tie.close (tie.spec returns returns-2 returns-3)

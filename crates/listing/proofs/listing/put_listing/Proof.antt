@@ -3,9 +3,9 @@
 use borrow.Author.Rules.{rules}
 use native.Mathlib.Omega.{arith}
 use Prim.Native.Nat.{◌-◌}
-use Rattle.table.specs.Laws.Kth.{kth-room}
-use Rattle.declare.specs.Laws.Small.{small-there}
-use Rattle.listing.proofs.Tables.{ListedTo, none-listed, words-fit, room-there, more-listed, all_listed}
+use Rattle.table.specs.Laws.Kth.{kth_room}
+use Rattle.declare.specs.Laws.Small.{small_there}
+use Rattle.listing.proofs.Tables.{ListedTo, none_listed, words_fit, room_there, more_listed, all_listed}
 use Rattle.listing.proofs.listing.put_listing.Statement.{statement}
 use Rattle.listing.proofs.listing.put_listing.Tie as tie
 
@@ -15,20 +15,20 @@ invariant-loop out₀ at text records values decls m carriers next₀ w₀ k₀ 
 abbrev decreases-loop : tie.decreases-loop
 decreases-loop out₀ at text records values decls m carriers next₀ w₀ k₀ out next w k = m - k
 
-pub put-listing-spec : {M : Type 1} → statement M
-put-listing-spec =
+pub put_listing_spec : {M : Type 1} → statement M
+put_listing_spec =
     tie.close
     (tie.spec
     invariant-loop
     decreases-loop
-    (λ c. search (rules, none-listed))
-    (λ c κs. search (rules, kth-room))
+    (λ c. search (rules, none_listed))
+    (λ c κs. search (rules, kth_room))
     (λ c. search rules)
-    (λ c κs. search (rules, small-there))
-    (λ c κs. room-there c.before.before.before.before.loop.invariant c.before.before.before.loop-test.true c.before.before.get16.ensures c.before.words-in.ensures.0 c.before.before.before.before.before.before.before.before.before.before.before.requires.0 c.before.before.before.before.before.before.before.before.before.before.before.requires.1)
-    (λ c. omega (arith, words-fit c.before.before.before.before.before.before.before.loop.invariant c.before.before.before.before.before.before.loop-test.true c.before.before.before.before.before.get16.ensures c.before.before.before.before.words-in.ensures.0 c.before.before.before.before.before.before.before.before.before.before.before.before.before.before.requires.0))
+    (λ c κs. search (rules, small_there))
+    (λ c κs. room_there c.before.before.before.before.loop.invariant c.before.before.before.loop-test.true c.before.before.get16.ensures c.before.words-in.ensures.0 c.before.before.before.before.before.before.before.before.before.before.before.requires.0 c.before.before.before.before.before.before.before.before.before.before.before.requires.1)
+    (λ c. omega (arith, words_fit c.before.before.before.before.before.before.before.loop.invariant c.before.before.before.before.before.before.loop-test.true c.before.before.before.before.before.get16.ensures c.before.before.before.before.words-in.ensures.0 c.before.before.before.before.before.before.before.before.before.before.before.before.before.before.requires.0))
     (λ c. search rules)
     (λ c. search rules)
-    (λ c. more-listed c.before.before.before.before.before.before.before.loop.invariant c.before.before.before.before.before.before.loop-test.true c.before.before.before.before.before.get16.ensures c.before.before.before.before.words-in.ensures.0 c.before.before.before.before.before.before.before.before.before.before.before.before.before.before.requires.0 c.before.before.put-declaration.ensures)
+    (λ c. more_listed c.before.before.before.before.before.before.before.loop.invariant c.before.before.before.before.before.before.loop-test.true c.before.before.before.before.before.get16.ensures c.before.before.before.before.words-in.ensures.0 c.before.before.before.before.before.before.before.before.before.before.before.before.before.before.requires.0 c.before.before.put-declaration.ensures)
     (λ c. search rules)
     (λ c. all_listed c.before.loop.invariant c.loop-test.false c.before.before.before.before.before.before.before.before.requires.0))

@@ -6,8 +6,8 @@ use Rattle.listing.proofs.Arrays.{down_fits, up_fits, down_is, up_is}
 use Rattle.listing.proofs.words.name_at.Statement.{statement}
 use Rattle.listing.proofs.words.name_at.Tie as tie
 
-pub name-at-spec : {M : Type 1} → statement M
-name-at-spec =
+pub name_at_spec : {M : Type 1} → statement M
+name_at_spec =
     tie.close
     (tie.spec
     (λ c. search (rules, down_fits))

@@ -5,8 +5,8 @@ use Rattle.lines.specs.Laws.Appended.{and_then}
 use Rattle.listing.proofs.words.put_value.Statement.{statement}
 use Rattle.listing.proofs.words.put_value.Tie as tie
 
-pub put-value-spec : {M : Type 1} → statement M
-put-value-spec =
+pub put_value_spec : {M : Type 1} → statement M
+put_value_spec =
     tie.close
     (tie.spec
     (λ c. search rules)

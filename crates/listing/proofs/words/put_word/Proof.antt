@@ -5,8 +5,8 @@ use Rattle.lines.specs.Laws.Appended.{and_then}
 use Rattle.listing.proofs.words.put_word.Statement.{statement}
 use Rattle.listing.proofs.words.put_word.Tie as tie
 
-pub put-word-spec : {M : Type 1} → statement M
-put-word-spec =
+pub put_word_spec : {M : Type 1} → statement M
+put_word_spec =
     tie.close
     (tie.spec
     (λ c κs. search rules)

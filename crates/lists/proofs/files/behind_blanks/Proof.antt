@@ -12,8 +12,8 @@ invariant-loop file from at₀ at = (from ≤ at) × (at ≤ length file)
 abbrev decreases-loop : tie.decreases-loop
 decreases-loop file from at₀ at = length file - at
 
-pub behind-blanks-spec : {M : Type 1} → statement M
-behind-blanks-spec =
+pub behind_blanks_spec : {M : Type 1} → statement M
+behind_blanks_spec =
     tie.close
     (tie.spec
     invariant-loop

@@ -14,8 +14,8 @@ invariant-loop file entries₀ count₀ lines₀ at₀ entries count lines at =
 abbrev decreases-loop : tie.decreases-loop
 decreases-loop file entries₀ count₀ lines₀ at₀ entries count lines at = length file - at
 
-pub list-in-spec : {M : Type 1} → statement M
-list-in-spec =
+pub list_in_spec : {M : Type 1} → statement M
+list_in_spec =
     tie.close
     (tie.spec
     invariant-loop

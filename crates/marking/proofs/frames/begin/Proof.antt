@@ -1,11 +1,11 @@
 -- `marking::frames::begin` meets its contract.
 use borrow.Author.Rules.{rules}
-use Rattle.marking.specs.Laws.Holding.{begin-shown}
+use Rattle.marking.specs.Laws.Holding.{begin_shown}
 use Rattle.marking.proofs.frames.begin.Statement.{statement}
 use Rattle.marking.proofs.frames.begin.Tie as tie
 
-pub begin-spec : {M : Type 1} → statement M
-begin-spec =
+pub begin_spec : {M : Type 1} → statement M
+begin_spec =
     tie.close
     (tie.spec
     (λ c κs. search rules)
@@ -13,4 +13,4 @@ begin-spec =
     (λ c. search rules)
     (λ c κs. search rules)
     (λ c. search rules)
-    (λ c. search (rules, begin-shown)))
+    (λ c. search (rules, begin_shown)))

@@ -2,7 +2,7 @@
 use borrow.Author.Rules.{rules}
 use mathlib.Core.Path.{refl}
 use Rattle.marking.specs.Machine.{closed}
-use Rattle.marking.specs.Laws.Holding.{none-shown, close-shown}
+use Rattle.marking.specs.Laws.Holding.{none_shown, close_shown}
 use Rattle.marking.proofs.frames.close.Statement.{statement}
 use Rattle.marking.proofs.frames.close.Tie as tie
 
@@ -11,10 +11,10 @@ close_spec =
     tie.close
     (tie.spec
     (λ c κs. search rules)
-    (λ c. none-shown closed (λ z. refl) (search rules) (search rules))
+    (λ c. none_shown closed (λ z. refl) (search rules) (search rules))
     (λ c. search rules)
     (λ c. search rules)
     (λ c κs. search rules)
     (λ c. search rules)
     (λ c κs. search rules)
-    (λ c. search (rules, close-shown)))
+    (λ c. search (rules, close_shown)))

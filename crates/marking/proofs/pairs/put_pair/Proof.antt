@@ -4,8 +4,8 @@ use Rattle.marking.specs.Laws.Holding.{pair_put}
 use Rattle.marking.proofs.pairs.put_pair.Statement.{statement}
 use Rattle.marking.proofs.pairs.put_pair.Tie as tie
 
-pub put-pair-spec : {M : Type 1} → statement M
-put-pair-spec =
+pub put_pair_spec : {M : Type 1} → statement M
+put_pair_spec =
     tie.close
     (tie.spec
     (λ c. search rules)

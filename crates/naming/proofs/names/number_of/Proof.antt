@@ -2,7 +2,7 @@
 -- Assumes nothing.
 use borrow.Author.Rules.{rules}
 use Prim.Native.Nat.{◌-◌}
-use Rattle.naming.specs.Laws.Names.{cell-within, record-room, word_room, Seeking, none-sought, sought-here, sought-on, sought-all}
+use Rattle.naming.specs.Laws.Names.{cell_within, record_room, word_room, Seeking, none_sought, sought_here, sought_on, sought_all}
 use Rattle.naming.proofs.names.number_of.Statement.{statement}
 use Rattle.naming.proofs.names.number_of.Tie as tie
 
@@ -12,25 +12,25 @@ invariant-loop text records decls m n name k₀ k = Seeking text records decls n
 abbrev decreases-loop : tie.decreases-loop
 decreases-loop text records decls m n name k₀ k = m - k
 
-pub number-of-spec : {M : Type 1} → statement M
-number-of-spec =
+pub number_of_spec : {M : Type 1} → statement M
+number_of_spec =
     tie.close
     (tie.spec
     invariant-loop
     decreases-loop
-    (λ c. none-sought _ _ _ _ _ _)
-    (λ c κs. cell-within c.before.before.before.before.before.before.requires _ c.loop-test.true)
+    (λ c. none_sought _ _ _ _ _ _)
+    (λ c κs. cell_within c.before.before.before.before.before.before.requires _ c.loop-test.true)
     (λ c. search rules)
-    (λ c κs. record-room c.before.before.before.before.before.before.before.requires c.before.loop-test.true c.get16.ensures)
+    (λ c κs. record_room c.before.before.before.before.before.before.before.requires c.before.loop-test.true c.get16.ensures)
     (λ c. search rules)
-    (λ c κs. record-room c.before.before.before.before.before.before.before.before.requires c.before.before.loop-test.true c.before.get16.ensures)
+    (λ c κs. record_room c.before.before.before.before.before.before.before.before.requires c.before.before.loop-test.true c.before.get16.ensures)
     (λ c κs. word_room c.before.before.before.before.before.before.before.before.before.requires c.before.before.before.loop-test.true c.before.before.get16.ensures c.place_at.ensures c.before.size-at.ensures)
     (λ c v.
-    sought-here c.before.before.before.before.before.before.loop.invariant c.before.before.before.before.before.loop-test.true c.before.before.before.before.get16.ensures c.before.before.place_at.ensures c.before.before.before.size-at.ensures c.before.is_name.ensures
+    sought_here c.before.before.before.before.before.before.loop.invariant c.before.before.before.before.before.loop-test.true c.before.before.before.before.get16.ensures c.before.before.place_at.ensures c.before.before.before.size-at.ensures c.before.is_name.ensures
     c.if1.true v)
     (λ c. search rules)
     (λ c. search rules)
     (λ c.
-    sought-on c.before.before.before.before.before.before.loop.invariant c.before.before.before.before.before.loop-test.true c.before.before.before.before.get16.ensures c.before.before.place_at.ensures c.before.before.before.size-at.ensures c.before.is_name.ensures
+    sought_on c.before.before.before.before.before.before.loop.invariant c.before.before.before.before.before.loop-test.true c.before.before.before.before.get16.ensures c.before.before.place_at.ensures c.before.before.before.size-at.ensures c.before.is_name.ensures
     c.if1.false)
-    (λ c v. sought-all c.before.loop.invariant c.loop-test.false v))
+    (λ c v. sought_all c.before.loop.invariant c.loop-test.false v))

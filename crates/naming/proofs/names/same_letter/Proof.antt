@@ -6,5 +6,5 @@ use lib.Dec.{eqb}
 use Rattle.naming.proofs.names.same_letter.Statement.{statement}
 use Rattle.naming.proofs.names.same_letter.Tie as tie
 
-pub same-letter-spec : {M : Type 1} → statement M
-same-letter-spec = tie.close (tie.spec (λ c κs. search rules) (λ c κs. search rules) (λ c. ap₂ eqb c.before.upper.ensures c.upper2.ensures))
+pub same_letter_spec : {M : Type 1} → statement M
+same_letter_spec = tie.close (tie.spec (λ c κs. search rules) (λ c κs. search rules) (λ c. ap₂ eqb c.before.upper.ensures c.upper2.ensures))

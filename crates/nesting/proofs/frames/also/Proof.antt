@@ -2,16 +2,16 @@
 use borrow.Author.Rules.{rules}
 use Rattle.nesting.proofs.frames.also.Statement.{statement}
 use Rattle.nesting.proofs.frames.also.Tie as tie
-use Rattle.nesting.specs.Laws.Grouping.{also-shown, none-also, own_room, to-resume}
+use Rattle.nesting.specs.Laws.Grouping.{also_shown, none_also, own_room, to_resume}
 
-pub also-spec : {M : Type 1} → statement M
-also-spec =
+pub also_spec : {M : Type 1} → statement M
+also_spec =
     tie.close
     (tie.spec
-    (λ c. search (rules, none-also))
+    (λ c. search (rules, none_also))
     (λ c κs. search rules)
     (λ c κs. search (rules, own_room))
     (λ c κs. search rules)
-    (λ c κs. search (rules, to-resume))
+    (λ c κs. search (rules, to_resume))
     (λ c. search rules)
-    (λ c. search (rules, also-shown)))
+    (λ c. search (rules, also_shown)))

@@ -2,10 +2,10 @@
 use borrow.Author.Rules.{rules}
 use Rattle.nesting.proofs.labels.put_label.Statement.{statement}
 use Rattle.nesting.proofs.labels.put_label.Tie as tie
-use Rattle.nesting.specs.Laws.Holding.{label-put}
+use Rattle.nesting.specs.Laws.Holding.{label_put}
 
-pub put-label-spec : {M : Type 1} → statement M
-put-label-spec =
+pub put_label_spec : {M : Type 1} → statement M
+put_label_spec =
     tie.close
     (tie.spec
     (λ c. search rules)
@@ -19,4 +19,4 @@ put-label-spec =
     (λ c. search rules)
     (λ c κs. search rules)
     (λ c. search rules)
-    (λ c. search (rules, label-put)))
+    (λ c. search (rules, label_put)))

@@ -6,5 +6,5 @@ use lib.Dec.{eqb}
 use Rattle.nesting.proofs.nests.flag_at.Statement.{statement}
 use Rattle.nesting.proofs.nests.flag_at.Tie as tie
 
-pub flag-at-spec : {M : Type 1} → statement M
-flag-at-spec = tie.close (tie.spec (λ c κs. search rules) (λ c. ap (λ (x : ℕ). eqb x 1) c.get16.ensures))
+pub flag_at_spec : {M : Type 1} → statement M
+flag_at_spec = tie.close (tie.spec (λ c κs. search rules) (λ c. ap (λ (x : ℕ). eqb x 1) c.get16.ensures))

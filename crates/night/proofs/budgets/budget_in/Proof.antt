@@ -12,8 +12,8 @@ invariant-loop word steps₀ i₀ steps i = steps ≤ 4294967295
 abbrev decreases-loop : tie.decreases-loop
 decreases-loop word steps₀ i₀ steps i = length word - i
 
-pub budget-in-spec : {M : Type 1} → statement M
-budget-in-spec =
+pub budget_in_spec : {M : Type 1} → statement M
+budget_in_spec =
     tie.close
     (tie.spec
     invariant-loop

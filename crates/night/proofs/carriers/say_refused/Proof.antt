@@ -6,8 +6,8 @@ use lib.ListN.{length-take}
 use Rattle.night.proofs.carriers.say_refused.Statement.{statement}
 use Rattle.night.proofs.carriers.say_refused.Tie as tie
 
-pub say-refused-spec : {M : Type 1} → statement M
-say-refused-spec =
+pub say_refused_spec : {M : Type 1} → statement M
+say_refused_spec =
     tie.close
     (tie.spec
     (λ c. search rules)

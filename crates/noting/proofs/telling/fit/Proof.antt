@@ -5,30 +5,30 @@ use native.Mathlib.Omega.{arith}
 use mathlib.Core.Path.{sym, ◌∙◌}
 use borrow.Author.Tests.{not-true, not-false}
 use Rattle.listed.specs.Named.{entry_of}
-use Rattle.noting.specs.Laws.Telling.{fits-past, fits-taken, fits-other, fits-same}
+use Rattle.noting.specs.Laws.Telling.{fits_past, fits_taken, fits_other, fits_same}
 use Rattle.noting.proofs.telling.fit.Statement.{statement}
 use Rattle.noting.proofs.telling.fit.Tie as tie
 
 returns : tie.Need-returns
 returns c =
     let t = c.before.before.before.before.before.before.before.before in
-    fits-past t.requires (entry_of t.args.x) t.args.i (omega arith) c.before.before.put16.ensures
+    fits_past t.requires (entry_of t.args.x) t.args.i (omega arith) c.before.before.put16.ensures
 
 returns-2 : tie.Need-returns-2
 returns-2 c =
     let t = c.before.before.before.before.before.before.before.before.before.before.before in
-    fits-taken t.requires (entry_of t.args.x) t.args.i (omega arith) c.before.before.before.before.before.get16.ensures c.before.before.before.before.if2.true (c.before.before.spoil.ensures _ t.requires)
+    fits_taken t.requires (entry_of t.args.x) t.args.i (omega arith) c.before.before.before.before.before.get16.ensures c.before.before.before.before.if2.true (c.before.before.spoil.ensures _ t.requires)
 
 returns-3 : tie.Need-returns-3
 returns-3 c =
     let t = c.before.before.before.before.before.before.before.before.before.before.before.before.before.before in
-    fits-other t.requires (entry_of t.args.x) t.args.i (omega arith) c.before.before.before.before.before.before.before.before.get16.ensures c.before.before.before.before.before.before.before.if2.false c.before.before.before.before.before.before.entry_at.ensures
+    fits_other t.requires (entry_of t.args.x) t.args.i (omega arith) c.before.before.before.before.before.before.before.before.get16.ensures c.before.before.before.before.before.before.before.if2.false c.before.before.before.before.before.before.entry_at.ensures
     (sym (not-true _ c.before.before.before.before.if3.true) ∙ c.before.before.before.before.before.is_same.ensures) (c.before.before.spoil2.ensures _ t.requires)
 
 returns-4 : tie.Need-returns-4
 returns-4 c =
     let t = c.before.before.before.before.before.before.before.before.before.before.before.before.before.before.before.before.before.before in
-    fits-same t.requires (entry_of t.args.x) t.args.i (omega arith) c.before.before.before.before.before.before.before.before.before.before.before.before.get16.ensures c.before.before.before.before.before.before.before.before.before.before.before.if2.false c.before.before.before.before.before.before.before.before.before.before.entry_at.ensures
+    fits_same t.requires (entry_of t.args.x) t.args.i (omega arith) c.before.before.before.before.before.before.before.before.before.before.before.before.get16.ensures c.before.before.before.before.before.before.before.before.before.before.before.if2.false c.before.before.before.before.before.before.before.before.before.before.entry_at.ensures
     (sym (not-false _ c.before.before.before.before.before.before.before.before.if3.false) ∙ c.before.before.before.before.before.before.before.before.before.is_same.ensures) c.before.before.before.before.before.before.put162.ensures c.before.before.put163.ensures
 
 pub fit_spec : {M : Type 1} → statement M

@@ -10,8 +10,8 @@ returns : tie.Need-returns
 returns c =
     λ l s. spoils s (omega arith) (omega arith) c.before.before.before.before.before.before.before.before.before.get16.ensures c.before.before.before.before.before.before.before.before.lesser.ensures c.before.before.before.before.before.before.put16.ensures c.before.before.put162.ensures
 
-pub spoil-spec : {M : Type 1} → statement M
-spoil-spec =
+pub spoil_spec : {M : Type 1} → statement M
+spoil_spec =
     tie.close
     (tie.spec
     (λ c κs. search rules)

@@ -5,8 +5,8 @@ use mathlib.Core.Path.{refl}
 use Rattle.operands.proofs.accesses.in_word.Statement.{statement}
 use Rattle.operands.proofs.accesses.in_word.Tie as tie
 
-pub in-word-spec : {M : Type 1} → statement M
-in-word-spec =
+pub in_word_spec : {M : Type 1} → statement M
+in_word_spec =
     tie.close
     (tie.spec
     (λ c κs. search rules)

@@ -7,8 +7,8 @@ use Rattle.operands.specs.Laws.Cells.{low_byte}
 use Rattle.operands.proofs.accesses.lowest_bit.Statement.{statement}
 use Rattle.operands.proofs.accesses.lowest_bit.Tie as tie
 
-pub lowest-bit-spec : {M : Type 1} → statement M
-lowest-bit-spec =
+pub lowest_bit_spec : {M : Type 1} → statement M
+lowest_bit_spec =
     tie.close
     (tie.spec
     (λ c. search rules)

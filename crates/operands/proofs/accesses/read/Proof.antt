@@ -3,7 +3,7 @@
 use borrow.Author.Rules.{rules}
 use mathlib.Core.Path.{sym, ap, subst}
 use Rattle.rules.specs.Values.{field}
-use Rattle.operands.specs.Answers.{Readable, readAt}
+use Rattle.operands.specs.Answers.{Readable, read_at}
 use Rattle.operands.proofs.accesses.read.Statement.{statement}
 use Rattle.operands.proofs.accesses.read.Tie as tie
 
@@ -15,5 +15,5 @@ read_spec =
     (λ c. search rules)
     (λ c κs. (subst (Readable c.before.before.before.before.args.carriers.now) c.before.at2.given.1 c.before.before.before.before.requires).0)
     (λ c κs. (subst (Readable c.before.before.before.before.before.args.carriers.now) c.before.before.at2.given.1 c.before.before.before.before.before.requires).1)
-    (λ c. ap (readAt c.before.before.before.before.args.carriers.now) (sym c.before.at.given.1))
-    (λ c. rw (c.field.ensures, c.before.get64.ensures) (ap (readAt c.before.before.before.before.before.before.args.carriers.now) (sym c.before.before.before.at2.given.1))))
+    (λ c. ap (read_at c.before.before.before.before.args.carriers.now) (sym c.before.at.given.1))
+    (λ c. rw (c.field.ensures, c.before.get64.ensures) (ap (read_at c.before.before.before.before.before.before.args.carriers.now) (sym c.before.before.before.at2.given.1))))

@@ -10,47 +10,47 @@ use borrow.Fn.Kinds.{In}
 use borrow.Fn.PlainCycle.{Measures, is, falls, and}
 use Rattle.operands.specs.Laws.Accesses as accesses
 use Rattle.operands.specs.Laws.Operands as operands
-use Rattle.operands.specs.Laws.Operands.{notFirst, not-first-small}
+use Rattle.operands.specs.Laws.Operands.{not_first, not_first_small}
 use Rattle.operands.specs.Laws.Expressions as expressions
 use Rattle.operands.specs.Expressions.{ChainAt}
 use Rattle.operands.specs.Laws.Going as goings
 use Rattle.operands.specs.Laws.Going.{Going}
 use Rattle.operands.proofs.expressions.access.Reads as access
-use Rattle.operands.proofs.expressions.access.Kinds as access-kinds
-use Rattle.operands.proofs.expressions.+access_chain_expression_indexed_nested_operand_pair.Lts-access as access-lts
+use Rattle.operands.proofs.expressions.access.Kinds as access_kinds
+use Rattle.operands.proofs.expressions.+access_chain_expression_indexed_nested_operand_pair.Lts-access as access_lts
 use Rattle.operands.proofs.expressions.chain.Reads as chain
-use Rattle.operands.proofs.expressions.chain.Kinds as chain-kinds
-use Rattle.operands.proofs.expressions.+access_chain_expression_indexed_nested_operand_pair.Lts-chain as chain-lts
+use Rattle.operands.proofs.expressions.chain.Kinds as chain_kinds
+use Rattle.operands.proofs.expressions.+access_chain_expression_indexed_nested_operand_pair.Lts-chain as chain_lts
 use Rattle.operands.proofs.expressions.expression.Reads as expression
-use Rattle.operands.proofs.expressions.expression.Kinds as expression-kinds
-use Rattle.operands.proofs.expressions.+access_chain_expression_indexed_nested_operand_pair.Lts-expression as expression-lts
+use Rattle.operands.proofs.expressions.expression.Kinds as expression_kinds
+use Rattle.operands.proofs.expressions.+access_chain_expression_indexed_nested_operand_pair.Lts-expression as expression_lts
 use Rattle.operands.proofs.expressions.indexed.Reads as indexed
-use Rattle.operands.proofs.expressions.indexed.Kinds as indexed-kinds
-use Rattle.operands.proofs.expressions.+access_chain_expression_indexed_nested_operand_pair.Lts-indexed as indexed-lts
+use Rattle.operands.proofs.expressions.indexed.Kinds as indexed_kinds
+use Rattle.operands.proofs.expressions.+access_chain_expression_indexed_nested_operand_pair.Lts-indexed as indexed_lts
 use Rattle.operands.proofs.expressions.nested.Reads as nested
-use Rattle.operands.proofs.expressions.nested.Kinds as nested-kinds
-use Rattle.operands.proofs.expressions.+access_chain_expression_indexed_nested_operand_pair.Lts-nested as nested-lts
+use Rattle.operands.proofs.expressions.nested.Kinds as nested_kinds
+use Rattle.operands.proofs.expressions.+access_chain_expression_indexed_nested_operand_pair.Lts-nested as nested_lts
 use Rattle.operands.proofs.expressions.operand.Reads as operand
-use Rattle.operands.proofs.expressions.operand.Kinds as operand-kinds
-use Rattle.operands.proofs.expressions.+access_chain_expression_indexed_nested_operand_pair.Lts-operand as operand-lts
+use Rattle.operands.proofs.expressions.operand.Kinds as operand_kinds
+use Rattle.operands.proofs.expressions.+access_chain_expression_indexed_nested_operand_pair.Lts-operand as operand_lts
 use Rattle.operands.proofs.expressions.pair.Reads as pair
-use Rattle.operands.proofs.expressions.pair.Kinds as pair-kinds
-use Rattle.operands.proofs.expressions.+access_chain_expression_indexed_nested_operand_pair.Lts-pair as pair-lts
-use Rattle.operands.proofs.accesses.in_word.Reads as in-word-reads
-use Rattle.operands.proofs.accesses.read.Reads as read-reads
-use Rattle.operands.proofs.accesses.subscripted.Reads as subscripted-reads
-use Rattle.nots.proofs.behind_nots.Reads as behind-nots-reads
-use Rattle.operands.proofs.expressions.closed_by.Reads as closed-by-reads
-use Rattle.operands.proofs.expressions.negated.Reads as negated-reads
-use Rattle.operands.proofs.operators.settle.Reads as settle-reads
-use Rattle.operands.proofs.operators.wait.Reads as wait-reads
-use Rattle.table.proofs.operators.tightness_of.Reads as tightness-of-reads
-use Rattle.records.proofs.fields.kind_at.Reads as kind-at-reads
-use Rattle.records.proofs.fields.size_at.Reads as size-at-reads
-use Rattle.records.proofs.fields.value_at.Reads as value-at-reads
-use Rattle.table.proofs.views.bits_size.Reads as bits-size-reads
-use Rattle.values.proofs.operate.Reads as operate-reads
-use Rattle.values.proofs.operate_bits.Reads as operate-bits-reads
+use Rattle.operands.proofs.expressions.pair.Kinds as pair_kinds
+use Rattle.operands.proofs.expressions.+access_chain_expression_indexed_nested_operand_pair.Lts-pair as pair_lts
+use Rattle.operands.proofs.accesses.in_word.Reads as in_word_reads
+use Rattle.operands.proofs.accesses.read.Reads as read_reads
+use Rattle.operands.proofs.accesses.subscripted.Reads as subscripted_reads
+use Rattle.nots.proofs.behind_nots.Reads as behind_nots_reads
+use Rattle.operands.proofs.expressions.closed_by.Reads as closed_by_reads
+use Rattle.operands.proofs.expressions.negated.Reads as negated_reads
+use Rattle.operands.proofs.operators.settle.Reads as settle_reads
+use Rattle.operands.proofs.operators.wait.Reads as wait_reads
+use Rattle.table.proofs.operators.tightness_of.Reads as tightness_of_reads
+use Rattle.records.proofs.fields.kind_at.Reads as kind_at_reads
+use Rattle.records.proofs.fields.size_at.Reads as size_at_reads
+use Rattle.records.proofs.fields.value_at.Reads as value_at_reads
+use Rattle.table.proofs.views.bits_size.Reads as bits_size_reads
+use Rattle.values.proofs.operate.Reads as operate_reads
+use Rattle.values.proofs.operate_bits.Reads as operate_bits_reads
 use Rattle.operands.proofs.expressions.+access_chain_expression_indexed_nested_operand_pair.{
   statement,
 }
@@ -58,249 +58,249 @@ use Rattle.operands.proofs.expressions.+access_chain_expression_indexed_nested_o
   close,
 }
 
-abbrev μ-access : Measures 3 access-kinds.ps ℕ
-μ-access κs a = a.1.1.1.1.0 * 16 + 1
+abbrev μ_access : Measures 3 access_kinds.ps ℕ
+μ_access κs a = a.1.1.1.1.0 * 16 + 1
 
-abbrev μ-chain : Measures 3 chain-kinds.ps ℕ
-μ-chain κs a = a.1.1.1.1.1.1.1.1.0 * 16 + 6
+abbrev μ_chain : Measures 3 chain_kinds.ps ℕ
+μ_chain κs a = a.1.1.1.1.1.1.1.1.0 * 16 + 6
 
-abbrev μ-expression : Measures 3 expression-kinds.ps ℕ
-μ-expression κs a = a.1.1.1.1.0 * 16 + 8
+abbrev μ_expression : Measures 3 expression_kinds.ps ℕ
+μ_expression κs a = a.1.1.1.1.0 * 16 + 8
 
-abbrev μ-indexed : Measures 3 indexed-kinds.ps ℕ
-μ-indexed κs a = a.1.1.1.1.0 * 16
+abbrev μ_indexed : Measures 3 indexed_kinds.ps ℕ
+μ_indexed κs a = a.1.1.1.1.0 * 16
 
-abbrev μ-nested : Measures 3 nested-kinds.ps ℕ
-μ-nested κs a = a.1.1.1.1.0 * 16 + 2 + 2 * notFirst a.0.now a.1.1.1.0
+abbrev μ_nested : Measures 3 nested_kinds.ps ℕ
+μ_nested κs a = a.1.1.1.1.0 * 16 + 2 + 2 * not_first a.0.now a.1.1.1.0
 
-abbrev μ-operand : Measures 3 operand-kinds.ps ℕ
-μ-operand κs a = a.1.1.1.1.0 * 16 + 3 + 2 * notFirst a.0.now a.1.1.1.0
+abbrev μ_operand : Measures 3 operand_kinds.ps ℕ
+μ_operand κs a = a.1.1.1.1.0 * 16 + 3 + 2 * not_first a.0.now a.1.1.1.0
 
-abbrev μ-pair : Measures 3 pair-kinds.ps ℕ
-μ-pair κs a = a.1.1.1.1.1.1.0 * 16 + 7
+abbrev μ_pair : Measures 3 pair_kinds.ps ℕ
+μ_pair κs a = a.1.1.1.1.1.1.0 * 16 + 7
 
-abbrev access-at : ℕ → In 3 access-kinds.ps
-access-at t = and 3 access-kinds.ps (is 3 access-kinds.ps μ-access t) access.Pre
+abbrev access_at : ℕ → In 3 access_kinds.ps
+access_at t = and 3 access_kinds.ps (is 3 access_kinds.ps μ_access t) access.Pre
 
-abbrev access-below : ℕ → In 3 access-kinds.ps
-access-below t = and 3 access-kinds.ps (falls 3 access-kinds.ps ◌<◌ μ-access t) access.Pre
+abbrev access_below : ℕ → In 3 access_kinds.ps
+access_below t = and 3 access_kinds.ps (falls 3 access_kinds.ps ◌<◌ μ_access t) access.Pre
 
-abbrev chain-at : ℕ → In 3 chain-kinds.ps
-chain-at t = and 3 chain-kinds.ps (is 3 chain-kinds.ps μ-chain t) chain.Pre
+abbrev chain_at : ℕ → In 3 chain_kinds.ps
+chain_at t = and 3 chain_kinds.ps (is 3 chain_kinds.ps μ_chain t) chain.Pre
 
-abbrev chain-below : ℕ → In 3 chain-kinds.ps
-chain-below t = and 3 chain-kinds.ps (falls 3 chain-kinds.ps ◌<◌ μ-chain t) chain.Pre
+abbrev chain_below : ℕ → In 3 chain_kinds.ps
+chain_below t = and 3 chain_kinds.ps (falls 3 chain_kinds.ps ◌<◌ μ_chain t) chain.Pre
 
-abbrev expression-at : ℕ → In 3 expression-kinds.ps
-expression-at t =
-    and 3 expression-kinds.ps (is 3 expression-kinds.ps μ-expression t) expression.Pre
+abbrev expression_at : ℕ → In 3 expression_kinds.ps
+expression_at t =
+    and 3 expression_kinds.ps (is 3 expression_kinds.ps μ_expression t) expression.Pre
 
-abbrev expression-below : ℕ → In 3 expression-kinds.ps
-expression-below t =
-    and 3 expression-kinds.ps (falls 3 expression-kinds.ps ◌<◌ μ-expression t) expression.Pre
+abbrev expression_below : ℕ → In 3 expression_kinds.ps
+expression_below t =
+    and 3 expression_kinds.ps (falls 3 expression_kinds.ps ◌<◌ μ_expression t) expression.Pre
 
-abbrev indexed-at : ℕ → In 3 indexed-kinds.ps
-indexed-at t = and 3 indexed-kinds.ps (is 3 indexed-kinds.ps μ-indexed t) indexed.Pre
+abbrev indexed_at : ℕ → In 3 indexed_kinds.ps
+indexed_at t = and 3 indexed_kinds.ps (is 3 indexed_kinds.ps μ_indexed t) indexed.Pre
 
-abbrev indexed-below : ℕ → In 3 indexed-kinds.ps
-indexed-below t = and 3 indexed-kinds.ps (falls 3 indexed-kinds.ps ◌<◌ μ-indexed t) indexed.Pre
+abbrev indexed_below : ℕ → In 3 indexed_kinds.ps
+indexed_below t = and 3 indexed_kinds.ps (falls 3 indexed_kinds.ps ◌<◌ μ_indexed t) indexed.Pre
 
-abbrev nested-at : ℕ → In 3 nested-kinds.ps
-nested-at t = and 3 nested-kinds.ps (is 3 nested-kinds.ps μ-nested t) nested.Pre
+abbrev nested_at : ℕ → In 3 nested_kinds.ps
+nested_at t = and 3 nested_kinds.ps (is 3 nested_kinds.ps μ_nested t) nested.Pre
 
-abbrev nested-below : ℕ → In 3 nested-kinds.ps
-nested-below t = and 3 nested-kinds.ps (falls 3 nested-kinds.ps ◌<◌ μ-nested t) nested.Pre
+abbrev nested_below : ℕ → In 3 nested_kinds.ps
+nested_below t = and 3 nested_kinds.ps (falls 3 nested_kinds.ps ◌<◌ μ_nested t) nested.Pre
 
-abbrev operand_at : ℕ → In 3 operand-kinds.ps
-operand_at t = and 3 operand-kinds.ps (is 3 operand-kinds.ps μ-operand t) operand.Pre
+abbrev operand_at : ℕ → In 3 operand_kinds.ps
+operand_at t = and 3 operand_kinds.ps (is 3 operand_kinds.ps μ_operand t) operand.Pre
 
-abbrev operand_below : ℕ → In 3 operand-kinds.ps
-operand_below t = and 3 operand-kinds.ps (falls 3 operand-kinds.ps ◌<◌ μ-operand t) operand.Pre
+abbrev operand_below : ℕ → In 3 operand_kinds.ps
+operand_below t = and 3 operand_kinds.ps (falls 3 operand_kinds.ps ◌<◌ μ_operand t) operand.Pre
 
-abbrev pair-at : ℕ → In 3 pair-kinds.ps
-pair-at t = and 3 pair-kinds.ps (is 3 pair-kinds.ps μ-pair t) pair.Pre
+abbrev pair_at : ℕ → In 3 pair_kinds.ps
+pair_at t = and 3 pair_kinds.ps (is 3 pair_kinds.ps μ_pair t) pair.Pre
 
-abbrev pair-below : ℕ → In 3 pair-kinds.ps
-pair-below t = and 3 pair-kinds.ps (falls 3 pair-kinds.ps ◌<◌ μ-pair t) pair.Pre
+abbrev pair_below : ℕ → In 3 pair_kinds.ps
+pair_below t = and 3 pair_kinds.ps (falls 3 pair_kinds.ps ◌<◌ μ_pair t) pair.Pre
 
-abbrev chain-Inv-loop : chain-lts.invariant-loop
-chain-Inv-loop records values carriers op a m p depth ops₀ numbers₀ lengths₀ last₀ at₀ ops numbers lengths last at =
+abbrev chain_Inv_loop : chain_lts.invariant-loop
+chain_Inv_loop records values carriers op a m p depth ops₀ numbers₀ lengths₀ last₀ at₀ ops numbers lengths last at =
     (v : ChainAt records values carriers op a m last₀.number last₀.bits p depth) → Going v ops numbers lengths last.count last.number last.bits at
 
-abbrev chain-μ-loop : chain-lts.decreases-loop
-chain-μ-loop records values carriers op a m p depth ops₀ numbers₀ lengths₀ last₀ at₀ ops numbers lengths last at = length records - at
+abbrev chain_μ_loop : chain_lts.decreases-loop
+chain_μ_loop records values carriers op a m p depth ops₀ numbers₀ lengths₀ last₀ at₀ ops numbers lengths last at = length records - at
 
-pub +access-chain-expression-indexed-nested-operand-pair-spec : {M : Type 1} → statement M
-+access-chain-expression-indexed-nested-operand-pair-spec =
-    close μ-access μ-chain μ-expression μ-indexed μ-nested μ-operand μ-pair (λ t. access-lts.spec (
-      kind-at-reads.Asked,
-      kind-at-reads.Learnt,
-      bits-size-reads.Asked,
-      bits-size-reads.Learnt,
-      in-word-reads.Asked,
-      in-word-reads.Learnt,
-      indexed-below t,
+pub +access_chain_expression_indexed_nested_operand_pair_spec : {M : Type 1} → statement M
++access_chain_expression_indexed_nested_operand_pair_spec =
+    close μ_access μ_chain μ_expression μ_indexed μ_nested μ_operand μ_pair (λ t. access_lts.spec (
+      kind_at_reads.Asked,
+      kind_at_reads.Learnt,
+      bits_size_reads.Asked,
+      bits_size_reads.Learnt,
+      in_word_reads.Asked,
+      in_word_reads.Learnt,
+      indexed_below t,
       indexed.Post,
     )
-    (access-at t)
+    (access_at t)
     access.Post
-    (λ c. omega (arith, accesses.access-small c.before.before.before.requires.1))
-    (λ c κs. search accesses.second-room)
-    (λ c. omega (arith, accesses.access-small c.before.before.before.before.before.requires.1))
-    (λ c. omega (arith, accesses.access-small c.before.before.before.before.before.requires.1))
-    (λ c κs. accesses.plain-bits c.before.before.before.before.before.requires.1 c.before.kind_at.ensures c.if1.true)
-    (λ c. omega (arith, accesses.plain-small c.before.before.before.before.before.before.requires.1 c.before.before.kind_at.ensures c.before.if1.true c.bits-size.ensures))
+    (λ c. omega (arith, accesses.access_small c.before.before.before.requires.1))
+    (λ c κs. search accesses.second_room)
+    (λ c. omega (arith, accesses.access_small c.before.before.before.before.before.requires.1))
+    (λ c. omega (arith, accesses.access_small c.before.before.before.before.before.requires.1))
+    (λ c κs. accesses.plain_bits c.before.before.before.before.before.requires.1 c.before.kind_at.ensures c.if1.true)
+    (λ c. omega (arith, accesses.plain_small c.before.before.before.before.before.before.requires.1 c.before.before.kind_at.ensures c.before.if1.true c.bits-size.ensures))
     (λ c κs. search (rules, accesses.cell_room))
-    (λ c v. search accesses.plain-answer)
+    (λ c v. search accesses.plain_answer)
     (λ c κs. (omega (arith, c.before.before.before.before.before.requires.0), (c.before.before.before.before.before.requires.1, sym c.before.kind_at.ensures ∙ c.if1.false)))
     (λ c v. c.indexed.ensures v))
-    (λ t. chain-lts.spec (
-      kind-at-reads.Asked,
-      kind-at-reads.Learnt,
-      tightness-of-reads.Asked,
-      tightness-of-reads.Learnt,
-      settle-reads.Asked,
-      settle-reads.Learnt,
-      wait-reads.Asked,
-      wait-reads.Learnt,
+    (λ t. chain_lts.spec (
+      kind_at_reads.Asked,
+      kind_at_reads.Learnt,
+      tightness_of_reads.Asked,
+      tightness_of_reads.Learnt,
+      settle_reads.Asked,
+      settle_reads.Learnt,
+      wait_reads.Asked,
+      wait_reads.Learnt,
       operand_below t,
       operand.Post,
     )
-    (chain-at t)
+    (chain_at t)
     chain.Post
-    chain-Inv-loop
-    chain-μ-loop
+    chain_Inv_loop
+    chain_μ_loop
     (λ c v. goings.going v c.before.before.before.requires.1.1)
-    (λ c κs. goings.going-room c.loop.invariant c.before.before.before.before.requires.1.0)
+    (λ c κs. goings.going_room c.loop.invariant c.before.before.before.before.requires.1.0)
     (λ c κs. search rules)
-    (λ c κs. search goings.settle-at)
-    (λ c v. goings.going-ends c.before.before.before.before.before.before.before.loop.invariant v c.before.before.before.before.before.before.kind_at.ensures c.before.before.before.before.before.tightness-of.ensures c.if1.true c.before.settle.ensures)
+    (λ c κs. search goings.settle_at)
+    (λ c v. goings.going_ends c.before.before.before.before.before.before.before.loop.invariant v c.before.before.before.before.before.before.kind_at.ensures c.before.before.before.before.before.tightness-of.ensures c.if1.true c.before.settle.ensures)
     (λ c κs. omega (arith, goings.slot c.before.before.before.before.before.before.before.before.before.before.loop.invariant c.before.before.before.before.before.before.before.before.before.before.before.before.before.before.requires.1.0 c.before.before.before.before.before.before.before.before.before.kind_at.ensures c.before.before.before.before.before.before.before.before.tightness-of.ensures c.before.before.before.if1.false c.before.before.before.before.settle.ensures))
-    (λ c. omega (arith, goings.going-small c.before.before.before.before.before.before.before.before.before.before.before.loop.invariant c.before.before.before.before.before.before.before.before.before.before.before.before.before.before.before.requires.1.0))
-    (λ c κs. (omega (arith, not-first-small c.before.before.before.before.before.before.before.before.before.before.before.before.before.before.before.args.records.now (c.before.before.before.before.before.before.before.before.before.before.before.loop.at + 1), c.before.before.before.before.before.before.before.before.before.before.before.before.before.before.before.requires.0), goings.next-operand c.before.before.before.before.before.before.before.before.before.before.before.loop.invariant c.before.before.before.before.before.before.before.before.before.before.before.before.before.before.before.requires.1.0 c.before.before.before.before.before.before.before.before.before.before.kind_at.ensures c.before.before.before.before.before.before.before.before.before.tightness-of.ensures c.before.before.before.before.if1.false))
+    (λ c. omega (arith, goings.going_small c.before.before.before.before.before.before.before.before.before.before.before.loop.invariant c.before.before.before.before.before.before.before.before.before.before.before.before.before.before.before.requires.1.0))
+    (λ c κs. (omega (arith, not_first_small c.before.before.before.before.before.before.before.before.before.before.before.before.before.before.before.args.records.now (c.before.before.before.before.before.before.before.before.before.before.before.loop.at + 1), c.before.before.before.before.before.before.before.before.before.before.before.before.before.before.before.requires.0), goings.next_operand c.before.before.before.before.before.before.before.before.before.before.before.loop.invariant c.before.before.before.before.before.before.before.before.before.before.before.before.before.before.before.requires.1.0 c.before.before.before.before.before.before.before.before.before.before.kind_at.ensures c.before.before.before.before.before.before.before.before.before.tightness-of.ensures c.before.before.before.before.if1.false))
     (λ c. search rules)
-    (λ c v. goings.going-faults c.before.before.before.before.before.before.before.before.before.before.before.before.before.before.before.loop.invariant v c.before.before.before.before.before.before.before.before.before.before.before.before.before.before.kind_at.ensures c.before.before.before.before.before.before.before.before.before.before.before.before.before.tightness-of.ensures c.before.before.before.before.before.before.before.before.if1.false c.before.before.before.before.before.before.before.before.before.settle.ensures c.before.before.before.operand.ensures c.before.right.given.1)
+    (λ c v. goings.going_faults c.before.before.before.before.before.before.before.before.before.before.before.before.before.before.before.loop.invariant v c.before.before.before.before.before.before.before.before.before.before.before.before.before.before.kind_at.ensures c.before.before.before.before.before.before.before.before.before.before.before.before.before.tightness-of.ensures c.before.before.before.before.before.before.before.before.if1.false c.before.before.before.before.before.before.before.before.before.settle.ensures c.before.before.before.operand.ensures c.before.right.given.1)
     (λ c. search rules)
     (λ c. omega (arith, goings.slot c.before.before.before.before.before.before.before.before.before.before.before.before.before.before.before.before.loop.invariant c.before.before.before.before.before.before.before.before.before.before.before.before.before.before.before.before.before.before.before.before.requires.1.0 c.before.before.before.before.before.before.before.before.before.before.before.before.before.before.before.kind_at.ensures c.before.before.before.before.before.before.before.before.before.before.before.before.before.before.tightness-of.ensures c.before.before.before.before.before.before.before.before.before.if1.false c.before.before.before.before.before.before.before.before.before.before.settle.ensures))
-    (λ c. goings.going-falls c.before.before.before.before.before.before.before.before.before.before.before.before.before.before.before.before.loop.invariant c.before.before.before.before.before.before.before.before.before.before.before.before.before.before.before.before.before.before.before.before.requires.1.0 c.before.before.before.before.before.before.before.before.before.before.before.before.before.before.before.kind_at.ensures c.before.before.before.before.before.before.before.before.before.before.before.before.before.before.tightness-of.ensures c.before.before.before.before.before.before.before.before.before.if1.false c.before.before.before.before.operand.ensures c.before.before.right2.given.1)
-    (λ c v. goings.going-turn c.before.before.before.before.before.before.before.before.before.before.before.before.before.before.before.before.loop.invariant v c.before.before.before.before.before.before.before.before.before.before.before.before.before.before.before.kind_at.ensures c.before.before.before.before.before.before.before.before.before.before.before.before.before.before.tightness-of.ensures c.before.before.before.before.before.before.before.before.before.if1.false c.before.before.before.before.before.before.before.before.before.before.settle.ensures c.before.before.before.before.before.wait.ensures c.before.before.before.before.operand.ensures c.before.before.right2.given.1))
-    (λ t. expression-lts.spec (
+    (λ c. goings.going_falls c.before.before.before.before.before.before.before.before.before.before.before.before.before.before.before.before.loop.invariant c.before.before.before.before.before.before.before.before.before.before.before.before.before.before.before.before.before.before.before.before.requires.1.0 c.before.before.before.before.before.before.before.before.before.before.before.before.before.before.before.kind_at.ensures c.before.before.before.before.before.before.before.before.before.before.before.before.before.before.tightness-of.ensures c.before.before.before.before.before.before.before.before.before.if1.false c.before.before.before.before.operand.ensures c.before.before.right2.given.1)
+    (λ c v. goings.going_turn c.before.before.before.before.before.before.before.before.before.before.before.before.before.before.before.before.loop.invariant v c.before.before.before.before.before.before.before.before.before.before.before.before.before.before.before.kind_at.ensures c.before.before.before.before.before.before.before.before.before.before.before.before.before.before.tightness-of.ensures c.before.before.before.before.before.before.before.before.before.if1.false c.before.before.before.before.before.before.before.before.before.before.settle.ensures c.before.before.before.before.before.wait.ensures c.before.before.before.before.operand.ensures c.before.before.right2.given.1))
+    (λ t. expression_lts.spec (
       operand_below t,
       operand.Post,
-      kind-at-reads.Asked,
-      kind-at-reads.Learnt,
-      tightness-of-reads.Asked,
-      tightness-of-reads.Learnt,
-      pair-below t,
+      kind_at_reads.Asked,
+      kind_at_reads.Learnt,
+      tightness_of_reads.Asked,
+      tightness_of_reads.Learnt,
+      pair_below t,
       pair.Post,
     )
-    (expression-at t)
+    (expression_at t)
     expression.Post
-    (λ c κs. (omega (arith, not-first-small c.before.before.before.args.records.now c.before.before.before.args.i, c.before.before.before.requires.0), search expressions.first-operand))
+    (λ c κs. (omega (arith, not_first_small c.before.before.before.args.records.now c.before.before.before.args.i, c.before.before.before.requires.0), search expressions.first_operand))
     (λ c. search rules)
     (λ c. search rules)
-    (λ c κs. search expressions.first-room)
+    (λ c κs. search expressions.first_room)
     (λ c κs. search rules)
-    (λ c v. search expressions.expression-single)
-    (λ c κs. (omega (arith, c.before.before.before.before.before.before.before.before.before.before.requires.0), search expressions.pair-at))
-    (λ c v. search expressions.expression-faults)
-    (λ c v. search expressions.pair-answers))
-    (λ t. indexed-lts.spec (
-      expression-below t,
+    (λ c v. search expressions.expression_single)
+    (λ c κs. (omega (arith, c.before.before.before.before.before.before.before.before.before.before.requires.0), search expressions.pair_at))
+    (λ c v. search expressions.expression_faults)
+    (λ c v. search expressions.pair_answers))
+    (λ t. indexed_lts.spec (
+      expression_below t,
       expression.Post,
-      subscripted-reads.Asked,
-      subscripted-reads.Learnt,
+      subscripted_reads.Asked,
+      subscripted_reads.Learnt,
     )
-    (indexed-at t)
+    (indexed_at t)
     indexed.Post
-    (λ c. omega (arith, accesses.access-small c.before.before.before.requires.1.0))
-    (λ c. search accesses.index-deep)
-    (λ c κs. (omega (arith, accesses.index-deep c.before.before.before.requires.1.0 c.before.before.before.requires.1.1, c.before.before.before.requires.0), search accesses.index-view))
+    (λ c. omega (arith, accesses.access_small c.before.before.before.requires.1.0))
+    (λ c. search accesses.index_deep)
+    (λ c κs. (omega (arith, accesses.index_deep c.before.before.before.requires.1.0 c.before.before.before.requires.1.1, c.before.before.before.requires.0), search accesses.index_view))
     (λ c. search rules)
     (λ c. search rules)
-    (λ c. omega (arith, accesses.index-small c.before.before.before.before.before.before.before.requires.1.0 c.before.before.before.before.before.before.before.requires.1.1 c.before.before.before.expression.ensures c.before.index2.given.1))
-    (λ c κs. search accesses.index-inside)
-    (λ c v. search accesses.index-faults)
-    (λ c v. search accesses.index-answer))
-    (λ t. nested-lts.spec (
-      kind-at-reads.Asked,
-      kind-at-reads.Learnt,
-      expression-below t,
+    (λ c. omega (arith, accesses.index_small c.before.before.before.before.before.before.before.requires.1.0 c.before.before.before.before.before.before.before.requires.1.1 c.before.before.before.expression.ensures c.before.index2.given.1))
+    (λ c κs. search accesses.index_inside)
+    (λ c v. search accesses.index_faults)
+    (λ c v. search accesses.index_answer))
+    (λ t. nested_lts.spec (
+      kind_at_reads.Asked,
+      kind_at_reads.Learnt,
+      expression_below t,
       expression.Post,
-      closed-by-reads.Asked,
-      closed-by-reads.Learnt,
-      behind-nots-reads.Asked,
-      behind-nots-reads.Learnt,
+      closed_by_reads.Asked,
+      closed_by_reads.Learnt,
+      behind_nots_reads.Asked,
+      behind_nots_reads.Learnt,
       operand_below t,
       operand.Post,
-      negated-reads.Asked,
-      negated-reads.Learnt,
+      negated_reads.Asked,
+      negated_reads.Learnt,
     )
-    (nested-at t)
+    (nested_at t)
     nested.Post
-    (λ c κs. search operands.nested-room)
-    (λ c. omega (arith, operands.nested-small c.before.before.before.before.before.requires.1))
-    (λ c. search operands.group-deep)
-    (λ c κs. (omega (arith, operands.group-deep c.before.before.before.before.before.requires.1 c.before.kind_at.ensures c.if1.true, c.before.before.before.before.before.requires.0), search operands.group-view))
-    (λ c κs. search operands.group-closable)
-    (λ c v. search operands.group-answer)
-    (λ c κs. search operands.nested-in)
-    (λ c κs. (omega (arith, operands.nots-fall c.before.before.before.before.before.before.requires.1 c.before.before.kind_at.ensures c.before.if1.false c.behind-nots.ensures, c.before.before.before.before.before.before.requires.0), search operands.nots-view))
-    (λ c. search operands.nots-before)
-    (λ c κs. operands.nots-invertible c.before.before.before.before.before.before.before.requires.1 c.before.before.before.kind_at.ensures c.before.before.if1.false c.before.behind-nots.ensures c.operand.result c.operand.ensures)
-    (λ c v. search operands.nots-answer))
-    (λ t. operand-lts.spec (
-      kind-at-reads.Asked,
-      kind-at-reads.Learnt,
-      access-below t,
+    (λ c κs. search operands.nested_room)
+    (λ c. omega (arith, operands.nested_small c.before.before.before.before.before.requires.1))
+    (λ c. search operands.group_deep)
+    (λ c κs. (omega (arith, operands.group_deep c.before.before.before.before.before.requires.1 c.before.kind_at.ensures c.if1.true, c.before.before.before.before.before.requires.0), search operands.group_view))
+    (λ c κs. search operands.group_closable)
+    (λ c v. search operands.group_answer)
+    (λ c κs. search operands.nested_in)
+    (λ c κs. (omega (arith, operands.nots_fall c.before.before.before.before.before.before.requires.1 c.before.before.kind_at.ensures c.before.if1.false c.behind-nots.ensures, c.before.before.before.before.before.before.requires.0), search operands.nots_view))
+    (λ c. search operands.nots_before)
+    (λ c κs. operands.nots_invertible c.before.before.before.before.before.before.before.requires.1 c.before.before.before.kind_at.ensures c.before.before.if1.false c.before.behind-nots.ensures c.operand.result c.operand.ensures)
+    (λ c v. search operands.nots_answer))
+    (λ t. operand_lts.spec (
+      kind_at_reads.Asked,
+      kind_at_reads.Learnt,
+      access_below t,
       access.Post,
-      read-reads.Asked,
-      read-reads.Learnt,
-      value-at-reads.Asked,
-      value-at-reads.Learnt,
-      size-at-reads.Asked,
-      size-at-reads.Learnt,
-      nested-below t,
+      read_reads.Asked,
+      read_reads.Learnt,
+      value_at_reads.Asked,
+      value_at_reads.Learnt,
+      size_at_reads.Asked,
+      size_at_reads.Learnt,
+      nested_below t,
       nested.Post,
     )
     (operand_at t)
     operand.Post
-    (λ c κs. search operands.operand-room)
-    (λ c κs. (omega (arith, c.before.before.before.before.before.requires.0), search operands.name-view))
-    (λ c κs. search operands.name-readable)
-    (λ c v. search operands.name-answer)
+    (λ c κs. search operands.operand_room)
+    (λ c κs. (omega (arith, c.before.before.before.before.before.requires.0), search operands.name_view))
+    (λ c κs. search operands.name_readable)
+    (λ c v. search operands.name_answer)
     (λ c κs. search operands.value_room)
-    (λ c κs. search operands.operand-room)
+    (λ c κs. search operands.operand_room)
     (λ c. omega (arith, operands.operand_small c.before.before.before.before.before.before.before.before.requires.1))
-    (λ c v. search operands.constant-answer)
-    (λ c κs. (omega (arith, c.before.before.before.before.before.before.requires.0), search operands.nested-at))
-    (λ c v. search operands.nested-answers))
-    λ t. pair-lts.spec (
-      kind-at-reads.Asked,
-      kind-at-reads.Learnt,
+    (λ c v. search operands.constant_answer)
+    (λ c κs. (omega (arith, c.before.before.before.before.before.before.requires.0), search operands.nested_at))
+    (λ c v. search operands.nested_answers))
+    λ t. pair_lts.spec (
+      kind_at_reads.Asked,
+      kind_at_reads.Learnt,
       operand_below t,
       operand.Post,
-      tightness-of-reads.Asked,
-      tightness-of-reads.Learnt,
-      operate-reads.Asked,
-      operate-reads.Learnt,
-      operate-bits-reads.Asked,
-      operate-bits-reads.Learnt,
-      chain-below t,
+      tightness_of_reads.Asked,
+      tightness_of_reads.Learnt,
+      operate_reads.Asked,
+      operate_reads.Learnt,
+      operate_bits_reads.Asked,
+      operate_bits_reads.Learnt,
+      chain_below t,
       chain.Post,
     )
-    (pair-at t)
+    (pair_at t)
     pair.Post
-    (λ c κs. search expressions.operator-room)
-    (λ c. omega (arith, expressions.operator-small c.before.before.before.before.requires.1))
-    (λ c κs. (omega (arith, not-first-small c.before.before.before.before.args.records.now (c.before.before.before.before.args.at + 1), c.before.before.before.before.requires.0), search expressions.second-operand))
+    (λ c κs. search expressions.operator_room)
+    (λ c. omega (arith, expressions.operator_small c.before.before.before.before.requires.1))
+    (λ c κs. (omega (arith, not_first_small c.before.before.before.before.args.records.now (c.before.before.before.before.args.at + 1), c.before.before.before.before.requires.0), search expressions.second_operand))
     (λ c. search rules)
     (λ c. search rules)
-    (λ c κs. search expressions.second-room)
+    (λ c κs. search expressions.second_room)
     (λ c κs. search rules)
-    (λ c κs. search expressions.pair-operands)
-    (λ c κs. expressions.pair-lengths c.before.before.before.before.before.before.before.before.before.before.before.before.requires.1 c.before.before.before.before.before.before.before.operand.ensures c.before.before.before.before.before.right2.given.1 c.before.before.before.before.before.before.before.before.kind_at.ensures c.before.before.before.kind-at2.ensures c.before.before.tightness-of.ensures c.before.if1.true)
-    (λ c v. search expressions.pair-answer)
-    (λ c κs. (omega (arith, c.before.before.before.before.before.before.before.before.before.before.before.requires.0), (search expressions.chain-at, refl)))
-    (λ c v. search expressions.pair-faults)
-    (λ c v. search expressions.chain-answers)
+    (λ c κs. search expressions.pair_operands)
+    (λ c κs. expressions.pair_lengths c.before.before.before.before.before.before.before.before.before.before.before.before.requires.1 c.before.before.before.before.before.before.before.operand.ensures c.before.before.before.before.before.right2.given.1 c.before.before.before.before.before.before.before.before.kind_at.ensures c.before.before.before.kind-at2.ensures c.before.before.tightness-of.ensures c.before.if1.true)
+    (λ c v. search expressions.pair_answer)
+    (λ c κs. (omega (arith, c.before.before.before.before.before.before.before.before.before.before.before.requires.0), (search expressions.chain_at, refl)))
+    (λ c v. search expressions.pair_faults)
+    (λ c v. search expressions.chain_answers)

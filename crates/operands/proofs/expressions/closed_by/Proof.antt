@@ -7,8 +7,8 @@ use Rattle.operands.specs.Answers.{Closable, closed}
 use Rattle.operands.proofs.expressions.closed_by.Statement.{statement}
 use Rattle.operands.proofs.expressions.closed_by.Tie as tie
 
-pub closed-by-spec : {M : Type 1} → statement M
-closed-by-spec =
+pub closed_by_spec : {M : Type 1} → statement M
+closed_by_spec =
     tie.close
     (tie.spec
     (λ c. search rules)

@@ -4,7 +4,7 @@ use borrow.Author.Rules.{rules}
 use borrow.Author.Tests.{eq-eqb, ne_eqb}
 use mathlib.Core.Path.{◌≡◌, refl, sym, ap, subst}
 use Prim.Native.Nat.{ℕ, ◌%◌}
-use Rattle.rules.specs.Values.{notNumber}
+use Rattle.rules.specs.Values.{not_number}
 use Rattle.operands.specs.declared.expressions.Evaluated.{Evaluated}
 use Rattle.operands.specs.declared.expressions.Evaluated.TheVariants.{Value}
 use Rattle.operands.specs.Answers.{Invertible, inverted}
@@ -15,11 +15,11 @@ module _ (k : ℕ) {v : Evaluated} {x n p : ℕ} (e : v ≡ Value x n p) where
   even : k % 2 ≡ 0 → Value x n p ≡ inverted k v
   even z = rw (e, eq-eqb (k % 2) 0 z) refl
 
-  odd : (k % 2 ≡ 0 → ⊥) → {y : ℕ} → y ≡ notNumber n x → Value y n p ≡ inverted k v
+  odd : (k % 2 ≡ 0 → ⊥) → {y : ℕ} → y ≡ not_number n x → Value y n p ≡ inverted k v
   odd z q = rw (e, ne_eqb (k % 2) 0 z, q) refl
 
-pub negated-spec : {M : Type 1} → statement M
-negated-spec =
+pub negated_spec : {M : Type 1} → statement M
+negated_spec =
     tie.close
     (tie.spec
     (λ c. search rules)

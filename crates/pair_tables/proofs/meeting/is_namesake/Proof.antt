@@ -6,8 +6,8 @@ use Rattle.pair_tables.specs.Laws.Seeking.{other_name, same_name}
 use Rattle.pair_tables.proofs.meeting.is_namesake.Statement.{statement}
 use Rattle.pair_tables.proofs.meeting.is_namesake.Tie as tie
 
-pub is-namesake-spec : {M : Type 1} → statement M
-is-namesake-spec =
+pub is_namesake_spec : {M : Type 1} → statement M
+is_namesake_spec =
     tie.close
     (tie.spec
     (λ c κs. let t = c.before.before.before.before.before.requires in (name_in t.0, name_in t.1.1))

@@ -5,8 +5,8 @@ use Rattle.pair_tables.specs.Laws.Shapes.{span_same}
 use Rattle.pair_tables.proofs.shapes.same_names.Statement.{statement}
 use Rattle.pair_tables.proofs.shapes.same_names.Tie as tie
 
-pub same-names-spec : {M : Type 1} → statement M
-same-names-spec =
+pub same_names_spec : {M : Type 1} → statement M
+same_names_spec =
     tie.close
     (tie.spec
     (λ c. search rules)

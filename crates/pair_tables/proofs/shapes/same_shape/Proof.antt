@@ -1,12 +1,12 @@
 -- `pair_tables::shapes::same_shape` meets its contract: the names of words, then those of bits.
 -- Assumes nothing.
 use borrow.Author.Rules.{rules}
-use Rattle.pair_tables.specs.Laws.Shapes.{other-words, by_bits}
+use Rattle.pair_tables.specs.Laws.Shapes.{other_words, by_bits}
 use Rattle.pair_tables.proofs.shapes.same_shape.Statement.{statement}
 use Rattle.pair_tables.proofs.shapes.same_shape.Tie as tie
 
-pub same-shape-spec : {M : Type 1} → statement M
-same-shape-spec =
+pub same_shape_spec : {M : Type 1} → statement M
+same_shape_spec =
     tie.close
     (tie.spec
     (λ c κs. search rules)
@@ -14,7 +14,7 @@ same-shape-spec =
     (λ c κs. search rules)
     (λ c v w.
     let s = c.before.before.before in
-    other-words s.words_of.ensures c.before.before.words-of2.ensures c.before.same_names.ensures v w c.if1.true)
+    other_words s.words_of.ensures c.before.before.words-of2.ensures c.before.same_names.ensures v w c.if1.true)
     (λ c κs. search rules)
     (λ c κs. search rules)
     (λ c κs. search rules)

@@ -9,20 +9,20 @@ use mathlib.Core.List.{List}
 use Prim.Native.Nat.{ℕ, ◌+◌, ◌-◌, ◌<◌, ◌≤◌}
 use lib.ListN.{length, get_or}
 use Rattle.rules.specs.Text.Bytes.{fold}
-use Rattle.rules.specs.Text.Scan.{sameBytes}
-use Rattle.records.specs.Holds.{foldedAt}
-use Rattle.pair_tables.specs.Laws.Words.{same_next, differ-next, same_end}
+use Rattle.rules.specs.Text.Scan.{same_bytes}
+use Rattle.records.specs.Holds.{folded_at}
+use Rattle.pair_tables.specs.Laws.Words.{same_next, differ_next, same_end}
 use Rattle.pair_tables.proofs.words.same_runs.Statement.{statement}
 use Rattle.pair_tables.proofs.words.same_runs.Tie as tie
 
 record Inv (text₀ text₁ : List ℕ) (a b n k : ℕ) : Type 0 where
   pub within : k ≤ n
-  pub left : sameBytes (foldedAt text₀ (a + k) (n - k)) (foldedAt text₁ (b + k) (n - k)) ≡ sameBytes (foldedAt text₀ a n) (foldedAt text₁ b n)
+  pub left : same_bytes (folded_at text₀ (a + k) (n - k)) (folded_at text₁ (b + k) (n - k)) ≡ same_bytes (folded_at text₀ a n) (folded_at text₁ b n)
 
 module _ {text₀ text₁ : List ℕ} {a b n k : ℕ} (inv : Inv text₀ text₁ a b n k) (ha : a + n ≤ length text₀) (hb : b + n ≤ length text₁) where
   differ : {x y : ℕ} → k < n → x ≡ fold (get_or text₀ (a + k) 0) → y ≡ fold (get_or text₁ (b + k) 0) → (x ≡ y → ⊥)
-      → false ≡ sameBytes (foldedAt text₀ a n) (foldedAt text₁ b n)
-  differ h e f d = sym (differ-next text₀ text₁ a b n k ha hb h (λ g. d (e ∙ g ∙ sym f))) ∙ inv.left
+      → false ≡ same_bytes (folded_at text₀ a n) (folded_at text₁ b n)
+  differ h e f d = sym (differ_next text₀ text₁ a b n k ha hb h (λ g. d (e ∙ g ∙ sym f))) ∙ inv.left
 
   passed : {x y : ℕ} → k < n → x ≡ fold (get_or text₀ (a + k) 0) → y ≡ fold (get_or text₁ (b + k) 0) → x ≡ y → Inv text₀ text₁ a b n (k + 1)
   passed h e f g = record {
@@ -30,7 +30,7 @@ module _ {text₀ text₁ : List ℕ} {a b n k : ℕ} (inv : Inv text₀ text₁
     left = sym (same_next text₀ text₁ a b n k ha hb h (sym e ∙ g ∙ f)) ∙ inv.left;
   }
 
-  ended : n ≤ k → true ≡ sameBytes (foldedAt text₀ a n) (foldedAt text₁ b n)
+  ended : n ≤ k → true ≡ same_bytes (folded_at text₀ a n) (folded_at text₁ b n)
   ended h = sym (same_end text₀ text₁ a b n k h) ∙ inv.left
 
 abbrev invariant-loop : tie.invariant-loop
@@ -42,8 +42,8 @@ decreases-loop text₀ text₁ a b n k₀ k = n - k
 start : (text₀ text₁ : List ℕ) (a b n : ℕ) → Inv text₀ text₁ a b n 0
 start text₀ text₁ a b n = record { within = omega arith; left = simp (add-zero, sub-zero) }
 
-pub same-runs-spec : {M : Type 1} → statement M
-same-runs-spec =
+pub same_runs_spec : {M : Type 1} → statement M
+same_runs_spec =
     tie.close
     (tie.spec
     invariant-loop

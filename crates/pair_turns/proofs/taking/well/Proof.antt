@@ -2,15 +2,15 @@
 -- Assumes nothing.
 use mathlib.Core.Path.{sym, ap}
 use mathlib.Core.Bool.{Bool}
-use Rattle.pair_turns.specs.Taking.{wellEnded}
+use Rattle.pair_turns.specs.Taking.{well_ended}
 use Rattle.pair_turns.proofs.taking.well.Statement.{statement}
 use Rattle.pair_turns.proofs.taking.well.Tie as tie
 
 returns : tie.Need-returns
-returns c = sym (ap (λ (b : Bool). wellEnded b c.before.args.steps) c.if1.true)
+returns c = sym (ap (λ (b : Bool). well_ended b c.before.args.steps) c.if1.true)
 
 returns-2 : tie.Need-returns-2
-returns-2 c = sym (ap (λ (b : Bool). wellEnded b c.before.args.steps) c.if1.false)
+returns-2 c = sym (ap (λ (b : Bool). well_ended b c.before.args.steps) c.if1.false)
 
-pub well-spec : {M : Type 1} → statement M
-well-spec = tie.close (tie.spec returns returns-2)
+pub well_spec : {M : Type 1} → statement M
+well_spec = tie.close (tie.spec returns returns-2)

@@ -5,9 +5,9 @@ use mathlib.Core.Path.{◌≡◌, refl, ◌∙◌}
 use native.Mathlib.Omega.{arith}
 use borrow.Author.Rules.{rules}
 use lib.ListN.{length}
-use Rattle.table.specs.Laws.Kth.{kth-room}
-use Rattle.declare.specs.Laws.Small.{small-there}
-use Rattle.pair_turns.specs.Laws.Views.{Filling, none_filled, all-filled, to-count, filled_more}
+use Rattle.table.specs.Laws.Kth.{kth_room}
+use Rattle.declare.specs.Laws.Small.{small_there}
+use Rattle.pair_turns.specs.Laws.Views.{Filling, none_filled, all_filled, to_count, filled_more}
 use Rattle.pair_turns.proofs.views.fill_view.Statement.{statement}
 use Rattle.pair_turns.proofs.views.fill_view.Tie as tie
 
@@ -17,20 +17,20 @@ invariant-loop records values decls m firsts view₀ at₀ k₀ view at k = (len
 abbrev decreases-loop : tie.decreases-loop
 decreases-loop records values decls m firsts view₀ at₀ k₀ view at k = m - k
 
-pub fill-view-spec : {M : Type 1} → statement M
-fill-view-spec =
+pub fill_view_spec : {M : Type 1} → statement M
+fill_view_spec =
     tie.close
     (tie.spec
     invariant-loop
     decreases-loop
     (λ c. (refl, none_filled))
-    (λ c κs. search (rules, kth-room))
+    (λ c κs. search (rules, kth_room))
     (λ c. search rules)
-    (λ c κs. search (rules, small-there))
+    (λ c κs. search (rules, small_there))
     (λ c κs. search rules)
     (λ c. search rules)
     (λ c κs. let r = c.before.before.before.before.before.before.before.before.before.before.before.requires in
-    let fits = to-count c.before.before.before.before.before.loop.invariant.1 c.before.before.before.before.loop-test.true c.before.before.before.get16.ensures c.before.before.words-in.ensures.0 r.0 in
+    let fits = to_count c.before.before.before.before.before.loop.invariant.1 c.before.before.before.before.loop-test.true c.before.before.before.get16.ensures c.before.before.words-in.ensures.0 r.0 in
     (omega (arith, fits, r.1.1, c.before.before.before.before.before.loop.invariant.0), omega (arith, fits, r.1.2 c.before.before.before.before.before.loop.k c.before.before.before.before.loop-test.true, c.get162.ensures)))
     (λ c. omega (arith, c.before.before.before.before.before.before.before.before.loop.invariant.1.room, c.before.before.before.before.before.words-in.ensures.1))
     (λ c. search rules)
@@ -40,4 +40,4 @@ fill-view-spec =
       filled_more c.before.before.before.before.before.before.before.before.loop.invariant.1 c.before.before.before.before.before.before.before.loop-test.true c.before.before.before.before.before.before.get16.ensures c.before.before.before.before.before.words-in.ensures.0 c.before.before.before.before.before.before.before.before.before.before.before.before.before.before.requires.0 c.before.before.before.get162.ensures c.before.before.count-up.ensures,
     ))
     (λ c. search rules)
-    (λ c. all-filled c.before.loop.invariant.1 c.loop-test.false))
+    (λ c. all_filled c.before.loop.invariant.1 c.loop-test.false))

@@ -3,7 +3,7 @@
 use Prim.Native.Nat.{◌-◌}
 use native.Mathlib.Omega.{arith}
 use borrow.Author.Rules.{rules}
-use Rattle.pair_turns.specs.Laws.Words.{Back, none-back, back_more, all_back}
+use Rattle.pair_turns.specs.Laws.Words.{Back, none_back, back_more, all_back}
 use Rattle.pair_turns.proofs.words.put_back.Statement.{statement}
 use Rattle.pair_turns.proofs.words.put_back.Tie as tie
 
@@ -13,13 +13,13 @@ invariant-loop view n own carriers₀ i₀ carriers i = Back view n own carriers
 abbrev decreases-loop : tie.decreases-loop
 decreases-loop view n own carriers₀ i₀ carriers i = n - i
 
-pub put-back-spec : {M : Type 1} → statement M
-put-back-spec =
+pub put_back_spec : {M : Type 1} → statement M
+put_back_spec =
     tie.close
     (tie.spec
     invariant-loop
     decreases-loop
-    (λ c. none-back)
+    (λ c. none_back)
     (λ c κs. search rules)
     (λ c. search rules)
     (λ c κs. search rules)

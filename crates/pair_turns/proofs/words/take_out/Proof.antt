@@ -5,8 +5,8 @@ use mathlib.Core.Path.{◌≡◌, refl, ◌∙◌}
 use native.Mathlib.Omega.{arith}
 use borrow.Author.Rules.{rules}
 use lib.ListN.{length}
-use Rattle.cells.specs.Laws.{put-size}
-use Rattle.pair_turns.specs.Laws.Words.{Out, none_out, out-more, all-out}
+use Rattle.cells.specs.Laws.{put_size}
+use Rattle.pair_turns.specs.Laws.Words.{Out, none_out, out_more, all_out}
 use Rattle.pair_turns.proofs.words.take_out.Statement.{statement}
 use Rattle.pair_turns.proofs.words.take_out.Tie as tie
 
@@ -16,8 +16,8 @@ invariant-loop view n carriers own₀ i₀ own i = (i ≤ n) × ((length own ≡
 abbrev decreases-loop : tie.decreases-loop
 decreases-loop view n carriers own₀ i₀ own i = n - i
 
-pub take-out-spec : {M : Type 1} → statement M
-take-out-spec =
+pub take_out_spec : {M : Type 1} → statement M
+take_out_spec =
     tie.close
     (tie.spec
     invariant-loop
@@ -29,6 +29,6 @@ take-out-spec =
     (λ c κs. search rules)
     (λ c. search rules)
     (λ c. search rules)
-    (λ c. let i = c.before.before.before.before.before.before.before.loop.invariant in (omega arith, (put-size _ _ _ _ _ c.before.before.put64.ensures ∙ i.1.0, out-more i.1.1 c.before.before.before.before.get16.ensures c.before.before.before.get64.ensures (omega (arith, c.before.before.before.get64.type-inv)) c.before.before.put64.ensures (omega arith))))
+    (λ c. let i = c.before.before.before.before.before.before.before.loop.invariant in (omega arith, (put_size _ _ _ _ _ c.before.before.put64.ensures ∙ i.1.0, out_more i.1.1 c.before.before.before.before.get16.ensures c.before.before.before.get64.ensures (omega (arith, c.before.before.before.get64.type-inv)) c.before.before.put64.ensures (omega arith))))
     (λ c. search rules)
-    (λ c. all-out c.before.before.before.before.before.requires.0 c.before.loop.invariant.1.1 c.loop-test.false))
+    (λ c. all_out c.before.before.before.before.before.requires.0 c.before.loop.invariant.1.1 c.loop-test.false))

@@ -3,41 +3,41 @@
 use borrow.Author.Rules.{rules}
 use native.Mathlib.Omega.{arith}
 use Rattle.pair_tables.specs.Standing.{standing}
-use Rattle.pairing.specs.Laws.Outcome.{firsts-room, declined-by, begun-by, refused-both}
+use Rattle.pairing.specs.Laws.Outcome.{firsts_room, declined_by, begun_by, refused_both}
 use Rattle.pairing.proofs.texts.pair_accepted.Statement.{statement}
 use Rattle.pairing.proofs.texts.pair_accepted.Tie as tie
 
-judge-requires : tie.Need-judge-requires
-judge-requires c κs = let q = c.before.before.before.before.before.before.before.before.before.before.before.before.before.before.before.before.before.before.requires.0 in ((standing q.1, standing q.2), firsts-room q.2 (search rules))
+judge_requires : tie.Need-judge-requires
+judge_requires c κs = let q = c.before.before.before.before.before.before.before.before.before.before.before.before.before.before.before.before.before.before.requires.0 in ((standing q.1, standing q.2), firsts_room q.2 (search rules))
 
-refused-answer-requires : tie.Need-refused-answer-requires
-refused-answer-requires c κs other =
-    let q = c.before.before.before.before.before.before.before.before.before.before.before.before.before.before.before.before.before.before.before.before.before.before.before.requires.0 in omega (arith, (declined-by (c.before.before.before.before.judge.ensures (standing q.1) (standing q.2)) c.before.side.given.1).near other)
+refused_answer_requires : tie.Need-refused-answer-requires
+refused_answer_requires c κs other =
+    let q = c.before.before.before.before.before.before.before.before.before.before.before.before.before.before.before.before.before.before.before.before.before.before.before.requires.0 in omega (arith, (declined_by (c.before.before.before.before.judge.ensures (standing q.1) (standing q.2)) c.before.side.given.1).near other)
 
-turned-requires : tie.Need-turned-requires
-turned-requires c κs =
+turned_requires : tie.Need-turned-requires
+turned_requires c κs =
     let p = c.before.before.before.before.before.before.before.before.before.before.before.before.before.before.before.before.before.before.before.before.before.before.before.before.before.before.before.before.before.before.requires in
     let q = p.0 in (
-      (q.0, q.1, q.2, begun-by (c.before.before.before.before.before.before.before.before.before.before.before.judge.ensures (standing q.1) (standing q.2)) c.before.before.before.before.before.before.before.before.enum_told.given.1),
+      (q.0, q.1, q.2, begun_by (c.before.before.before.before.before.before.before.before.before.before.before.judge.ensures (standing q.1) (standing q.2)) c.before.before.before.before.before.before.before.before.enum_told.given.1),
       (p.1.0, (p.1.1.0, (p.1.1.1.0, (p.1.1.1.1, search rules)))),
     )
 
 returns : tie.Need-returns
 returns c =
     let q = c.before.before.before.before.before.before.before.before.before.before.before.before.before.before.before.before.before.before.before.before.before.before.before.before.requires.0 in
-    refused-both q.1 q.2 (declined-by (c.before.before.before.before.before.judge.ensures (standing q.1) (standing q.2)) c.before.before.side.given.1) c.refused-answer.ensures
+    refused_both q.1 q.2 (declined_by (c.before.before.before.before.before.judge.ensures (standing q.1) (standing q.2)) c.before.before.side.given.1) c.refused-answer.ensures
 
-pub pair-accepted-spec : {M : Type 1} → statement M
-pair-accepted-spec =
+pub pair_accepted_spec : {M : Type 1} → statement M
+pair_accepted_spec =
     tie.close
     (tie.spec
     (λ c. search rules)
-    judge-requires
+    judge_requires
     (λ c. search rules)
-    refused-answer-requires
+    refused_answer_requires
     (λ c. search rules)
     (λ c. search rules)
-    turned-requires
+    turned_requires
     (λ c. search rules)
     (λ c. search rules)
     (λ c. search rules)

@@ -5,8 +5,8 @@ use native.Mathlib.Omega.{arith}
 use Rattle.pairing.proofs.turned.begin.Statement.{statement}
 use Rattle.pairing.proofs.turned.begin.Tie as tie
 
-fill-view-requires : tie.Need-fill-view-requires
-fill-view-requires c κs =
+fill_view_requires : tie.Need-fill-view-requires
+fill_view_requires c κs =
     let p = c.before.before.before.before.before.before.before.before.before.before.before.before.before.before.before.before.before.before.before.before.before.before.before.before.requires in
     let n = p.1.1.1.1.1 in
     ((_, _, _, p.0.3.lawful.declares.ready), (n.room, omega (arith, p.1.0, c.before.before.before.before.before.before.before.before.before.prepare.auto.1.1.1.0), n.small))
@@ -19,12 +19,12 @@ returns c words₀ words₁ v u =
       filled = c.before.before.before.before.before.before.before.before.before.before.before.before.fill-view.ensures _ _ _ u.lawful.declares.ready;
     }
 
-pub begin-spec : {M : Type 1} → statement M
-begin-spec =
+pub begin_spec : {M : Type 1} → statement M
+begin_spec =
     tie.close
     (tie.spec
     (λ c κs. let p = c.before.before.before.before.before.before.before.before.before.before.before.before.before.before.requires in ((p.0.0, p.0.2), (p.1.0, p.1.1.1.0)))
-    fill-view-requires
+    fill_view_requires
     (λ c κs. let p = c.before.before.before.before.before.before.before.before.before.before.before.before.before.before.before.before.before.before.before.before.before.before.before.before.before.before.before.before.before.before.requires in ((p.0.1, p.0.3), (p.1.1.0, p.1.1.1.1.0)))
     (λ c. search rules)
     (λ c. search rules)

@@ -2,18 +2,18 @@
 -- Assumes nothing.
 use borrow.Author.Rules.{rules}
 use native.Mathlib.Omega.{arith}
-use Rattle.pairing.specs.Laws.Turned.{numbered, sides, own_room, turns-ended}
+use Rattle.pairing.specs.Laws.Turned.{numbered, sides, own_room, turns_ended}
 use Rattle.pairing.proofs.turned.turned.Statement.{statement}
 use Rattle.pairing.proofs.turned.turned.Tie as tie
 
-begin-requires : tie.Need-begin-requires
-begin-requires c κs =
+begin_requires : tie.Need-begin-requires
+begin_requires c κs =
     let p = c.before.before.before.before.before.before.before.before.before.before.before.before.before.before.before.before.before.before.before.before.requires in
     let q = p.0 in
     ((_, q.0, q.1, q.2), (p.1.0, (p.1.1.0, (p.1.1.1.0, (p.1.1.1.1.0, numbered q.1 q.2 q.3 p.1.1.1.1.1)))))
 
-take-requires : tie.Need-take-requires
-take-requires c κs =
+take_requires : tie.Need-take-requires
+take_requires c κs =
     let p = c.before.before.before.before.before.before.before.before.before.before.before.before.before.before.before.before.before.before.before.before.before.before.before.before.before.before.before.before.before.before.before.before.before.before.before.before.before.before.before.before.before.requires in
     let q = p.0 in
     let k = c.before.before.before.before.before.before.before.before.before.before.before.before.before.before.before.before.before.before.before.before.begin in
@@ -28,15 +28,15 @@ returns c =
     let q = p.0 in
     let k = c.before.before.before.before.before.before.before.before.before.before.before.before.before.before.before.before.before.before.before.before.before.before.before.before.before.before.before.before.begin in
     let t = c.before.before.before.before.before.before.before.take in
-    turns-ended q.1 q.2 q.3 (t.ensures (sides q.1 q.2 q.3 (k.ensures _ q.0 q.1 q.2) (omega (arith, p.1.0, k.auto.1.1.1.0))))
+    turns_ended q.1 q.2 q.3 (t.ensures (sides q.1 q.2 q.3 (k.ensures _ q.0 q.1 q.2) (omega (arith, p.1.0, k.auto.1.1.1.0))))
     t.auto.1.1.1.1.1.1.1.1.1.1.1.0 (λ i. omega (arith, c.before.before.before.before.before.slice-known15.given i)) c.last-answer.ensures
 
-pub turned-spec : {M : Type 1} → statement M
-turned-spec =
+pub turned_spec : {M : Type 1} → statement M
+turned_spec =
     tie.close
     (tie.spec
-    begin-requires
-    take-requires
+    begin_requires
+    take_requires
     (λ c κs. search rules)
     (λ c. omega (arith, c.before.before.before.before.before.before.before.before.before.before.before.before.before.before.before.before.before.before.before.before.before.before.before.before.before.before.before.before.begin.auto.1.0))
     (λ c. omega (arith, c.before.before.before.before.before.before.before.before.before.before.before.before.before.before.before.before.before.before.before.before.before.before.before.before.before.before.before.before.begin.auto.1.1.0))

@@ -4,7 +4,7 @@ use borrow.Author.Rules.{rules}
 use Prim.Native.Nat.{◌-◌}
 use Rattle.rules.specs.Limits.{deepest}
 use Rattle.members.specs.Cells.{cells_in}
-use Rattle.passing.specs.Laws.Counting.{Counted, none-counted, one-counted, top_reached, all-counted}
+use Rattle.passing.specs.Laws.Counting.{Counted, none_counted, one_counted, top_reached, all_counted}
 use Rattle.passing.proofs.climbing.depth_of.Statement.{statement}
 use Rattle.passing.proofs.climbing.depth_of.Tie as tie
 
@@ -14,16 +14,16 @@ invariant-loop cells n x at₀ depth₀ at depth = Counted (cells_in cells n) x 
 abbrev decreases-loop : tie.decreases-loop
 decreases-loop cells n x at₀ depth₀ at depth = deepest - depth
 
-pub depth-of-spec : {M : Type 1} → statement M
-depth-of-spec =
+pub depth_of_spec : {M : Type 1} → statement M
+depth_of_spec =
     tie.close
     (tie.spec
     invariant-loop
     decreases-loop
-    (λ c. search (rules, none-counted))
+    (λ c. search (rules, none_counted))
     (λ c. search (rules, top_reached))
     (λ c κs. search rules)
     (λ c. search rules)
     (λ c. search rules)
-    (λ c. search (rules, one-counted))
-    (λ c. search (rules, all-counted)))
+    (λ c. search (rules, one_counted))
+    (λ c. search (rules, all_counted)))

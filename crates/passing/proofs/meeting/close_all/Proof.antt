@@ -6,7 +6,7 @@ use mathlib.Core.Path.{◌≡◌, refl}
 use lib.ListN.{length}
 use Rattle.traces.specs.Cited.Events.{closes}
 use Rattle.telling.specs.Cited.Passing.{times}
-use Rattle.passing.specs.Laws.Telling.{Left, all_left, one-of-many, none-of-many}
+use Rattle.passing.specs.Laws.Telling.{Left, all_left, one_of_many, none_of_many}
 use Rattle.passing.proofs.meeting.close_all.Statement.{statement}
 use Rattle.passing.proofs.meeting.close_all.Tie as tie
 
@@ -16,24 +16,24 @@ invariant-loop room₀ count left₀ room left = Left room₀ (times count close
 abbrev decreases-loop : tie.decreases-loop
 decreases-loop room₀ count left₀ room left = left
 
-tell-closes-requires : tie.Need-tell-closes-requires invariant-loop decreases-loop
-tell-closes-requires c κs = let pre = c.before.before.before.before.requires in (pre.0, c.before.before.loop.invariant.0.sound _ pre.1)
+tell_closes_requires : tie.Need-tell-closes-requires invariant-loop decreases-loop
+tell_closes_requires c κs = let pre = c.before.before.before.before.requires in (pre.0, c.before.before.loop.invariant.0.sound _ pre.1)
 
 loop-again : tie.Need-loop-preserved invariant-loop decreases-loop
-loop-again c = (one-of-many _ closes (omega arith) c.before.before.before.before.before.loop.invariant.0 c.before.before.tell-closes.ensures, search rules)
+loop-again c = (one_of_many _ closes (omega arith) c.before.before.before.before.before.loop.invariant.0 c.before.before.tell-closes.ensures, search rules)
 
 returns : tie.Need-returns invariant-loop decreases-loop
-returns c = none-of-many _ closes (omega arith) c.before.loop.invariant.0
+returns c = none_of_many _ closes (omega arith) c.before.loop.invariant.0
 
-pub close-all-spec : {M : Type 1} → statement M
-close-all-spec =
+pub close_all_spec : {M : Type 1} → statement M
+close_all_spec =
     tie.close
     (tie.spec
     invariant-loop
     decreases-loop
     (λ c. (all_left _ _, refl))
     (λ c. search rules)
-    tell-closes-requires
+    tell_closes_requires
     (λ c. search rules)
     loop-again
     (λ c. search rules)

@@ -22,7 +22,7 @@ bound : (i : Item) (l h : ℕ) → i ≡ Between l h → h ≡ rules.highest (me
 unfolding rules.highest
 bound i l h e = rw e refl
 
-pub highest-spec : {M : Type 1} → statement M
-highest-spec =
+pub highest_spec : {M : Type 1} → statement M
+highest_spec =
     tie.close
     (tie.spec (λ c. search rules) (λ c. search (rules, fits)) (λ c. search rules) (λ c. search (rules, sum)) (λ c. search (rules, bound)))

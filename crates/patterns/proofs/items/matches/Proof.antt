@@ -6,23 +6,23 @@ use mathlib.Core.Bool.{Bool, ◌&&◌}
 use Prim.Native.Nat.{ℕ}
 use lib.Dec.{leb}
 use Rattle.rules.specs.Selectors as rules
-use Rattle.rules.specs.Faults.Bodies.{patternsMeet}
+use Rattle.rules.specs.Faults.Bodies.{patterns_meet}
 use Rattle.patterns.specs.declared.items.Item.{Item}
 use Rattle.patterns.specs.declared.items.Item.TheVariants.{Pattern, Between}
 use Rattle.patterns.specs.Items.{meant}
-use Rattle.patterns.specs.Laws.Patterns.{agree-meets}
+use Rattle.patterns.specs.Laws.Patterns.{agree_meets}
 use Rattle.patterns.proofs.items.matches.Statement.{statement}
 use Rattle.patterns.proofs.items.matches.Tie as tie
 
-by-pattern : (i : Item) (v f x : ℕ) (r : Bool) → i ≡ Pattern v f → r ≡ patternsMeet 64 v f x 0 → r ≡ rules.matches (meant i) x
+by_pattern : (i : Item) (v f x : ℕ) (r : Bool) → i ≡ Pattern v f → r ≡ patterns_meet 64 v f x 0 → r ≡ rules.matches (meant i) x
 unfolding rules.matches
-by-pattern i v f x r e h = rw e (h ∙ sym (agree-meets 64 v f x))
+by_pattern i v f x r e h = rw e (h ∙ sym (agree_meets 64 v f x))
 
-by-range : (i : Item) (l h x : ℕ) → i ≡ Between l h → leb l x && leb x h ≡ rules.matches (meant i) x
+by_range : (i : Item) (l h x : ℕ) → i ≡ Between l h → leb l x && leb x h ≡ rules.matches (meant i) x
 unfolding rules.matches
-by-range i l h x e = rw e refl
+by_range i l h x e = rw e refl
 
-pub matches-spec : {M : Type 1} → statement M
-matches-spec =
+pub matches_spec : {M : Type 1} → statement M
+matches_spec =
     tie.close
-    (tie.spec (λ c. search rules) (λ c κs. search rules) (λ c. search rules) (λ c. search (rules, by-pattern)) (λ c. search (rules, by-range)))
+    (tie.spec (λ c. search rules) (λ c κs. search rules) (λ c. search rules) (λ c. search (rules, by_pattern)) (λ c. search (rules, by_range)))

@@ -5,7 +5,7 @@ use mathlib.Core.Path.{◌≡◌, refl}
 use mathlib.Core.Bool.{Bool}
 use Prim.Native.Nat.{ℕ, max, min}
 use lib.Dec.{leb}
-use Rattle.rules.specs.Faults.Bodies.{patternsMeet, itemsMeet, reaches}
+use Rattle.rules.specs.Faults.Bodies.{patterns_meet, items_meet, reaches}
 use Rattle.patterns.specs.declared.items.Item.{Item}
 use Rattle.patterns.specs.declared.items.Item.TheVariants.{Pattern, Between}
 use Rattle.patterns.specs.Items.{meant}
@@ -13,24 +13,24 @@ use Rattle.patterns.proofs.meets.items_meet.Statement.{statement}
 use Rattle.patterns.proofs.meets.items_meet.Tie as tie
 
 module _ (a b : Item) (r : Bool) where
-  patterns : (v f w g : ℕ) → a ≡ Pattern v f → b ≡ Pattern w g → r ≡ patternsMeet 64 v f w g → r ≡ itemsMeet (meant a) (meant b)
-  unfolding itemsMeet
+  patterns : (v f w g : ℕ) → a ≡ Pattern v f → b ≡ Pattern w g → r ≡ patterns_meet 64 v f w g → r ≡ items_meet (meant a) (meant b)
+  unfolding items_meet
   patterns v f w g p q e = rw (p, q) e
 
-  pattern-range : (v f l h : ℕ) → a ≡ Pattern v f → b ≡ Between l h → r ≡ reaches 64 v f l h → r ≡ itemsMeet (meant a) (meant b)
-  unfolding itemsMeet
-  pattern-range v f l h p q e = rw (p, q) e
+  pattern_range : (v f l h : ℕ) → a ≡ Pattern v f → b ≡ Between l h → r ≡ reaches 64 v f l h → r ≡ items_meet (meant a) (meant b)
+  unfolding items_meet
+  pattern_range v f l h p q e = rw (p, q) e
 
-  range-pattern : (v f l h : ℕ) → a ≡ Between l h → b ≡ Pattern v f → r ≡ reaches 64 v f l h → r ≡ itemsMeet (meant a) (meant b)
-  unfolding itemsMeet
-  range-pattern v f l h p q e = rw (p, q) e
+  range_pattern : (v f l h : ℕ) → a ≡ Between l h → b ≡ Pattern v f → r ≡ reaches 64 v f l h → r ≡ items_meet (meant a) (meant b)
+  unfolding items_meet
+  range_pattern v f l h p q e = rw (p, q) e
 
-ranges : (a b : Item) (l h m k x y : ℕ) → a ≡ Between l h → b ≡ Between m k → x ≡ max l m → y ≡ min h k → leb x y ≡ itemsMeet (meant a) (meant b)
-unfolding itemsMeet
+ranges : (a b : Item) (l h m k x y : ℕ) → a ≡ Between l h → b ≡ Between m k → x ≡ max l m → y ≡ min h k → leb x y ≡ items_meet (meant a) (meant b)
+unfolding items_meet
 ranges a b l h m k x y p q e d = rw (p, q, e, d) refl
 
-pub items-meet-spec : {M : Type 1} → statement M
-items-meet-spec =
+pub items_meet_spec : {M : Type 1} → statement M
+items_meet_spec =
     tie.close
     (tie.spec
     (λ c. search rules)
@@ -45,6 +45,6 @@ items-meet-spec =
     (λ c κs. search rules)
     (λ c κs. search rules)
     (λ c. search (rules, patterns))
-    (λ c. search (rules, pattern-range))
-    (λ c. search (rules, range-pattern))
+    (λ c. search (rules, pattern_range))
+    (λ c. search (rules, range_pattern))
     (λ c. search (rules, ranges)))

@@ -12,7 +12,7 @@ use lib.Dec.{leb, eqb, eqb-suc-zero, leb-suc-zero}
 use lib.Pow.{pow_pos, pow_mono}
 use Rattle.rules.specs.Faults.Bodies as rules
 use Rattle.patterns.specs.Reaches.{may, either_way}
-use Rattle.patterns.specs.Laws.Reaches.{both-have, neither-has, one_has}
+use Rattle.patterns.specs.Laws.Reaches.{both_have, neither_has, one_has}
 use Rattle.patterns.proofs.meets.reaches.Statement.{statement}
 use Rattle.patterns.proofs.meets.reaches.Tie as tie
 
@@ -31,35 +31,35 @@ positive : (n t : ℕ) → t ≡ 2 ^ n → 0 < t
 positive n t e = rw e (pow_pos n)
 
 fits : (value free n t : ℕ) → n ≤ 64 → 0 < n → t ≡ 2 ^ (n - 1) → value % t + free % t < 2 ^ 64
-fits value free n t short some is-top =
-    let small : t ≤ 2 ^ 63 = rw is-top (pow_mono {j = 63} (omega arith)) in
-    omega (arith, mod-lt value (positive (n - 1) t is-top), mod-lt free (positive (n - 1) t is-top))
+fits value free n t short some is_top =
+    let small : t ≤ 2 ^ 63 = rw is_top (pow_mono {j = 63} (omega arith)) in
+    omega (arith, mod-lt value (positive (n - 1) t is_top), mod-lt free (positive (n - 1) t is_top))
 
 -- one turn: t is the value of the highest bit, and a value of the pattern may lack it or have it
-module _ (v f l h value free low high n t : ℕ) (left : Left v f l h value free low high n) (some : 0 < n) (is-top : t ≡ 2 ^ (n - 1)) where
+module _ (v f l h value free low high n t : ℕ) (left : Left v f l h value free low high n) (some : 0 < n) (is_top : t ≡ 2 ^ (n - 1)) where
   abbrev at_top : rules.reaches 64 v f l h ≡ rules.reaches (suc (n - 1)) value free low high
   at_top = sym left.same ∙ ap (λ k. rules.reaches k value free low high) (omega arith)
 
   decided : low < t → t ≤ high → (without with r : Bool) → without ≡ may 0 (n - 1) value free → with ≡ may 1 (n - 1) value free
       → r ≡ either_way without with (value % t) (free % t) low (high - t) → r ≡ rules.reaches 64 v f l h
-  decided lt le without with r is-without is-with e =
-      rw (at_top, one_has (n - 1) value free low high (rw is-top at lt) (rw is-top at le)) (rw (is-without, is-with, is-top) at e)
+  decided lt le without with r is_without is_with e =
+      rw (at_top, one_has (n - 1) value free low high (rw is_top at lt) (rw is_top at le)) (rw (is_without, is_with, is_top) at e)
 
   -- neither bound has the bit
-  module _ (without : Bool) (is-without : without ≡ may 0 (n - 1) value free) (lt : low < t) (lt' : high < t) where
+  module _ (without : Bool) (is_without : without ≡ may 0 (n - 1) value free) (lt : low < t) (lt' : high < t) where
     abbrev lacking : rules.reaches 64 v f l h ≡ without && rules.reaches (n - 1) (value % t) (free % t) low high
-    lacking = rw (is-without, is-top) (at_top ∙ neither-has (n - 1) value free low high (rw is-top at lt) (rw is-top at lt'))
+    lacking = rw (is_without, is_top) (at_top ∙ neither_has (n - 1) value free low high (rw is_top at lt) (rw is_top at lt'))
 
-    none-lacks : not without ≡ true → false ≡ rules.reaches 64 v f l h
-    none-lacks none = rw (lacking, not-true without none) refl
+    none_lacks : not without ≡ true → false ≡ rules.reaches 64 v f l h
+    none_lacks none = rw (lacking, not-true without none) refl
 
-    all-lack : not without ≡ false → Left v f l h (value % t) (free % t) low high (n - 1)
-    all-lack all = let short = left.short in record { short = omega arith; same = sym (lacking ∙ rw (not-false without all) refl) }
+    all_lack : not without ≡ false → Left v f l h (value % t) (free % t) low high (n - 1)
+    all_lack all = let short = left.short in record { short = omega arith; same = sym (lacking ∙ rw (not-false without all) refl) }
 
   -- both have it
-  module _ (with : Bool) (is-with : with ≡ may 1 (n - 1) value free) (le : t ≤ low) where
+  module _ (with : Bool) (is_with : with ≡ may 1 (n - 1) value free) (le : t ≤ low) where
     abbrev having : rules.reaches 64 v f l h ≡ with && rules.reaches (n - 1) (value % t) (free % t) (low - t) (high - t)
-    having = rw (is-with, is-top) (at_top ∙ both-have (n - 1) value free low high (rw is-top at le))
+    having = rw (is_with, is_top) (at_top ∙ both_have (n - 1) value free low high (rw is_top at le))
 
     none_has : not with ≡ true → false ≡ rules.reaches 64 v f l h
     none_has none = rw (having, not-true with none) refl
@@ -78,8 +78,8 @@ settled v f l h value free low high n left none =
     let z : n ≡ 0 = omega arith in
     only_zero low ∙ rw z at left.same
 
-pub reaches-spec : {M : Type 1} → statement M
-reaches-spec =
+pub reaches_spec : {M : Type 1} → statement M
+reaches_spec =
     tie.close
     (tie.spec
     invariant-loop
@@ -93,9 +93,9 @@ reaches-spec =
     (λ c. search (rules, positive))
     (λ c κs. search (rules, fits))
     (λ c. search (rules, decided))
-    (λ c. search (rules, none-lacks))
+    (λ c. search (rules, none_lacks))
     (λ c. search rules)
-    (λ c. search (rules, all-lack))
+    (λ c. search (rules, all_lack))
     (λ c. search (rules, none_has))
     (λ c κs. search rules)
     (λ c. search rules)

@@ -8,5 +8,5 @@ use lib.Pow.{shl_exact}
 use Rattle.patterns.proofs.meets.weight.Statement.{statement}
 use Rattle.patterns.proofs.meets.weight.Tie as tie
 
-pub weight-spec : {M : Type 1} → statement M
-weight-spec = tie.close (tie.spec (λ c. search rules) (λ c. shl_exact 1 c.args.n 64 (lit< tt) (search rules) ∙ one-mul _))
+pub weight_spec : {M : Type 1} → statement M
+weight_spec = tie.close (tie.spec (λ c. search rules) (λ c. shl_exact 1 c.args.n 64 (lit< tt) (search rules) ∙ one-mul _))

@@ -15,5 +15,5 @@ falling a b c d h = rw (range_of, lt-ltb c a h)
 rising : (a b c d : ℕ) → a ≤ c → between a (c + d) ≡ range_of a b c d
 rising a b c d h = rw (range_of, le-ltb c a h)
 
-pub range-spec : {M : Type 1} → statement M
-range-spec = tie.close (tie.spec (λ c. search rules) (λ c. search (rules, falling)) (λ c. search rules) (λ c. search (rules, rising)))
+pub range_spec : {M : Type 1} → statement M
+range_spec = tie.close (tie.spec (λ c. search rules) (λ c. search (rules, falling)) (λ c. search rules) (λ c. search (rules, rising)))

@@ -6,11 +6,11 @@ use mathlib.Core.Path.{◌≡◌, refl, sym, ap, ◌∙◌}
 use mathlib.Core.List.{List}
 use Prim.Native.Nat.{ℕ, ◌+◌, ◌*◌, ◌-◌, ◌<◌, ◌≤◌}
 use lib.ListN.{length, drop}
-use Rattle.records.specs.Holds.{kindByte}
+use Rattle.records.specs.Holds.{kind_byte}
 use Rattle.places.specs.Valued.{Valued}
-use Rattle.places.specs.Laws.Valued.{few, record-there, kind-there, next-token, no_more}
+use Rattle.places.specs.Laws.Valued.{few, record_there, kind_there, next_token, no_more}
 use Rattle.places.specs.Brackets.{opened, past}
-use Rattle.places.specs.Laws.Brackets.{past_all, past-none, past_one}
+use Rattle.places.specs.Laws.Brackets.{past_all, past_none, past_one}
 use Rattle.places.proofs.reading.behind_subscript.Statement.{statement}
 use Rattle.places.proofs.reading.behind_subscript.Tie as tie
 
@@ -24,15 +24,15 @@ start records n p h = record { within = h; shallow = omega arith; left = λ valu
 
 module _ {records : List ℕ} {n p d i : ℕ} (inv : Inv records n p d i) where
   found : d ≡ 0 → (values : List ℕ) (v : Valued records values n) → drop i v.tokens ≡ past 1 (drop p v.tokens)
-  found z values v = sym (past-none d (drop i v.tokens) z) ∙ inv.left values v
+  found z values v = sym (past_none d (drop i v.tokens) z) ∙ inv.left values v
 
-  passed : {k e : ℕ} → i < n → (d ≡ 0 → ⊥) → k ≡ kindByte records i → (e ≡ opened d k) × (e ≤ d + 1) → Inv records n p e (i + 1)
+  passed : {k e : ℕ} → i < n → (d ≡ 0 → ⊥) → k ≡ kind_byte records i → (e ≡ opened d k) × (e ≤ d + 1) → Inv records n p e (i + 1)
   passed h z q o = record {
     within = omega arith;
     shallow = omega (arith, inv.shallow, o.1);
     left = λ values v.
-        ap (λ x. past x (drop (i + 1) v.tokens)) (o.0 ∙ ap (opened d) (q ∙ kind-there v h))
-        ∙ (sym (ap (past d) (next-token v h) ∙ past_one d _ _ z) ∙ inv.left values v);
+        ap (λ x. past x (drop (i + 1) v.tokens)) (o.0 ∙ ap (opened d) (q ∙ kind_there v h))
+        ∙ (sym (ap (past d) (next_token v h) ∙ past_one d _ _ z) ∙ inv.left values v);
   }
 
   ended : n ≤ i → (values : List ℕ) (v : Valued records values n) → drop i v.tokens ≡ past 1 (drop p v.tokens)
@@ -42,7 +42,7 @@ module _ {records : List ℕ} {n p d i : ℕ} (inv : Inv records n p d i) where
   small t h = omega (arith, inv.shallow, few t.1)
 
   room : (values : List ℕ) × Valued records values n → i < n → 8 * i + 8 ≤ length records
-  room t h = record-there t.1 h
+  room t h = record_there t.1 h
 
 abbrev invariant-loop : tie.invariant-loop
 invariant-loop records n p d₀ i₀ d i = Inv records n p d i
@@ -50,8 +50,8 @@ invariant-loop records n p d₀ i₀ d i = Inv records n p d i
 abbrev decreases-loop : tie.decreases-loop
 decreases-loop records n p d₀ i₀ d i = n - i
 
-pub behind-subscript-spec : {M : Type 1} → statement M
-behind-subscript-spec =
+pub behind_subscript_spec : {M : Type 1} → statement M
+behind_subscript_spec =
     tie.close
     (tie.spec
     invariant-loop

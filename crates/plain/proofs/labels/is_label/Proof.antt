@@ -8,8 +8,8 @@ use lib.Dec.{eqb}
 use Rattle.plain.proofs.labels.is_label.Statement.{statement}
 use Rattle.plain.proofs.labels.is_label.Tie as tie
 
-pub is-label-spec : {M : Type 1} → statement M
-is-label-spec =
+pub is_label_spec : {M : Type 1} → statement M
+is_label_spec =
     tie.close
     (tie.spec
     (λ c κs. search rules)

@@ -43,9 +43,9 @@ use Rattle.positions.specs.Cursors.{onward, Near}
 use Rattle.positions.specs.contracts.cursors.Cursor as T
 use Rattle.positions.proofs.cursors.Cursor.TheLaws as T'
 use Rattle.positions.specs.contracts.cursors.moved as moved
-use Rattle.positions.proofs.cursors.moved.Symbol as moved-def
+use Rattle.positions.proofs.cursors.moved.Symbol as moved_def
 use Rattle.positions.proofs.cursors.moved.Symbol.{name as #positions·moved}
-use Rattle.positions.proofs.cursors.moved.Met as moved-thm
+use Rattle.positions.proofs.cursors.moved.Met as moved_thm
 use Rattle.positions.specs.contracts.cursors.advance.Key.{name as #positions·advance}
 use Rattle.positions.specs.contracts.cursors.advance as advance
 use Rattle.positions.proofs.cursors.advance.Statement as stated
@@ -62,8 +62,8 @@ module _ {M : Type 1} {𝓤 : Ura M} (𝓛 : Logic 𝓤) (at_mem : Memory → SP
   abbrev Moved : Contract 𝓤
   Moved = triple_of 𝓛 moved.signature (moved.spec 𝓛 at_mem run)
 
-  moved-of : (h : Cursor) (n : ℕ) (r : Cursor) → ent 𝓤 (ensured 𝓛 moved.ended (moved.clauses 𝓛 at_mem run) tt (h, (n, tt)) tt r) (fact 𝓤 (r ≡ onward n h))
-  moved-of h n r = ex_e 𝓤 _ (λ ws. snd∗ 𝓤 (sem 𝓛 (lasts moved.ended tt (h, (n, tt)) ws)) (fact 𝓤 (r ≡ onward n h)))
+  moved_of : (h : Cursor) (n : ℕ) (r : Cursor) → ent 𝓤 (ensured 𝓛 moved.ended (moved.clauses 𝓛 at_mem run) tt (h, (n, tt)) tt r) (fact 𝓤 (r ≡ onward n h))
+  moved_of h n r = ex_e 𝓤 _ (λ ws. snd∗ 𝓤 (sem 𝓛 (lasts moved.ended tt (h, (n, tt)) ws)) (fact 𝓤 (r ≡ onward n h)))
 
 module _ {M : Type 1} {𝓤 : Ura M} (𝓛 : Logic 𝓤) (at_mem : Memory → SProp 𝓤) (run : Routine → Fun 𝓤) (κ : Lft) (q : Share) (b o : ℕ) (γ : GName) (h : Cursor) (n : ℕ) (fits : n < 2 ^ 8) (near : Near h) where
   open 𝓛 use {H, A}
@@ -94,10 +94,10 @@ module _ {M : Type 1} {𝓤 : Ura M} (𝓛 : Logic 𝓤) (at_mem : Memory → SP
   mach = denote.Steps.only vals
 
   -- what `moved`'s triple binds outside, and that the caller has what it asks
-  abbrev to-moved : Val → (Moved 𝓛 at_mem run).Ghost
-  to-moved v = ((tt, tt, tt, (h, (n, tt)), (v ∷ [], (vint w8 n ∷ [], tt))), tt)
+  abbrev to_moved : Val → (Moved 𝓛 at_mem run).Ghost
+  to_moved v = ((tt, tt, tt, (h, (n, tt)), (v ∷ [], (vint w8 n ∷ [], tt))), tt)
 
-  goes_moved : (v : Val) → ent 𝓤 (sem 𝓛 ((T.the_row).own_val h (v ∷ []))) ((Moved 𝓛 at_mem run).pre (to-moved v))
+  goes_moved : (v : Val) → ent 𝓤 (sem 𝓛 ((T.the_row).own_val h (v ∷ []))) ((Moved 𝓛 at_mem run).pre (to_moved v))
   goes_moved v =
       qed 𝓛 (‵ ((T.the_row).own_val h (v ∷ [])) ∷ []) ∵ says ! near $ nothing ! $ frame ! $
       nothing ! $ owned ! u8 (Is u8) (uint_Makes 𝓛 w8) n _ (refl, fits) $ fjoin ! $ move ! (1 ∷ 0 ∷ []) $ fjoin ! $ done !
@@ -114,10 +114,10 @@ module _ {M : Type 1} {𝓤 : Ura M} (𝓛 : Logic 𝓤) (at_mem : Memory → SP
         move ! (1 ∷ []) $ peeks ! (T.the_row) (Is (T.the_row)) (shows 𝓛 (T.the_row)) h vals (λ is.
         -- [what the cursor owns; its cell; the open borrow; obs; auth; _4; …; _3; …; _2; …; _1; …; room for _0; …]
         assigns ! (of_opd ! (load ! (from ! (hop ! (look ! 11 refl) (stop !))) (look_raw ! 1 refl))) (from ! (stop !)) (init ! 5 refl ((LL.lawful T.the_type T'.the_laws 𝓛).typed h _ is).0) $
-        use1 𝓛 (raw ((Moved 𝓛 at_mem run).pre (to-moved mach))) (goes_moved mach) $
-        calls_at ! fm (Moved 𝓛 at_mem run) known (to-moved mach) (and_then ! (load ! (from ! (stop !)) (look ! 5 refl)) (and_then ! (load ! (from ! (stop !)) (look ! 9 refl)) (no_more !))) (λ w.
+        use1 𝓛 (raw ((Moved 𝓛 at_mem run).pre (to_moved mach))) (goes_moved mach) $
+        calls_at ! fm (Moved 𝓛 at_mem run) known (to_moved mach) (and_then ! (load ! (from ! (stop !)) (look ! 5 refl)) (and_then ! (load ! (from ! (stop !)) (look ! 9 refl)) (no_more !))) (λ w.
         use1 𝓛 (later (some (λ (r : Cursor). (‵ ftrue ⊛ ‵ ((T.the_row).own_val r (w ∷ []))) ⊛ raw (ensured 𝓛 moved.ended (moved.clauses 𝓛 at_mem run) tt (h, (n, tt)) tt r)))) (id⊢ 𝓤 _) $ await ! tt $ pick ! (λ r.
-        split ! $ move ! (1 ∷ []) $ use1 𝓛 (raw (fact 𝓤 (r ≡ h'))) (moved-of 𝓛 at_mem run h n r) $ heard ! (r ≡ h') (λ e.
+        split ! $ move ! (1 ∷ []) $ use1 𝓛 (raw (fact 𝓤 (r ≡ h'))) (moved_of 𝓛 at_mem run h n r) $ heard ! (r ≡ h') (λ e.
         split ! $ rewrite ! 1 (λ (z : Cursor). ‵ ((T.the_row).own_val z (w ∷ []))) e refl $ drop ! $
         peeks ! (T.the_row) (Is (T.the_row)) (shows 𝓛 (T.the_row)) h' (w ∷ []) (λ is'.
         -- [what the new cursor owns; the old one's cell; the open borrow; obs; auth; _4; …; _3; …; _2; …; _1; …; room for _0; …]
@@ -132,22 +132,22 @@ module _ {M : Type 1} {𝓤 : Ura M} (𝓛 : Logic 𝓤) (at_mem : Memory → SP
 module _ {M : Type 1} {𝓤 : Ura M} (𝓛 : Logic 𝓤) (at_mem : Memory → SProp 𝓤) (run : Routine → Fun 𝓤) where
   open 𝓛 use {H}
 
-  advance-walks : (C : Calls 𝓤 H) (Λ : Loops 𝓤 H) → FmC 𝓤 H 𝓛.laws C → Triple 𝓤 (C #positions·moved) (Moved 𝓛 at_mem run)
+  advance_walks : (C : Calls 𝓤 H) (Λ : Loops 𝓤 H) → FmC 𝓤 H 𝓛.laws C → Triple 𝓤 (C #positions·moved) (Moved 𝓛 at_mem run)
       → Walks 𝓛 advance.ended stayed (WpFn 𝓤 H C Λ code.function) (advance.clauses 𝓛 at_mem run)
-  advance-walks C Λ fm known = walked 𝓛 advance.ended stayed (advance.clauses 𝓛 at_mem run) (WpFn 𝓤 H C Λ code.function) (λ κs. (mut_vals, (uint_vals w8, tt))) (λ κs. (mut_Tells (named 0) κs.0 (T.the_row), (uint_Tells w8, tt)))
+  advance_walks C Λ fm known = walked 𝓛 advance.ended stayed (advance.clauses 𝓛 at_mem run) (WpFn 𝓤 H C Λ code.function) (λ κs. (mut_vals, (uint_vals w8, tt))) (λ κs. (mut_Tells (named 0) κs.0 (T.the_row), (uint_Tells w8, tt)))
       (λ κs qs bounds a _ are. needs 𝓤 (Near a.0.now) _ (λ near.
       walk 𝓛 at_mem run κs.0 qs.0 a.0.ref_ptr.0 a.0.ref_ptr.1 a.0.ghost_name a.0.now a.1.0 are.1.0.1 near C Λ fm known))
 
-advance-meets : {M : Type 1} {𝓤 : Ura M} (𝓛 : Logic 𝓤) → (at_mem : Memory → SProp 𝓤) (run : Routine → Fun 𝓤) (𝓣 : Tables 𝓤 𝓛.H) → Triple 𝓤 (𝓣.C #positions·moved) (Moved 𝓛 at_mem run)
+advance_meets : {M : Type 1} {𝓤 : Ura M} (𝓛 : Logic 𝓤) → (at_mem : Memory → SProp 𝓤) (run : Routine → Fun 𝓤) (𝓣 : Tables 𝓤 𝓛.H) → Triple 𝓤 (𝓣.C #positions·moved) (Moved 𝓛 at_mem run)
     → Meets 𝓛 advance.signature (WpFn 𝓤 𝓛.H 𝓣.C 𝓣.Λ code.function) (advance.spec 𝓛 at_mem run)
-advance-meets {𝓤 = 𝓤} 𝓛 at_mem run 𝓣 known =
+advance_meets {𝓤 = 𝓤} 𝓛 at_mem run 𝓣 known =
     walk_Meets 𝓛 advance.ended stayed (Goes-ref 𝓛 1 0 tt (plain (λ _. T.the_row)), (Goes-none 𝓛 1 (λ _. u8) yes (λ κs x f. refl), tt)) (advance.clauses 𝓛 at_mem run)
-    (WpFn 𝓤 𝓛.H 𝓣.C 𝓣.Λ code.function) (WpFn-mono 𝓤 𝓛.H 𝓛.laws 𝓣 code.function) (advance-walks 𝓛 at_mem run 𝓣.C 𝓣.Λ (fm_of 𝓤 𝓛.H 𝓛.laws 𝓣) known)
+    (WpFn 𝓤 𝓛.H 𝓣.C 𝓣.Λ code.function) (WpFn-mono 𝓤 𝓛.H 𝓛.laws 𝓣 code.function) (advance_walks 𝓛 at_mem run 𝓣.C 𝓣.Λ (fm_of 𝓤 𝓛.H 𝓛.laws 𝓣) known)
 
-pub advance-spec : {M : Type 1} → stated.statement M
+pub advance_spec : {M : Type 1} → stated.statement M
 unfolding code.routine tables_of
-advance-spec 𝓤 𝓛 𝓜 𝓡 =
+advance_spec 𝓤 𝓛 𝓜 𝓡 =
     entered 𝓤 𝓛.H (triple_of 𝓛 advance.signature (advance.spec 𝓛 𝓜.mem 𝓡.run))
     (tables 𝓤 𝓛.H 𝓜 𝓡 code.env).C (tables 𝓤 𝓛.H 𝓜 𝓡 code.env).Λ #positions·advance code.function (code.unfolded 𝓤 𝓛.H 𝓜 𝓡)
-    (advance-meets 𝓛 𝓜.mem 𝓡.run (tables_of 𝓤 𝓛.H 𝓜 (tables 𝓤 𝓛.H 𝓜 𝓡 code.env))
-    (cited 𝓤 𝓛.H (Moved 𝓛 𝓜.mem 𝓡.run) 𝓜 𝓡 code.env #positions·moved moved-def.routine code.calls-positions::cursors::moved (moved-thm.met 𝓤 𝓛 𝓜 𝓡)))
+    (advance_meets 𝓛 𝓜.mem 𝓡.run (tables_of 𝓤 𝓛.H 𝓜 (tables 𝓤 𝓛.H 𝓜 𝓡 code.env))
+    (cited 𝓤 𝓛.H (Moved 𝓛 𝓜.mem 𝓡.run) 𝓜 𝓡 code.env #positions·moved moved_def.routine code.calls_positions::cursors::moved (moved_thm.met 𝓤 𝓛 𝓜 𝓡)))

@@ -45,9 +45,9 @@ use Rattle.positions.specs.Cursors.{onward, Near}
 use Rattle.positions.specs.contracts.cursors.Cursor as T
 use Rattle.positions.proofs.cursors.Cursor.TheLaws as T'
 use Rattle.positions.specs.contracts.cursors.advance as advance
-use Rattle.positions.proofs.cursors.advance.Symbol as advance-def
+use Rattle.positions.proofs.cursors.advance.Symbol as advance_def
 use Rattle.positions.proofs.cursors.advance.Symbol.{name as #positions·advance}
-use Rattle.positions.proofs.cursors.advance.Met as advance-thm
+use Rattle.positions.proofs.cursors.advance.Met as advance_thm
 use Rattle.positions.specs.contracts.cursors.advanced.Key.{name as #positions·advanced}
 use Rattle.positions.specs.contracts.cursors.advanced as advanced
 use Rattle.positions.proofs.cursors.advanced.Statement as stated
@@ -94,10 +94,10 @@ module _ {M : Type 1} {𝓤 : Ura M} (𝓛 : Logic 𝓤) (at_mem : Memory → SP
   abbrev lent : ℕ → GName → MutBor Cursor
   lent l δ = record { ref_ptr = (l, 0); ghost_name = δ; now = h }
 
-  abbrev to-advance : ℕ → ℕ → GName → (Advance 𝓛 at_mem run).Ghost
-  to-advance α l δ = (((α ∷ [], tt), (full_share, tt), tt, (lent l δ, (n, tt)), (vptr l 0 ∷ [], (vint w8 n ∷ [], tt))), tt)
+  abbrev to_advance : ℕ → ℕ → GName → (Advance 𝓛 at_mem run).Ghost
+  to_advance α l δ = (((α ∷ [], tt), (full_share, tt), tt, (lent l δ, (n, tt)), (vptr l 0 ∷ [], (vint w8 n ∷ [], tt))), tt)
 
-  goes : (α l : ℕ) (δ : GName) → ent 𝓤 (sep 𝓤 (A.lft (α ∷ []) full_share) (sem 𝓛 ((MutRef (named 0) (α ∷ []) T.the_row).own_val (lent l δ) (vptr l 0 ∷ [])))) ((Advance 𝓛 at_mem run).pre (to-advance α l δ))
+  goes : (α l : ℕ) (δ : GName) → ent 𝓤 (sep 𝓤 (A.lft (α ∷ []) full_share) (sem 𝓛 ((MutRef (named 0) (α ∷ []) T.the_row).own_val (lent l δ) (vptr l 0 ∷ [])))) ((Advance 𝓛 at_mem run).pre (to_advance α l δ))
   goes α l δ =
       qed 𝓛 (‵ (flft (α ∷ []) full_share) ∷ ‵ ((MutRef (named 0) (α ∷ []) T.the_row).own_val (lent l δ) (vptr l 0 ∷ [])) ∷ []) ∵ says ! near $ nothing ! $ move ! (1 ∷ 0 ∷ []) $ join ! $ frame ! $
       nothing ! $ owned ! u8 (Is u8) (uint_Makes 𝓛 w8) n _ (refl, fits) $ fjoin ! $ move ! (1 ∷ 0 ∷ []) $ fjoin ! $ done !
@@ -119,9 +119,9 @@ module _ {M : Type 1} {𝓤 : Ura M} (𝓛 : Logic 𝓤) (at_mem : Memory → SP
         lft_new ! tt (λ α. move ! (1 ∷ []) $
         use1 𝓛 (later (some (λ (δ : GName). ‵ ((MutRef (named 0) (α ∷ []) T.the_row).own_val (lent l₃ δ) (vptr l₃ 0 ∷ [])) ⊛ ‵ (flent (α ∷ []) (Body (mem T.the_row) l₃ 0 δ))))) (lends_ref 𝓛 T.the_row (named 0) (α ∷ []) h l₃ 0) $
         await ! tt $ pick ! (λ δ. split ! $ move ! (2 ∷ 0 ∷ []) $
-        use2 𝓛 (raw ((Advance 𝓛 at_mem run).pre (to-advance α l₃ δ))) (goes α l₃ δ) $
+        use2 𝓛 (raw ((Advance 𝓛 at_mem run).pre (to_advance α l₃ δ))) (goes α l₃ δ) $
         -- [what `advance` asks; the lender's part; _5; …; _4; …; …; _2; …; _1; …; room for _0; …]
-        calls_at ! fm (Advance 𝓛 at_mem run) known (to-advance α l₃ δ) (and_then ! (load ! (from ! (stop !)) (look ! 2 refl)) (and_then ! (load ! (from ! (stop !)) (look ! 7 refl)) (no_more !))) (λ w.
+        calls_at ! fm (Advance 𝓛 at_mem run) known (to_advance α l₃ δ) (and_then ! (load ! (from ! (stop !)) (look ! 2 refl)) (and_then ! (load ! (from ! (stop !)) (look ! 7 refl)) (no_more !))) (λ w.
         use1 𝓛 (later (some (λ (r : Unit {0}). ((‵ (flft (α ∷ []) full_share) ⊛ ‵ ftrue) ⊛ ‵ (Nothing.own r (w ∷ []))) ⊛ raw (ensured 𝓛 advance.ended (advance.clauses 𝓛 at_mem run) (α ∷ [], tt) (lent l₃ δ, (n, tt)) tt r)))) (id⊢ 𝓤 _) $ await ! tt $ pick ! (λ r.
         split ! $ move ! (1 ∷ []) $ use1 𝓛 (some (λ (zs : Cursor × (Unit {0} × Unit {0})). ‵ (lasts advance.ended (α ∷ [], tt) (lent l₃ δ, (n, tt)) zs) ⊛ raw (fact 𝓤 (zs.0 ≡ h')))) (id⊢ 𝓤 _) $ pick ! (λ zs.
         split ! $ move ! (1 ∷ []) $ heard ! (zs.0 ≡ h') (λ e. fsplit ! $ rewrite ! 0 (λ (z : Cursor). ‵ (fres δ ((T.the_row).coded.code z))) e refl $
@@ -143,21 +143,21 @@ module _ {M : Type 1} {𝓤 : Ura M} (𝓛 : Logic 𝓤) (at_mem : Memory → SP
 module _ {M : Type 1} {𝓤 : Ura M} (𝓛 : Logic 𝓤) (at_mem : Memory → SProp 𝓤) (run : Routine → Fun 𝓤) where
   open 𝓛 use {H}
 
-  advanced-walks : (C : Calls 𝓤 H) (Λ : Loops 𝓤 H) → FmC 𝓤 H 𝓛.laws C → Triple 𝓤 (C #positions·advance) (Advance 𝓛 at_mem run)
+  advanced_walks : (C : Calls 𝓤 H) (Λ : Loops 𝓤 H) → FmC 𝓤 H 𝓛.laws C → Triple 𝓤 (C #positions·advance) (Advance 𝓛 at_mem run)
       → Walks 𝓛 advanced.ended stayed (WpFn 𝓤 H C Λ code.function) (advanced.clauses 𝓛 at_mem run)
-  advanced-walks C Λ fm known = walked 𝓛 advanced.ended stayed (advanced.clauses 𝓛 at_mem run) (WpFn 𝓤 H C Λ code.function) (λ κs. (LL.vals T.the_type T'.the_laws, (uint_vals w8, tt))) (λ κs. (LL.tells T.the_type T'.the_laws, (uint_Tells w8, tt)))
+  advanced_walks C Λ fm known = walked 𝓛 advanced.ended stayed (advanced.clauses 𝓛 at_mem run) (WpFn 𝓤 H C Λ code.function) (λ κs. (LL.vals T.the_type T'.the_laws, (uint_vals w8, tt))) (λ κs. (LL.tells T.the_type T'.the_laws, (uint_Tells w8, tt)))
       (λ κs qs bounds a _ are. needs 𝓤 (Near a.0) _ (λ near. walk 𝓛 at_mem run a.0 a.1.0 are.1.0.1 near C Λ fm known are.0))
 
-advanced-meets : {M : Type 1} {𝓤 : Ura M} (𝓛 : Logic 𝓤) → (at_mem : Memory → SProp 𝓤) (run : Routine → Fun 𝓤) (𝓣 : Tables 𝓤 𝓛.H) → Triple 𝓤 (𝓣.C #positions·advance) (Advance 𝓛 at_mem run)
+advanced_meets : {M : Type 1} {𝓤 : Ura M} (𝓛 : Logic 𝓤) → (at_mem : Memory → SProp 𝓤) (run : Routine → Fun 𝓤) (𝓣 : Tables 𝓤 𝓛.H) → Triple 𝓤 (𝓣.C #positions·advance) (Advance 𝓛 at_mem run)
     → Meets 𝓛 advanced.signature (WpFn 𝓤 𝓛.H 𝓣.C 𝓣.Λ code.function) (advanced.spec 𝓛 at_mem run)
-advanced-meets {𝓤 = 𝓤} 𝓛 at_mem run 𝓣 known =
+advanced_meets {𝓤 = 𝓤} 𝓛 at_mem run 𝓣 known =
     walk_Meets 𝓛 advanced.ended stayed (Goes-none 𝓛 0 (λ _. T.the_row) yes (λ κs x f. refl), (Goes-none 𝓛 0 (λ _. u8) yes (λ κs x f. refl), tt)) (advanced.clauses 𝓛 at_mem run)
-    (WpFn 𝓤 𝓛.H 𝓣.C 𝓣.Λ code.function) (WpFn-mono 𝓤 𝓛.H 𝓛.laws 𝓣 code.function) (advanced-walks 𝓛 at_mem run 𝓣.C 𝓣.Λ (fm_of 𝓤 𝓛.H 𝓛.laws 𝓣) known)
+    (WpFn 𝓤 𝓛.H 𝓣.C 𝓣.Λ code.function) (WpFn-mono 𝓤 𝓛.H 𝓛.laws 𝓣 code.function) (advanced_walks 𝓛 at_mem run 𝓣.C 𝓣.Λ (fm_of 𝓤 𝓛.H 𝓛.laws 𝓣) known)
 
-pub advanced-spec : {M : Type 1} → stated.statement M
+pub advanced_spec : {M : Type 1} → stated.statement M
 unfolding code.routine tables_of
-advanced-spec 𝓤 𝓛 𝓜 𝓡 =
+advanced_spec 𝓤 𝓛 𝓜 𝓡 =
     entered 𝓤 𝓛.H (triple_of 𝓛 advanced.signature (advanced.spec 𝓛 𝓜.mem 𝓡.run))
     (tables 𝓤 𝓛.H 𝓜 𝓡 code.env).C (tables 𝓤 𝓛.H 𝓜 𝓡 code.env).Λ #positions·advanced code.function (code.unfolded 𝓤 𝓛.H 𝓜 𝓡)
-    (advanced-meets 𝓛 𝓜.mem 𝓡.run (tables_of 𝓤 𝓛.H 𝓜 (tables 𝓤 𝓛.H 𝓜 𝓡 code.env))
-    (cited 𝓤 𝓛.H (Advance 𝓛 𝓜.mem 𝓡.run) 𝓜 𝓡 code.env #positions·advance advance-def.routine code.calls-positions::cursors::advance (advance-thm.met 𝓤 𝓛 𝓜 𝓡)))
+    (advanced_meets 𝓛 𝓜.mem 𝓡.run (tables_of 𝓤 𝓛.H 𝓜 (tables 𝓤 𝓛.H 𝓜 𝓡 code.env))
+    (cited 𝓤 𝓛.H (Advance 𝓛 𝓜.mem 𝓡.run) 𝓜 𝓡 code.env #positions·advance advance_def.routine code.calls_positions::cursors::advance (advance_thm.met 𝓤 𝓛 𝓜 𝓡)))

@@ -2,39 +2,39 @@
 -- Assumes nothing.
 use native.Mathlib.Omega.{arith}
 use borrow.Author.Rules.{rules}
-use Rattle.starts.specs.Laws.Cases.{declines-by, begins-by}
-use Rattle.preparing.specs.Laws.Outcome.{refused-carriers}
+use Rattle.starts.specs.Laws.Cases.{declines_by, begins_by}
+use Rattle.preparing.specs.Laws.Outcome.{refused_carriers}
 use Rattle.preparing.proofs.runs.run_accepted.Statement.{statement}
 use Rattle.preparing.proofs.runs.run_accepted.Tie as tie
 
-refusal-requires : tie.Need-refusal-requires
-refusal-requires c κs =
+refusal_requires : tie.Need-refusal-requires
+refusal_requires c κs =
     let s = c.before.before.before in
     let v = s.before.before.before.before.before.before.before.before.before.before.requires.0.1 in
-    omega (arith, (declines-by (s.start.ensures _ _ _ v.lawful.declares.ready) c.before.number.given.1).near)
+    omega (arith, (declines_by (s.start.ensures _ _ _ v.lawful.declares.ready) c.before.number.given.1).near)
 
-run-started-requires : tie.Need-run-started-requires
-run-started-requires c κs =
+run_started_requires : tie.Need-run-started-requires
+run_started_requires c κs =
     let s = c.before.before.before.before.before.before in
     let p = s.before.before.before.before.before.before.before.before.before.before.requires in
     let v = p.0.1 in
-    ((p.0.0, v, begins-by (s.start.ensures _ _ _ v.lawful.declares.ready) (search rules)), p.1)
+    ((p.0.0, v, begins_by (s.start.ensures _ _ _ v.lawful.declares.ready) (search rules)), p.1)
 
 returns : tie.Need-returns
 returns c =
     let s = c.before.before.before.before in
     let v = s.before.before.before.before.before.before.before.before.before.before.requires.0.1 in
-    refused-carriers v (declines-by (s.start.ensures _ _ _ v.lawful.declares.ready) c.before.before.number.given.1) c.refusal.ensures
+    refused_carriers v (declines_by (s.start.ensures _ _ _ v.lawful.declares.ready) c.before.before.number.given.1) c.refusal.ensures
 
-pub run-accepted-spec : {M : Type 1} → statement M
-run-accepted-spec =
+pub run_accepted_spec : {M : Type 1} → statement M
+run_accepted_spec =
     tie.close
     (tie.spec
     (λ c κs. search rules)
     (λ c. search rules)
-    refusal-requires
+    refusal_requires
     (λ c. search rules)
-    run-started-requires
+    run_started_requires
     (λ c. search rules)
     (λ c. search rules)
     (λ c. search rules)

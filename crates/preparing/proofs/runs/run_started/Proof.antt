@@ -2,16 +2,16 @@
 -- Assumes nothing.
 use borrow.Author.Rules.{rules}
 use native.Mathlib.Omega.{arith}
-use Rattle.preparing.specs.Laws.Prepared.{to-run}
-use Rattle.preparing.specs.Laws.Outcome.{run-ended}
+use Rattle.preparing.specs.Laws.Prepared.{to_run}
+use Rattle.preparing.specs.Laws.Outcome.{run_ended}
 use Rattle.preparing.proofs.runs.run_started.Statement.{statement}
 use Rattle.preparing.proofs.runs.run_started.Tie as tie
 
-run-requires : tie.Need-run-requires
-run-requires c κs =
+run_requires : tie.Need-run-requires
+run_requires c κs =
     let k = c.before.before.before.before.before.before.before.before.before.before in
     let p = k.before.before.before.before.before.before.before.before.before.before.requires.0 in
-    (to-run p.1 (k.prepare.ensures p.0 p.1) p.2, search rules)
+    (to_run p.1 (k.prepare.ensures p.0 p.1) p.2, search rules)
 
 returns : tie.Need-returns
 returns c =
@@ -19,15 +19,15 @@ returns c =
     let k = r.before.before.before.before.before.before.before.before.before.before.before in
     let p = k.before.before.before.before.before.before.before.before.before.before.requires.0 in
     let q = k.prepare.ensures p.0 p.1 in
-    run-ended p.1 q p.2 (r.run.ensures (to-run p.1 q p.2)) (search rules) (λ i. omega (arith, c.before.before.before.slice-known8.given i))
+    run_ended p.1 q p.2 (r.run.ensures (to_run p.1 q p.2)) (search rules) (λ i. omega (arith, c.before.before.before.slice-known8.given i))
     c.ended-answer.ensures
 
-pub run-started-spec : {M : Type 1} → statement M
-run-started-spec =
+pub run_started_spec : {M : Type 1} → statement M
+run_started_spec =
     tie.close
     (tie.spec
     (λ c κs. let p = c.before.before.before.before.before.before.before.before.before.requires in ((p.0.0, p.0.1), p.1))
-    run-requires
+    run_requires
     (λ c κs. search rules)
     (λ c. search rules)
     (λ c. search rules)

@@ -2,10 +2,10 @@
 use borrow.Author.Rules.{rules}
 use Rattle.profiling.proofs.rounds.put_known.Statement.{statement}
 use Rattle.profiling.proofs.rounds.put_known.Tie as tie
-use Rattle.profiling.specs.Laws.Levels.{put-false, put-true}
+use Rattle.profiling.specs.Laws.Levels.{put_false, put_true}
 
-pub put-known-spec : {M : Type 1} → statement M
-put-known-spec =
+pub put_known_spec : {M : Type 1} → statement M
+put_known_spec =
     tie.close
     (tie.spec
     (λ c. search rules)
@@ -14,10 +14,10 @@ put-known-spec =
     (λ c. search rules)
     (λ c κs. search rules)
     (λ c. search rules)
-    (λ c. search (rules, put-true))
+    (λ c. search (rules, put_true))
     (λ c κs. search rules)
     (λ c. search rules)
     (λ c. search rules)
     (λ c κs. search rules)
     (λ c. search rules)
-    (λ c. search (rules, put-false)))
+    (λ c. search (rules, put_false)))

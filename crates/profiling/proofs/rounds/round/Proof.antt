@@ -1,7 +1,7 @@
 -- `profiling::rounds::round` meets its contract.
 use borrow.Author.Rules.{rules}
 use Prim.Native.Nat.{◌-◌}
-use Rattle.profiling.specs.Laws.Levels.{Parts, parts_none, part_at, parts_more, last-room, round-done}
+use Rattle.profiling.specs.Laws.Levels.{Parts, parts_none, part_at, parts_more, last_room, round_done}
 use Rattle.profiling.proofs.rounds.round.Statement.{statement}
 use Rattle.profiling.proofs.rounds.round.Tie as tie
 
@@ -11,8 +11,8 @@ invariant-loop records decls table next₀ room₀ t m k₀ next room k = Parts 
 abbrev decreases-loop : tie.decreases-loop
 decreases-loop records decls table next₀ room₀ t m k₀ next room k = m - k
 
-pub round-spec : {M : Type 1} → statement M
-round-spec =
+pub round_spec : {M : Type 1} → statement M
+round_spec =
     tie.close
     (tie.spec
     invariant-loop
@@ -22,7 +22,7 @@ round-spec =
     (λ c κs. search (rules, part_at))
     (λ c. search rules)
     (λ c. search (rules, parts_more))
-    (λ c κs. search (rules, last-room))
+    (λ c κs. search (rules, last_room))
     (λ c. search rules)
     (λ c. search rules)
-    (λ c. search (rules, round-done)))
+    (λ c. search (rules, round_done)))

@@ -1,7 +1,7 @@
 -- `profiling::walks::walk` meets its contract.
 use borrow.Author.Rules.{rules}
 use Prim.Native.Nat.{◌-◌}
-use Rattle.profiling.specs.Laws.Going.{Going, to-begin, goes, going-acts, stands_after, ended, goes_on, going-stands, over}
+use Rattle.profiling.specs.Laws.Going.{Going, to_begin, goes, going_acts, stands_after, ended, goes_on, going_stands, over}
 use Rattle.profiling.proofs.walks.walk.Statement.{statement}
 use Rattle.profiling.proofs.walks.walk.Tie as tie
 
@@ -11,16 +11,16 @@ invariant-loop records decls table room₀ t name from n s₀ reading₀ i₀ ro
 abbrev decreases-loop : tie.decreases-loop
 decreases-loop records decls table room₀ t name from n s₀ reading₀ i₀ room s reading i = n - i
 
-pub walk-spec : {M : Type 1} → statement M
-walk-spec =
+pub walk_spec : {M : Type 1} → statement M
+walk_spec =
     tie.close
     (tie.spec
     invariant-loop
     decreases-loop
-    (λ c κs. search (rules, to-begin))
+    (λ c κs. search (rules, to_begin))
     (λ c. search (rules, goes))
     (λ c κs. search rules)
-    (λ c κs. search (rules, going-acts))
+    (λ c κs. search (rules, going_acts))
     (λ c κs. search (rules, stands_after))
     (λ c. search rules)
     (λ c. search (rules, ended))
@@ -28,6 +28,6 @@ walk-spec =
     (λ c. search rules)
     (λ c. search rules)
     (λ c. search (rules, goes_on))
-    (λ c κs. search (rules, going-stands))
+    (λ c κs. search (rules, going_stands))
     (λ c. search rules)
     (λ c. search (rules, over)))

@@ -3,7 +3,7 @@ use borrow.Author.Rules.{rules}
 use native.Mathlib.Omega.{arith}
 use Prim.Native.Nat.{◌-◌}
 use Rattle.reading.specs.Laws.Reading.{kinded}
-use Rattle.racing.specs.Laws.Groups.{Looking, look-starts, look-found, look-past, look-other, look-over}
+use Rattle.racing.specs.Laws.Groups.{Looking, look_starts, look_found, look_past, look_other, look_over}
 use Rattle.racing.proofs.groups.race.Statement.{statement}
 use Rattle.racing.proofs.groups.race.Tie as tie
 
@@ -13,26 +13,26 @@ invariant-loop records decls memo m n place i₀ i = Looking records decls memo 
 abbrev decreases-loop : tie.decreases-loop
 decreases-loop records decls memo m n place i₀ i = n - i
 
-pub race-spec : {M : Type 1} → statement M
-race-spec =
+pub race_spec : {M : Type 1} → statement M
+race_spec =
     tie.close
     (tie.spec
     invariant-loop
     decreases-loop
-    (λ c. look-starts c.before.before.before.requires.0 c.before.before.before.requires.1.1)
+    (λ c. look_starts c.before.before.before.requires.0 c.before.before.before.requires.1.1)
     (λ c. omega (arith, c.loop-test.true, (kinded c.before.loop.invariant.reading).few))
     (λ c κs. omega (arith, c.loop-test.true, (kinded c.before.loop.invariant.reading).room))
     (λ c κs. search rules)
     (λ c. omega (arith, c.before.before.before.loop-test.true, (kinded c.before.before.before.before.loop.invariant.reading).few))
     (λ c κs. search rules)
-    (λ c. look-found c.before.before.before.before.before.before.before.loop.invariant c.before.before.before.before.before.before.loop-test.true
+    (λ c. look_found c.before.before.before.before.before.before.before.loop.invariant c.before.before.before.before.before.before.loop-test.true
     c.before.before.before.before.before.kind_at.ensures c.before.before.before.before.opens.ensures c.before.before.before.if1.true
     c.before.before.race-in.ensures c.if2.true)
     (λ c. search rules)
-    (λ c. look-past c.before.before.before.before.before.before.before.loop.invariant c.before.before.before.before.before.before.loop-test.true
+    (λ c. look_past c.before.before.before.before.before.before.before.loop.invariant c.before.before.before.before.before.before.loop-test.true
     c.before.before.before.before.before.kind_at.ensures c.before.before.before.before.opens.ensures c.before.before.before.if1.true
     c.before.before.race-in.ensures c.if2.false)
     (λ c. search rules)
-    (λ c. look-other c.before.before.before.before.loop.invariant c.before.before.before.loop-test.true c.before.before.kind_at.ensures
+    (λ c. look_other c.before.before.before.before.loop.invariant c.before.before.before.loop-test.true c.before.before.kind_at.ensures
     c.before.opens.ensures c.if1.false)
-    (λ c. search (rules, look-over)))
+    (λ c. search (rules, look_over)))

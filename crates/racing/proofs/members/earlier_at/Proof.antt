@@ -4,8 +4,8 @@ use Rattle.racing.specs.Laws.Members.{at_other, at_place}
 use Rattle.racing.proofs.members.earlier_at.Statement.{statement}
 use Rattle.racing.proofs.members.earlier_at.Tie as tie
 
-pub earlier-at-spec : {M : Type 1} → statement M
-earlier-at-spec =
+pub earlier_at_spec : {M : Type 1} → statement M
+earlier_at_spec =
     tie.close
     (tie.spec
     (λ c κs. search rules)

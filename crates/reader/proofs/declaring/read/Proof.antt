@@ -4,8 +4,8 @@ use borrow.Author.Rules.{rules}
 use Rattle.reader.proofs.declaring.read.Statement.{statement}
 use Rattle.reader.proofs.declaring.read.Tie as tie
 
-declared-requires : tie.Need-declared-requires
-declared-requires c κs = (rw c.before.before.before.before.n.given.1 at c.before.before.before.before.before.before.before.before.before.before.parse.ensures, search rules)
+declared_requires : tie.Need-declared-requires
+declared_requires c κs = (rw c.before.before.before.before.n.given.1 at c.before.before.before.before.before.before.before.before.before.before.parse.ensures, search rules)
 
 returns : tie.Need-returns
 returns c = rw c.before.number.given.1 at c.before.before.before.before.before.before.before.parse.ensures
@@ -17,7 +17,7 @@ read_spec =
     (λ c κs. search rules)
     (λ c. search rules)
     (λ c. search rules)
-    declared-requires
+    declared_requires
     (λ c. search rules)
     (λ c. search rules)
     returns

@@ -5,9 +5,9 @@ use mathlib.Core.Path.{◌≡◌}
 use mathlib.Core.List.{List}
 use borrow.Author.Rules.{rules}
 use lib.ListN.{length}
-use Rattle.cells.specs.Laws.{length-put}
+use Rattle.cells.specs.Laws.{length_put}
 use Rattle.reader.specs.Copied.{Copied}
-use Rattle.reader.specs.Laws.Copied.{none-copied, one_more, all-copied}
+use Rattle.reader.specs.Laws.Copied.{none_copied, one_more, all_copied}
 use Rattle.reader.proofs.judging.keep.Statement.{statement}
 use Rattle.reader.proofs.judging.keep.Tie as tie
 
@@ -28,7 +28,7 @@ loop-again c =
     let loop = put.before.before.before.before.loop in
     record {
       within = search rules;
-      long = search (rules, length-put);
+      long = search (rules, length_put);
       copied = one_more loop.invariant.copied put.put16.ensures put.before.get16.ensures (search rules) (search rules);
     }
 
@@ -38,11 +38,11 @@ keep_spec =
     (tie.spec
     invariant-loop
     decreases-loop
-    (λ c. record { within = search rules; long = search rules; copied = search (rules, none-copied) })
+    (λ c. record { within = search rules; long = search rules; copied = search (rules, none_copied) })
     (λ c κs. search rules)
     (λ c κs. search rules)
     (λ c. search rules)
     (λ c. search rules)
     loop-again
     (λ c. search rules)
-    (λ c. search (rules, all-copied)))
+    (λ c. search (rules, all_copied)))

@@ -4,8 +4,8 @@ use mathlib.Core.Path.{sym, ◌∙◌}
 use Rattle.reading.proofs.calls.activates.Statement.{statement}
 use Rattle.reading.proofs.calls.activates.Tie as tie
 
-pub activates-spec : {M : Type 1} → statement M
-activates-spec =
+pub activates_spec : {M : Type 1} → statement M
+activates_spec =
     tie.close
     (tie.spec
     (λ c. search rules)

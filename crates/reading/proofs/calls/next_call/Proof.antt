@@ -15,8 +15,8 @@ decreases-loop records n at depth from d₀ m₀ i₀ d m i = n - i
 loop-holds : tie.Need-loop-init invariant-loop decreases-loop
 loop-holds c = record { low = search rules; shallow = search rules; counted = search rules; kinds = search rules; left = λ v. refl }
 
-pub next-call-spec : {M : Type 1} → statement M
-next-call-spec =
+pub next_call_spec : {M : Type 1} → statement M
+next_call_spec =
     tie.close
     (tie.spec
     invariant-loop

@@ -7,9 +7,9 @@ use Rattle.reading.proofs.kinds.begins.Statement.{statement}
 use Rattle.reading.proofs.kinds.begins.Tie as tie
 use Rattle.table.specs.Laws.Scans.{missing}
 
-pub begins-spec : {M : Type 1} → statement M
+pub begins_spec : {M : Type 1} → statement M
 unfolding begins member
-begins-spec =
+begins_spec =
     tie.close
     (tie.spec
     (λ c. sym (ap begins c.match.keys1))

@@ -7,9 +7,9 @@ use Rattle.reading.proofs.kinds.stores.Statement.{statement}
 use Rattle.reading.proofs.kinds.stores.Tie as tie
 use Rattle.table.specs.Laws.Scans.{missing}
 
-pub stores-spec : {M : Type 1} → statement M
+pub stores_spec : {M : Type 1} → statement M
 unfolding stores member
-stores-spec =
+stores_spec =
     tie.close
     (tie.spec
     (λ c. sym (ap stores c.match.keys1))

@@ -7,9 +7,9 @@ use Rattle.reading.proofs.kinds.tests.Statement.{statement}
 use Rattle.reading.proofs.kinds.tests.Tie as tie
 use Rattle.table.specs.Laws.Scans.{missing}
 
-pub tests-spec : {M : Type 1} → statement M
+pub tests_spec : {M : Type 1} → statement M
 unfolding tests member
-tests-spec =
+tests_spec =
     tie.close
     (tie.spec
     (λ c. sym (ap tests c.match.keys1))

@@ -5,16 +5,16 @@ use native.Mathlib.Omega.{arith}
 use mathlib.Core.Path.{◌≡◌, ap, ◌∙◌}
 use mathlib.Core.List.{List}
 use Prim.Native.Nat.{ℕ, ◌+◌, ◌*◌}
-use Rattle.cells.specs.Cells.{leAt, cell}
-use Rattle.records.specs.Holds.{insideCell}
+use Rattle.cells.specs.Cells.{le_at, cell}
+use Rattle.records.specs.Holds.{inside_cell}
 use Rattle.records.proofs.fields.inside16_at.Statement.{statement}
 use Rattle.records.proofs.fields.inside16_at.Tie as tie
 
-third : (records : List ℕ) (i r : ℕ) → r ≡ cell 2 records (4 * i + 2) → r ≡ insideCell records i
-third records i r e = e ∙ ap (leAt 2 records) (omega arith)
+third : (records : List ℕ) (i r : ℕ) → r ≡ cell 2 records (4 * i + 2) → r ≡ inside_cell records i
+third records i r e = e ∙ ap (le_at 2 records) (omega arith)
 
-pub inside16-at-spec : {M : Type 1} → statement M
-inside16-at-spec =
+pub inside16_at_spec : {M : Type 1} → statement M
+inside16_at_spec =
     tie.close
     (tie.spec
     (λ c. search rules)

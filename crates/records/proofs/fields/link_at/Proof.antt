@@ -5,16 +5,16 @@ use native.Mathlib.Omega.{arith}
 use mathlib.Core.Path.{◌≡◌, ap, ◌∙◌}
 use mathlib.Core.List.{List}
 use Prim.Native.Nat.{ℕ, ◌+◌, ◌*◌}
-use Rattle.cells.specs.Cells.{leAt, cell}
-use Rattle.records.specs.Holds.{linkCell}
+use Rattle.cells.specs.Cells.{le_at, cell}
+use Rattle.records.specs.Holds.{link_cell}
 use Rattle.records.proofs.fields.link_at.Statement.{statement}
 use Rattle.records.proofs.fields.link_at.Tie as tie
 
-fourth : (records : List ℕ) (n r : ℕ) → r ≡ cell 2 records (4 * n + 3) → r ≡ linkCell records n
-fourth records n r e = e ∙ ap (leAt 2 records) (omega arith)
+fourth : (records : List ℕ) (n r : ℕ) → r ≡ cell 2 records (4 * n + 3) → r ≡ link_cell records n
+fourth records n r e = e ∙ ap (le_at 2 records) (omega arith)
 
-pub link-at-spec : {M : Type 1} → statement M
-link-at-spec =
+pub link_at_spec : {M : Type 1} → statement M
+link_at_spec =
     tie.close
     (tie.spec
     (λ c. search rules)

@@ -5,16 +5,16 @@ use native.Mathlib.Omega.{arith}
 use mathlib.Core.Path.{◌≡◌, ap, ◌∙◌}
 use mathlib.Core.List.{List}
 use Prim.Native.Nat.{ℕ, ◌+◌, ◌*◌}
-use Rattle.cells.specs.Cells.{leAt, cell}
-use Rattle.records.specs.Holds.{placeCell}
+use Rattle.cells.specs.Cells.{le_at, cell}
+use Rattle.records.specs.Holds.{place_cell}
 use Rattle.records.proofs.fields.place16_at.Statement.{statement}
 use Rattle.records.proofs.fields.place16_at.Tie as tie
 
-second : (records : List ℕ) (i r : ℕ) → r ≡ cell 2 records (4 * i + 1) → r ≡ placeCell records i
-second records i r e = e ∙ ap (leAt 2 records) (omega arith)
+second : (records : List ℕ) (i r : ℕ) → r ≡ cell 2 records (4 * i + 1) → r ≡ place_cell records i
+second records i r e = e ∙ ap (le_at 2 records) (omega arith)
 
-pub place16-at-spec : {M : Type 1} → statement M
-place16-at-spec =
+pub place16_at_spec : {M : Type 1} → statement M
+place16_at_spec =
     tie.close
     (tie.spec
     (λ c. search rules)

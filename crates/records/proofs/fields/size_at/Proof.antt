@@ -6,8 +6,8 @@ use Prim.Native.Nat.{◌+◌, ◌*◌}
 use Rattle.records.proofs.fields.size_at.Statement.{statement}
 use Rattle.records.proofs.fields.size_at.Tie as tie
 
-pub size-at-spec : {M : Type 1} → statement M
-size-at-spec =
+pub size_at_spec : {M : Type 1} → statement M
+size_at_spec =
     tie.close
     (tie.spec
     (λ c. search rules)

@@ -9,20 +9,20 @@ use mathlib.Core.List.{List}
 use Prim.Native.Nat.{ℕ, ◌+◌, ◌-◌, ◌<◌, ◌≤◌}
 use lib.ListN.{length, get_or}
 use Rattle.rules.specs.Text.Bytes.{fold}
-use Rattle.rules.specs.Text.Scan.{sameBytes}
-use Rattle.records.specs.Holds.{foldedAt}
-use Rattle.records.specs.Laws.Words.{same_next, differ-next, same_end}
+use Rattle.rules.specs.Text.Scan.{same_bytes}
+use Rattle.records.specs.Holds.{folded_at}
+use Rattle.records.specs.Laws.Words.{same_next, differ_next, same_end}
 use Rattle.records.proofs.words.same_run.Statement.{statement}
 use Rattle.records.proofs.words.same_run.Tie as tie
 
 record Inv (text : List ℕ) (a b n k : ℕ) : Type 0 where
   pub within : k ≤ n
-  pub left : sameBytes (foldedAt text (a + k) (n - k)) (foldedAt text (b + k) (n - k)) ≡ sameBytes (foldedAt text a n) (foldedAt text b n)
+  pub left : same_bytes (folded_at text (a + k) (n - k)) (folded_at text (b + k) (n - k)) ≡ same_bytes (folded_at text a n) (folded_at text b n)
 
 module _ {text : List ℕ} {a b n k : ℕ} (inv : Inv text a b n k) (ha : a + n ≤ length text) (hb : b + n ≤ length text) where
   differ : {x y : ℕ} → k < n → x ≡ fold (get_or text (a + k) 0) → y ≡ fold (get_or text (b + k) 0) → (x ≡ y → ⊥)
-      → false ≡ sameBytes (foldedAt text a n) (foldedAt text b n)
-  differ h e f d = sym (differ-next text a b n k ha hb h (λ g. d (e ∙ g ∙ sym f))) ∙ inv.left
+      → false ≡ same_bytes (folded_at text a n) (folded_at text b n)
+  differ h e f d = sym (differ_next text a b n k ha hb h (λ g. d (e ∙ g ∙ sym f))) ∙ inv.left
 
   passed : {x y : ℕ} → k < n → x ≡ fold (get_or text (a + k) 0) → y ≡ fold (get_or text (b + k) 0) → x ≡ y → Inv text a b n (k + 1)
   passed h e f g = record {
@@ -30,7 +30,7 @@ module _ {text : List ℕ} {a b n k : ℕ} (inv : Inv text a b n k) (ha : a + n 
     left = sym (same_next text a b n k ha hb h (sym e ∙ g ∙ f)) ∙ inv.left;
   }
 
-  ended : n ≤ k → true ≡ sameBytes (foldedAt text a n) (foldedAt text b n)
+  ended : n ≤ k → true ≡ same_bytes (folded_at text a n) (folded_at text b n)
   ended h = sym (same_end text a b n k h) ∙ inv.left
 
 abbrev invariant-loop : tie.invariant-loop
@@ -42,8 +42,8 @@ decreases-loop text a b n k₀ k = n - k
 start : (text : List ℕ) (a b n : ℕ) → Inv text a b n 0
 start text a b n = record { within = omega arith; left = simp (add-zero, sub-zero) }
 
-pub same-run-spec : {M : Type 1} → statement M
-same-run-spec =
+pub same_run_spec : {M : Type 1} → statement M
+same_run_spec =
     tie.close
     (tie.spec
     invariant-loop

@@ -4,8 +4,8 @@ use Rattle.reporting.specs.Laws.Reported.{judged, reported}
 use Rattle.reporting.proofs.reports.reported.Statement.{statement}
 use Rattle.reporting.proofs.reports.reported.Tie as tie
 
-pub reported-spec : {M : Type 1} → statement M
-reported-spec =
+pub reported_spec : {M : Type 1} → statement M
+reported_spec =
     tie.close
     (tie.spec
     (λ c κs. search rules)

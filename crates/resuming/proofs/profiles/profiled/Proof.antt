@@ -2,34 +2,34 @@
 -- Assumes nothing.
 use borrow.Author.Rules.{rules}
 use native.Mathlib.Omega.{arith}
-use Rattle.reader.specs.Laws.Cases.{refuses-by, accepts-by}
-use Rattle.resuming.specs.Laws.Told.{refused-text, accepted-text}
+use Rattle.reader.specs.Laws.Cases.{refuses_by, accepts_by}
+use Rattle.resuming.specs.Laws.Told.{refused_text, accepted_text}
 use Rattle.resuming.proofs.profiles.profiled.Statement.{statement}
 use Rattle.resuming.proofs.profiles.profiled.Tie as tie
 
-refusal-requires : tie.Need-refusal-requires
-refusal-requires c κs = omega (arith, (refuses-by c.before.before.before.before.before.before.before.before.before.before.check.ensures c.before.number.given.1).near)
+refusal_requires : tie.Need-refusal-requires
+refusal_requires c κs = omega (arith, (refuses_by c.before.before.before.before.before.before.before.before.before.before.check.ensures c.before.number.given.1).near)
 
-profile-accepted-requires : tie.Need-profile-accepted-requires
-profile-accepted-requires c κs = (accepts-by c.before.before.before.before.before.before.before.before.before.before.before.before.before.before.check.ensures c.before.before.before.before.before.m.given.1, search rules)
+profile_accepted_requires : tie.Need-profile-accepted-requires
+profile_accepted_requires c κs = (accepts_by c.before.before.before.before.before.before.before.before.before.before.before.before.before.before.check.ensures c.before.before.before.before.before.m.given.1, search rules)
 
 returns : tie.Need-returns
-returns c = refused-text (refuses-by c.before.before.before.before.before.before.before.before.before.before.before.check.ensures c.before.before.number.given.1) c.refusal.ensures
+returns c = refused_text (refuses_by c.before.before.before.before.before.before.before.before.before.before.before.check.ensures c.before.before.number.given.1) c.refusal.ensures
 
 returns-2 : tie.Need-returns-2
-returns-2 c = let a = accepts-by c.before.before.before.before.before.before.before.before.before.before.before.before.before.before.before.before.before.before.before.check.ensures c.before.before.before.before.before.before.before.before.before.before.m.given.1 in accepted-text a.1 (c.before.before.before.before.profile-accepted.ensures a.0 a.1)
+returns-2 c = let a = accepts_by c.before.before.before.before.before.before.before.before.before.before.before.before.before.before.before.before.before.before.before.check.ensures c.before.before.before.before.before.before.before.before.before.before.m.given.1 in accepted_text a.1 (c.before.before.before.before.profile-accepted.ensures a.0 a.1)
 
-pub profiled-spec : {M : Type 1} → statement M
-profiled-spec =
+pub profiled_spec : {M : Type 1} → statement M
+profiled_spec =
     tie.close
     (tie.spec
     (λ c. search rules)
     (λ c κs. search rules)
     (λ c. search rules)
-    refusal-requires
+    refusal_requires
     (λ c. search rules)
     (λ c. search rules)
-    profile-accepted-requires
+    profile_accepted_requires
     (λ c. search rules)
     (λ c. search rules)
     (λ c. search rules)

@@ -5,8 +5,8 @@ use Rattle.scopes.specs.Laws.Hints.{hinting}
 use Rattle.scopes.proofs.hints.put_hint.Statement.{statement}
 use Rattle.scopes.proofs.hints.put_hint.Tie as tie
 
-pub put-hint-spec : {M : Type 1} → statement M
-put-hint-spec =
+pub put_hint_spec : {M : Type 1} → statement M
+put_hint_spec =
     tie.close
     (tie.spec
     (λ c κs. search rules)

@@ -5,8 +5,8 @@ use mathlib.Core.Path.{sym}
 use Rattle.scopes.proofs.labels.among.Statement.{statement}
 use Rattle.scopes.proofs.labels.among.Tie as tie
 
-pub among-spec : {M : Type 1} → statement M
-among-spec =
+pub among_spec : {M : Type 1} → statement M
+among_spec =
     tie.close
     (tie.spec
     (λ c κs. search rules)

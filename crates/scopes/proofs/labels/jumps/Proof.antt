@@ -7,9 +7,9 @@ use Rattle.scopes.specs.Walks.{jumps}
 use Rattle.scopes.proofs.labels.jumps.Statement.{statement}
 use Rattle.scopes.proofs.labels.jumps.Tie as tie
 
-pub jumps-spec : {M : Type 1} → statement M
+pub jumps_spec : {M : Type 1} → statement M
 unfolding jumps member
-jumps-spec =
+jumps_spec =
     tie.close
     (tie.spec
     (λ c. sym (ap jumps c.match.keys1))

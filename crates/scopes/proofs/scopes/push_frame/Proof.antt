@@ -4,8 +4,8 @@ use Rattle.scopes.specs.Laws.Frames.{frame_pushed}
 use Rattle.scopes.proofs.scopes.push_frame.Statement.{statement}
 use Rattle.scopes.proofs.scopes.push_frame.Tie as tie
 
-pub push-frame-spec : {M : Type 1} → statement M
-push-frame-spec =
+pub push_frame_spec : {M : Type 1} → statement M
+push_frame_spec =
     tie.close
     (tie.spec
     (λ c. search rules)

@@ -1,33 +1,33 @@
 -- `sentences::whole::put_whole_sentence` meets its contract, a number at a time.
 -- Assumes nothing.
 use borrow.Author.Rules.{rules}
-use Rattle.sentences.specs.Sentences.{among, wholeSentences}
+use Rattle.sentences.specs.Sentences.{among, whole_sentences}
 use Rattle.sentences.specs.Laws.Sentences.{said, unsaid}
 use Rattle.sentences.proofs.whole.put_whole_sentence.Statement.{statement}
 use Rattle.sentences.proofs.whole.put_whole_sentence.Tie as tie
 
-says-50 : tie.Need-returns
-unfolding among wholeSentences
-says-50 c = search (rules, said wholeSentences 50)
+says_50 : tie.Need-returns
+unfolding among whole_sentences
+says_50 c = search (rules, said whole_sentences 50)
 
-says-51 : tie.Need-returns-2
-unfolding among wholeSentences
-says-51 c = search (rules, said wholeSentences 51)
+says_51 : tie.Need-returns-2
+unfolding among whole_sentences
+says_51 c = search (rules, said whole_sentences 51)
 
-says-52 : tie.Need-returns-3
-unfolding among wholeSentences
-says-52 c = search (rules, said wholeSentences 52)
+says_52 : tie.Need-returns-3
+unfolding among whole_sentences
+says_52 c = search (rules, said whole_sentences 52)
 
-says-53 : tie.Need-returns-4
-unfolding among wholeSentences
-says-53 c = search (rules, said wholeSentences 53)
+says_53 : tie.Need-returns-4
+unfolding among whole_sentences
+says_53 c = search (rules, said whole_sentences 53)
 
 says_nothing : tie.Need-returns-5
-unfolding wholeSentences
-says_nothing c = search (rules, unsaid wholeSentences)
+unfolding whole_sentences
+says_nothing c = search (rules, unsaid whole_sentences)
 
-pub put-whole-sentence-spec : {M : Type 1} → statement M
-put-whole-sentence-spec =
+pub put_whole_sentence_spec : {M : Type 1} → statement M
+put_whole_sentence_spec =
     tie.close
     (tie.spec
     (λ c. search rules)
@@ -39,11 +39,11 @@ put-whole-sentence-spec =
     (λ c. search rules)
     (λ c κs. search rules)
     (λ c. search rules)
-    says-50
+    says_50
     (λ c. search rules)
-    says-51
+    says_51
     (λ c. search rules)
-    says-52
+    says_52
     (λ c. search rules)
-    says-53
+    says_53
     says_nothing)

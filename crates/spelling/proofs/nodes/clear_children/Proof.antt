@@ -5,8 +5,8 @@ use Rattle.spelling.specs.Laws.Cells.{opened}
 use Rattle.spelling.proofs.nodes.clear_children.Statement.{statement}
 use Rattle.spelling.proofs.nodes.clear_children.Tie as tie
 
-pub clear-children-spec : {M : Type 1} → statement M
-clear-children-spec =
+pub clear_children_spec : {M : Type 1} → statement M
+clear_children_spec =
     tie.close
     (tie.spec
     (λ c. search rules)

@@ -6,11 +6,11 @@ use mathlib.Core.Path.{◌≡◌, refl, ◌∙◌}
 use mathlib.Core.List.{List}
 use Prim.Native.Nat.{ℕ, ◌+◌, ◌-◌, ◌<◌, ◌≤◌}
 use lib.ListN.{length}
-use Rattle.cells.specs.Cells.{putCell}
+use Rattle.cells.specs.Cells.{put_cell}
 use Rattle.spelling.specs.Trees.{no_node}
-use Rattle.room.specs.Spelling.{heads, roomSize}
+use Rattle.room.specs.Spelling.{heads, room_size}
 use Rattle.spelling.specs.Spelling.{Cleared}
-use Rattle.spelling.specs.Laws.Cells.{none-cleared, cleared_more}
+use Rattle.spelling.specs.Laws.Cells.{none_cleared, cleared_more}
 use Rattle.spelling.proofs.nodes.clear_heads.Statement.{statement}
 use Rattle.spelling.proofs.nodes.clear_heads.Tie as tie
 
@@ -20,9 +20,9 @@ record Inv (room₀ room : List ℕ) (h : ℕ) : Type 0 where
   pub cleared : Cleared room 0 h
 
 start : (room : List ℕ) → Inv room room 0
-start room = record { within = omega arith; long = refl; cleared = none-cleared room 0 }
+start room = record { within = omega arith; long = refl; cleared = none_cleared room 0 }
 
-passed : {room₀ room now : List ℕ} {h : ℕ} → Inv room₀ room h → roomSize ≤ length room₀ → h < heads → length now ≡ length room → now ≡ putCell 2 room h no_node → Inv room₀ now (h + 1)
+passed : {room₀ room now : List ℕ} {h : ℕ} → Inv room₀ room h → room_size ≤ length room₀ → h < heads → length now ≡ length room → now ≡ put_cell 2 room h no_node → Inv room₀ now (h + 1)
 passed inv long l same e = record {
   within = omega arith;
   long = same ∙ inv.long;
@@ -38,8 +38,8 @@ invariant-loop room₀ h₀ room h = Inv room₀ room h
 abbrev decreases-loop : tie.decreases-loop
 decreases-loop room₀ h₀ room h = heads - h
 
-pub clear-heads-spec : {M : Type 1} → statement M
-clear-heads-spec =
+pub clear_heads_spec : {M : Type 1} → statement M
+clear_heads_spec =
     tie.close
     (tie.spec
     invariant-loop

@@ -7,8 +7,8 @@ use Prim.Native.Nat.{◌-◌}
 use lib.ListN.{length}
 use Rattle.rules.specs.Selectors.{matches}
 use Rattle.patterns.specs.Stands.{ItemsView}
-use Rattle.patterns.specs.Laws.Lists.{Left, walk-starts, item-view, next-room, walks-on, walk-finds, walk_ends, walk-goes-on}
-use Rattle.stepping.specs.Laws.Choice.{some-matches}
+use Rattle.patterns.specs.Laws.Lists.{Left, walk_starts, item_view, next_room, walks_on, walk_finds, walk_ends, walk_goes_on}
+use Rattle.stepping.specs.Laws.Choice.{some_matches}
 use Rattle.stepping.proofs.choice.any_matches.Statement.{statement}
 use Rattle.stepping.proofs.choice.any_matches.Tie as tie
 
@@ -18,23 +18,23 @@ invariant-loop records values q x at₀ at = (v : ItemsView records values q) �
 abbrev decreases-loop : tie.decreases-loop
 decreases-loop records values q x at₀ at = length records - at
 
-pub any-matches-spec : {M : Type 1} → statement M
-any-matches-spec =
+pub any_matches_spec : {M : Type 1} → statement M
+any_matches_spec =
     tie.close
     (tie.spec
     invariant-loop
     decreases-loop
-    (λ c v. walk-starts _ v)
-    (λ c κs. item-view (c.loop.invariant c.before.before.before.requires).rest)
+    (λ c v. walk_starts _ v)
+    (λ c κs. item_view (c.loop.invariant c.before.before.before.requires).rest)
     (λ c κs. search rules)
-    (λ c v. walk-finds (c.before.before.before.loop.invariant v) c.before.before.item-at.ensures c.before.matches.ensures c.if1.true ∙ some-matches _ _)
-    (λ c κs. next-room (c.before.before.before.loop.invariant c.before.before.before.before.before.before.requires).rest c.before.before.item-at.ensures)
+    (λ c v. walk_finds (c.before.before.before.loop.invariant v) c.before.before.item-at.ensures c.before.matches.ensures c.if1.true ∙ some_matches _ _)
+    (λ c κs. next_room (c.before.before.before.loop.invariant c.before.before.before.before.before.before.requires).rest c.before.before.item-at.ensures)
     (λ c v.
     walk_ends (c.before.before.before.before.before.loop.invariant v) c.before.before.before.before.item-at.ensures c.before.before.before.matches.ensures
     c.before.kind_at.ensures c.before.before.if1.false c.if2.true
-    ∙ some-matches _ _)
-    (λ c. omega (arith, walks-on (c.before.before.before.before.before.loop.invariant c.before.before.before.before.before.before.before.before.requires).rest c.before.before.before.before.item-at.ensures))
-    (λ c. omega (arith, walks-on (c.before.before.before.before.before.loop.invariant c.before.before.before.before.before.before.before.before.requires).rest c.before.before.before.before.item-at.ensures))
+    ∙ some_matches _ _)
+    (λ c. omega (arith, walks_on (c.before.before.before.before.before.loop.invariant c.before.before.before.before.before.before.before.before.requires).rest c.before.before.before.before.item-at.ensures))
+    (λ c. omega (arith, walks_on (c.before.before.before.before.before.loop.invariant c.before.before.before.before.before.before.before.before.requires).rest c.before.before.before.before.item-at.ensures))
     (λ c v.
-    walk-goes-on (c.before.before.before.before.before.loop.invariant v) c.before.before.before.before.item-at.ensures c.before.before.before.matches.ensures
+    walk_goes_on (c.before.before.before.before.before.loop.invariant v) c.before.before.before.before.item-at.ensures c.before.before.before.matches.ensures
     c.before.kind_at.ensures c.before.before.if1.false c.if2.false))

@@ -2,7 +2,7 @@
 -- Assumes nothing.
 use borrow.Author.Rules.{rules}
 use mathlib.Core.Path.{sym, ◌∙◌}
-use Rattle.stepping.specs.Laws.Steps.{name-room, go-answer, stop-answer}
+use Rattle.stepping.specs.Laws.Steps.{name_room, go_answer, stop_answer}
 use Rattle.stepping.proofs.steps.step.Statement.{statement}
 use Rattle.stepping.proofs.steps.step.Tie as tie
 
@@ -12,7 +12,7 @@ step_spec =
     (tie.spec
     (λ c κs. search rules)
     (λ c. search rules)
-    (λ c κs. name-room c.before.before.before.before.before.before.before.requires.0 (sym c.before.kind_at.ensures ∙ c.if1.true))
+    (λ c κs. name_room c.before.before.before.before.before.before.before.requires.0 (sym c.before.kind_at.ensures ∙ c.if1.true))
     (λ c κs. (_, (_, (c.before.before.before.before.before.before.before.before.before.requires.0, (sym c.before.before.before.kind_at.ensures ∙ c.before.before.if1.true, sym c.before.kind-at2.ensures ∙ c.if2.true)))))
     (λ c v. c.call_step.ensures _ _ v (sym c.before.before.before.before.kind_at.ensures ∙ c.before.before.before.if1.true) (sym c.before.before.kind-at2.ensures ∙ c.before.if2.true))
     (λ c κs. (_, (c.before.before.before.before.before.before.before.before.before.before.before.requires.0, (sym c.before.before.before.before.before.kind_at.ensures ∙ c.before.before.before.before.if1.true, ((λ e. c.before.before.if2.false (c.before.before.before.kind-at2.ensures ∙ e)), c.before.before.before.before.before.before.before.before.before.before.before.requires.1)))))
@@ -25,8 +25,8 @@ step_spec =
     (λ c κs. (_, (c.before.before.before.before.before.before.before.before.before.before.requires.0, sym c.before.before.before.before.kind_at.ensures ∙ c.before.if4.true)))
     (λ c. search rules)
     (λ c v. c.decode-step.ensures _ v (sym c.before.before.before.before.before.kind_at.ensures ∙ c.before.before.if4.true))
-    (λ c v. stop-answer v (sym c.before.before.before.before.kind_at.ensures ∙ c.if5.true))
+    (λ c v. stop_answer v (sym c.before.before.before.before.kind_at.ensures ∙ c.if5.true))
     (λ c κs. search rules)
     (λ c v.
-    go-answer v (λ e. c.before.before.before.before.if1.false (c.before.before.before.before.before.kind_at.ensures ∙ e)) (λ e. c.before.before.before.if3.false (c.before.before.before.before.before.kind_at.ensures ∙ e))
+    go_answer v (λ e. c.before.before.before.before.if1.false (c.before.before.before.before.before.kind_at.ensures ∙ e)) (λ e. c.before.before.before.if3.false (c.before.before.before.before.before.kind_at.ensures ∙ e))
     (λ e. c.before.before.if4.false (c.before.before.before.before.before.kind_at.ensures ∙ e)) (λ e. c.before.if5.false (c.before.before.before.before.before.kind_at.ensures ∙ e)) c.link_at.ensures))

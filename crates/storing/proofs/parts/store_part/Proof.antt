@@ -1,12 +1,12 @@
 -- `storing::parts::store_part` meets its contract.
 -- Assumes nothing.
 use borrow.Author.Rules.{rules}
-use Rattle.storing.specs.Laws.Parts.{part-put}
+use Rattle.storing.specs.Laws.Parts.{part_put}
 use Rattle.storing.proofs.parts.store_part.Statement.{statement}
 use Rattle.storing.proofs.parts.store_part.Tie as tie
 
-pub store-part-spec : {M : Type 1} → statement M
-store-part-spec =
+pub store_part_spec : {M : Type 1} → statement M
+store_part_spec =
     tie.close
     (tie.spec
     (λ c. search rules)
@@ -16,4 +16,4 @@ store-part-spec =
     (λ c κs. search rules)
     (λ c. search rules)
     (λ c. search rules)
-    (λ c. record { put = search part-put; place = search rules; word = search rules; value = search rules }))
+    (λ c. record { put = search part_put; place = search rules; word = search rules; value = search rules }))

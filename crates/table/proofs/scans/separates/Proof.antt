@@ -8,9 +8,9 @@ use Rattle.table.specs.Laws.Scans.{missing}
 use Rattle.table.proofs.scans.separates.Statement.{statement}
 use Rattle.table.proofs.scans.separates.Tie as tie
 
-pub separates-spec : {M : Type 1} → statement M
+pub separates_spec : {M : Type 1} → statement M
 unfolding separates member
-separates-spec =
+separates_spec =
     tie.close
     (tie.spec
     (λ c. sym (ap separates c.match.keys1))

@@ -5,33 +5,33 @@ use native.Mathlib.Omega.{arith}
 use mathlib.Core.Path.{◌≡◌}
 use mathlib.Core.List.{List}
 use Prim.Native.Nat.{ℕ, ◌+◌}
-use Rattle.table.specs.Bits.{BitsView, bitsSize}
-use Rattle.table.specs.Views.{View, wordsSize}
-use Rattle.table.specs.Laws.Views.{bitsPart}
-use Rattle.table.specs.Laws.Views.{bits-view, given-within, given-some, given-none}
+use Rattle.table.specs.Bits.{BitsView, bits_size}
+use Rattle.table.specs.Views.{View, words_size_of}
+use Rattle.table.specs.Laws.Views.{bits_part}
+use Rattle.table.specs.Laws.Views.{bits_view, given_within, given_some, given_none}
 use Rattle.table.proofs.views.given_at.Statement.{statement}
 use Rattle.table.proofs.views.given_at.Tie as tie
 
 -- where the tokens of the words and of the bits end
-behind-bits : {records values : List ℕ} {i w b : ℕ} (v : View records values i) → w ≡ wordsSize v.declaration
-    → ((values : List ℕ) (u : BitsView records values (i + 1 + w)) → b ≡ bitsSize u.bits)
-    → i + 1 + w + b ≡ i + 1 + wordsSize v.declaration + bitsSize (bitsPart v.declaration)
-behind-bits v e f = omega (arith, f _ (bits-view v _ (omega arith)))
+behind_bits : {records values : List ℕ} {i w b : ℕ} (v : View records values i) → w ≡ words_size_of v.declaration
+    → ((values : List ℕ) (u : BitsView records values (i + 1 + w)) → b ≡ bits_size u.bits)
+    → i + 1 + w + b ≡ i + 1 + words_size_of v.declaration + bits_size (bits_part v.declaration)
+behind_bits v e f = omega (arith, f _ (bits_view v _ (omega arith)))
 
-pub given-at-spec : {M : Type 1} → statement M
-given-at-spec =
+pub given_at_spec : {M : Type 1} → statement M
+given_at_spec =
     tie.close
     (tie.spec
-    (λ c. omega (arith, given-within c.before.requires.1))
+    (λ c. omega (arith, given_within c.before.requires.1))
     (λ c κs. search rules)
-    (λ c. let v = c.before.before.requires.1 in omega (arith, given-within v, c.words_size.ensures _ v))
-    (λ c κs. let v = c.before.before.requires.1 in (_, bits-view v _ (omega (arith, c.words_size.ensures _ v))))
-    (λ c. let v = c.before.before.before.requires.1 in omega (arith, given-within v, behind-bits v (c.before.words_size.ensures _ v) c.bits-size.ensures))
-    (λ c κs. let v = c.before.before.before.requires.1 in omega (arith, given-within v, behind-bits v (c.before.words_size.ensures _ v) c.bits-size.ensures))
+    (λ c. let v = c.before.before.requires.1 in omega (arith, given_within v, c.words_size.ensures _ v))
+    (λ c κs. let v = c.before.before.requires.1 in (_, bits_view v _ (omega (arith, c.words_size.ensures _ v))))
+    (λ c. let v = c.before.before.before.requires.1 in omega (arith, given_within v, behind_bits v (c.before.words_size.ensures _ v) c.bits-size.ensures))
+    (λ c κs. let v = c.before.before.before.requires.1 in omega (arith, given_within v, behind_bits v (c.before.words_size.ensures _ v) c.bits-size.ensures))
     (λ c.
     let v = c.before.before.before.before.before.requires.1 in
-    omega (arith, given-within v, behind-bits v (c.before.before.before.words_size.ensures _ v) c.before.before.bits-size.ensures))
+    omega (arith, given_within v, behind_bits v (c.before.before.before.words_size.ensures _ v) c.before.before.bits-size.ensures))
     (λ c values v.
-    given-some v (behind-bits v (c.before.before.before.words_size.ensures _ v) c.before.before.bits-size.ensures) c.before.kind_at.ensures c.if1.true)
+    given_some v (behind_bits v (c.before.before.before.words_size.ensures _ v) c.before.before.bits-size.ensures) c.before.kind_at.ensures c.if1.true)
     (λ c values v.
-    given-none v (behind-bits v (c.before.before.before.words_size.ensures _ v) c.before.before.bits-size.ensures) c.before.kind_at.ensures c.if1.false))
+    given_none v (behind_bits v (c.before.before.before.words_size.ensures _ v) c.before.before.bits-size.ensures) c.before.kind_at.ensures c.if1.false))

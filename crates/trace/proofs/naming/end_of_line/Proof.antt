@@ -12,8 +12,8 @@ invariant-loop listing from at₀ at = (from ≤ at) × (at ≤ length listing)
 abbrev decreases-loop : tie.decreases-loop
 decreases-loop listing from at₀ at = length listing - at
 
-pub end-of-line-spec : {M : Type 1} → statement M
-end-of-line-spec =
+pub end_of_line_spec : {M : Type 1} → statement M
+end_of_line_spec =
     tie.close
     (tie.spec
     invariant-loop

@@ -12,8 +12,8 @@ invariant-loop listing number at₀ k₀ at k = at ≤ length listing
 abbrev decreases-loop : tie.decreases-loop
 decreases-loop listing number at₀ k₀ at k = number - k
 
-pub start-of-line-spec : {M : Type 1} → statement M
-start-of-line-spec =
+pub start_of_line_spec : {M : Type 1} → statement M
+start_of_line_spec =
     tie.close
     (tie.spec
     invariant-loop

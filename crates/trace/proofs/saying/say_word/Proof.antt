@@ -6,8 +6,8 @@ use lib.ListN.{length-take}
 use Rattle.trace.proofs.saying.say_word.Statement.{statement}
 use Rattle.trace.proofs.saying.say_word.Tie as tie
 
-pub say-word-spec : {M : Type 1} → statement M
-say-word-spec =
+pub say_word_spec : {M : Type 1} → statement M
+say_word_spec =
     tie.close
     (tie.spec
     (λ c κs. search rules)

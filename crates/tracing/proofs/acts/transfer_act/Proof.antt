@@ -2,12 +2,12 @@
 -- Assumes nothing.
 use borrow.Author.Rules.{rules}
 use Rattle.stepping.specs.Laws.Steps.{move_at}
-use Rattle.tracing.specs.Laws.Acts.{fault-told, stored-told}
+use Rattle.tracing.specs.Laws.Acts.{fault_told, stored_told}
 use Rattle.tracing.proofs.acts.transfer_act.Statement.{statement}
 use Rattle.tracing.proofs.acts.transfer_act.Tie as tie
 
-pub transfer-act-spec : {M : Type 1} → statement M
-transfer-act-spec =
+pub transfer_act_spec : {M : Type 1} → statement M
+transfer_act_spec =
     tie.close
     (tie.spec
     (λ c κs. search rules)
@@ -17,8 +17,8 @@ transfer-act-spec =
     (λ c. search rules)
     (λ c. search rules)
     (λ c. search rules)
-    (λ c decls v k o. fault-told v k o c.before.made.given.1 c.before.before.before.before.before.before.before.before.before.transfer.ensures)
+    (λ c decls v k o. fault_told v k o c.before.made.given.1 c.before.before.before.before.before.before.before.before.before.transfer.ensures)
     (λ c. search rules)
     (λ c. search rules)
     (λ c. search rules)
-    (λ c decls v k o. stored-told v k o c.enum_told.given.1 c.before.before.before.before.before.before.before.before.before.before.before.before.link_at.ensures c.before.before.before.before.before.before.before.before.transfer.ensures))
+    (λ c decls v k o. stored_told v k o c.enum_told.given.1 c.before.before.before.before.before.before.before.before.before.before.before.before.link_at.ensures c.before.before.before.before.before.before.before.before.transfer.ensures))

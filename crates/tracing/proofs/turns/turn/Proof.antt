@@ -2,7 +2,7 @@
 -- Assumes nothing.
 use borrow.Author.Rules.{rules}
 use native.Mathlib.Omega.{arith}
-use Rattle.tracing.specs.Laws.Turns.{part_length, turn-way, turn-told}
+use Rattle.tracing.specs.Laws.Turns.{part_length, turn_way, turn_told}
 use Rattle.tracing.proofs.turns.turn.Statement.{statement}
 use Rattle.tracing.proofs.turns.turn.Tie as tie
 
@@ -16,9 +16,9 @@ turn_spec =
     (λ c. search rules)
     (λ c. search rules)
     (λ c. search rules)
-    (λ c κs. (turn-way c.before.before.before.before.before.before.before.before.before.before.before.before.before.before.before.before.before.before.before.before.before.before.requires.0 c.before.before.before.before.before.before.before.before.before.before.act.auto.1.1.1.0 c.before.before.before.before.before.before.before.before.before.before.act.ensures, c.before.before.before.before.before.before.before.before.before.before.before.before.before.before.before.before.before.before.before.before.before.before.requires.0.high))
+    (λ c κs. (turn_way c.before.before.before.before.before.before.before.before.before.before.before.before.before.before.before.before.before.before.before.before.before.before.requires.0 c.before.before.before.before.before.before.before.before.before.before.act.auto.1.1.1.0 c.before.before.before.before.before.before.before.before.before.before.act.ensures, c.before.before.before.before.before.before.before.before.before.before.before.before.before.before.before.before.before.before.before.before.before.before.requires.0.high))
     (λ c. search rules)
     (λ c. search rules)
     (λ c. search rules)
     (λ c. search rules)
-    (λ c v. turn-told v c.before.before.before.before.before.before.before.before.before.before.before.before.before.before.before.act.auto.1.1.1.0 c.before.before.before.before.before.before.before.before.before.before.before.before.before.before.before.act.ensures c.before.before.before.before.onward.ensures))
+    (λ c v. turn_told v c.before.before.before.before.before.before.before.before.before.before.before.before.before.before.before.act.auto.1.1.1.0 c.before.before.before.before.before.before.before.before.before.before.before.before.before.before.before.act.ensures c.before.before.before.before.onward.ensures))

@@ -9,5 +9,5 @@ returns : tie.Need-returns
 unfolding field
 returns c = search rules
 
-pub field-spec : {M : Type 1} → statement M
-field-spec = tie.close (tie.spec (λ c. search rules) (λ c κs. search rules) returns)
+pub field_spec : {M : Type 1} → statement M
+field_spec = tie.close (tie.spec (λ c. search rules) (λ c κs. search rules) returns)

@@ -10,8 +10,8 @@ whole v n h e = rw e (omega arith)
 one_shifted : (n : ℕ) → n ≤ 64 → (n ≡ 64 → ⊥) → 1 * 2 ^ n % 2 ^ 64 ≡ 2 ^ n
 one_shifted n h other = shl_exact 1 n 64 (lit< tt) (omega arith) ∙ one-mul (2 ^ n)
 
-pub low-bits-spec : {M : Type 1} → statement M
-low-bits-spec =
+pub low_bits_spec : {M : Type 1} → statement M
+low_bits_spec =
     tie.close
     (tie.spec
     (λ c. search (rules, whole))

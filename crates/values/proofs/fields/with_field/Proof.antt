@@ -1,24 +1,24 @@
 -- `values::fields::with_field` meets its contract: the old field is part of the word, and the new word fits 64 bits as the old one does.
 -- Assumes nothing.
 use Rattle.std.proofs.Common.{◌≡◌, ℕ, ◌+◌, ◌-◌, ◌*◌, ◌%◌, ◌^◌, ◌<◌, ◌≤◌, arith, rules}
-use Rattle.rules.specs.Values.{field, withField}
-use Rattle.values.specs.Laws.Fields.{word-parts, with-fits}
+use Rattle.rules.specs.Values.{field, with_field}
+use Rattle.values.specs.Laws.Fields.{word_parts, with_fits}
 use Rattle.values.proofs.fields.with_field.Statement.{statement}
 use Rattle.values.proofs.fields.with_field.Tie as tie
 
-module _ (low size w old : ℕ) (fits : w < 2 ^ 64) (within : low + size ≤ 64) (is-old : old ≡ field low size w) where
+module _ (low size w old : ℕ) (fits : w < 2 ^ 64) (within : low + size ≤ 64) (is_old : old ≡ field low size w) where
   contained : old * 2 ^ low % 2 ^ 64 ≤ w
-  contained = rw is-old (omega (arith, word-parts low size w))
+  contained = rw is_old (omega (arith, word_parts low size w))
 
-  replaced : (v new : ℕ) → new ≡ v % 2 ^ size → w - old * 2 ^ low % 2 ^ 64 + new * 2 ^ low % 2 ^ 64 ≡ withField low size w v
-  unfolding withField
-  replaced v new is-new = rw (is-old, is-new) (omega (arith, word-parts low size w, with-fits low size w v 64 within fits))
+  replaced : (v new : ℕ) → new ≡ v % 2 ^ size → w - old * 2 ^ low % 2 ^ 64 + new * 2 ^ low % 2 ^ 64 ≡ with_field low size w v
+  unfolding with_field
+  replaced v new is_new = rw (is_old, is_new) (omega (arith, word_parts low size w, with_fits low size w v 64 within fits))
 
   fit : (v new : ℕ) → new ≡ v % 2 ^ size → w - old * 2 ^ low % 2 ^ 64 + new * 2 ^ low % 2 ^ 64 < 2 ^ 64
-  fit v new is-new = rw (replaced v new is-new) (with-fits low size w v 64 within fits)
+  fit v new is_new = rw (replaced v new is_new) (with_fits low size w v 64 within fits)
 
-pub with-field-spec : {M : Type 1} → statement M
-with-field-spec =
+pub with_field_spec : {M : Type 1} → statement M
+with_field_spec =
     tie.close
     (tie.spec
     (λ c κs. search rules)

@@ -1,9 +1,9 @@
 -- `values::operators::differ` meets its contract: XOR is the machine's.
 -- Assumes nothing.
 use Rattle.std.proofs.Common.{sym}
-use Rattle.values.specs.Laws.Results.{xor-machine}
+use Rattle.values.specs.Laws.Results.{xor_machine}
 use Rattle.values.proofs.operators.differ.Statement.{statement}
 use Rattle.values.proofs.operators.differ.Tie as tie
 
-pub differ-spec : {M : Type 1} → statement M
-differ-spec = tie.close (tie.spec (λ c m n fit. sym (xor-machine fit)))
+pub differ_spec : {M : Type 1} → statement M
+differ_spec = tie.close (tie.spec (λ c m n fit. sym (xor_machine fit)))

@@ -2,15 +2,15 @@
 -- Assumes nothing.
 use Rattle.std.proofs.Common.{◌≡◌, ℕ, ◌+◌, ◌-◌, ◌%◌, ◌^◌, ◌<◌, ◌≤◌, ◌∙◌, arith, rules}
 use lib.Pow.{not_mod}
-use Rattle.rules.specs.Values.{notNumber}
+use Rattle.rules.specs.Values.{not_number}
 use Rattle.values.proofs.operators.invert.Statement.{statement}
 use Rattle.values.proofs.operators.invert.Tie as tie
 
-inverted : (n a r : ℕ) → n ≤ 64 → a < 2 ^ n → r ≡ (2 ^ 64 - 1 - a) % 2 ^ n → r ≡ notNumber n a
-unfolding notNumber
+inverted : (n a r : ℕ) → n ≤ 64 → a < 2 ^ n → r ≡ (2 ^ 64 - 1 - a) % 2 ^ n → r ≡ not_number n a
+unfolding not_number
 inverted n a r h fits e =
     let all : 64 - n + n ≡ 64 = omega arith in
     e ∙ rw all at (not_mod (64 - n) n fits)
 
-pub invert-spec : {M : Type 1} → statement M
-invert-spec = tie.close (tie.spec (λ c κs. search rules) (λ c. search (rules, inverted)))
+pub invert_spec : {M : Type 1} → statement M
+invert_spec = tie.close (tie.spec (λ c κs. search rules) (λ c. search (rules, inverted)))

@@ -4,7 +4,7 @@ use Rattle.std.proofs.Common.{◌≡◌, ℕ, ◌+◌, ◌-◌, ◌%◌, ◌^◌
 use native.Mathlib.Nat.{add-mod_right, mod-add-mod}
 use lib.Pow.{mod-mod-pow}
 use Rattle.rules.specs.Text.Tokens.{minus}
-use Rattle.rules.specs.Values.{opBits, opNumber}
+use Rattle.rules.specs.Values.{op_bits, op_number}
 use Rattle.values.specs.Operands.{Fit}
 use Rattle.values.proofs.operators.subtract.Statement.{statement}
 use Rattle.values.proofs.operators.subtract.Tie as tie
@@ -21,11 +21,11 @@ less p d a b h e =
     sym (add-mod_right d p) ∙ rw (← from, ← to, ← mod-add-mod (d + b), e, mod-add-mod)
 
 difference : (n d r a b m k : ℕ) → n ≤ 64 → (d + b) % 2 ^ 64 ≡ a → r ≡ d % 2 ^ n
-    → Fit m a k b → n ≡ opBits minus m k → r ≡ opNumber minus m a k b
-unfolding opBits opNumber
-difference n d r a b m k h wraps is-low fit len =
+    → Fit m a k b → n ≡ op_bits minus m k → r ≡ op_number minus m a k b
+unfolding op_bits op_number
+difference n d r a b m k h wraps is_low fit len =
     let below : b ≤ 2 ^ n = omega (arith, fit.right, pow_mono {i = k} {j = n} (omega arith)) in
-    rw (← len) (is-low ∙ less (2 ^ n) d a b below (shorter n (d + b) a h wraps))
+    rw (← len) (is_low ∙ less (2 ^ n) d a b below (shorter n (d + b) a h wraps))
 
-pub subtract-spec : {M : Type 1} → statement M
-subtract-spec = tie.close (tie.spec (λ c κs. search rules) (λ c κs. search rules) (λ c. search (rules, difference)))
+pub subtract_spec : {M : Type 1} → statement M
+subtract_spec = tie.close (tie.spec (λ c κs. search rules) (λ c κs. search rules) (λ c. search (rules, difference)))

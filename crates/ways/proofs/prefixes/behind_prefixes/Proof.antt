@@ -6,7 +6,7 @@ use mathlib.Core.Path.{sym, ◌∙◌}
 use Prim.Native.Nat.{◌-◌}
 use lib.ListN.{length}
 use Rattle.ways.specs.Laws.Standing.{starts, within}
-use Rattle.ways.specs.Laws.Prefixes.{Walking, prefixed-none, prefixed-then}
+use Rattle.ways.specs.Laws.Prefixes.{Walking, prefixed_none, prefixed_then}
 use Rattle.ways.proofs.prefixes.behind_prefixes.Statement.{statement}
 use Rattle.ways.proofs.prefixes.behind_prefixes.Tie as tie
 
@@ -16,13 +16,13 @@ invariant-loop records₀ labels₀ s₀ records labels s = Walking records₀ l
 abbrev decreases-loop : tie.decreases-loop
 decreases-loop records₀ labels₀ s₀ records labels s = length records - s.at
 
-pub behind-prefixes-spec : {M : Type 1} → statement M
-behind-prefixes-spec =
+pub behind_prefixes_spec : {M : Type 1} → statement M
+behind_prefixes_spec =
     tie.close
     (tie.spec
     invariant-loop
     decreases-loop
-    (λ c. record { left = λ g depth v. prefixed-none v })
+    (λ c. record { left = λ g depth v. prefixed_none v })
     (λ c κs. let (g, depth, v) = c.before.before.before.before.requires in (g, starts (c.before.loop.invariant.left g depth v).now))
     (λ c. let (g, depth, v) = c.before.before.before.before.before.before.requires in (c.before.before.before.loop.invariant.left g depth v).kept.long)
     (λ c. let (g, depth, v) = c.before.before.before.before.before.before.requires in (c.before.before.before.loop.invariant.left g depth v).stack.long)
@@ -42,6 +42,6 @@ behind-prefixes-spec =
     record {
       left = λ g depth v.
           let p = c.before.before.before.before.before.before.before.before.before.before.loop.invariant.left g depth v in
-          prefixed-then v p
+          prefixed_then v p
           (c.before.before.before.before.prefix.ensures g depth p.now (sym (c.before.before.before.before.before.before.before.before.is-prefix.ensures g (starts p.now)) ∙ not-false _ c.before.before.before.before.before.before.before.if1.false)).0;
     }))

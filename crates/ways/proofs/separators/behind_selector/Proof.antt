@@ -3,25 +3,25 @@
 use borrow.Author.Rules.{rules}
 use native.Mathlib.Omega.{arith}
 use Rattle.ways.specs.Laws.Seeking.{found_within}
-use Rattle.ways.specs.Laws.Turns.{separator-within, opener-within, lead-sought, led-action, bare-action}
+use Rattle.ways.specs.Laws.Turns.{separator_within, opener_within, lead_sought, led_action, bare_action}
 use Rattle.ways.proofs.separators.behind_selector.Statement.{statement}
 use Rattle.ways.proofs.separators.behind_selector.Tie as tie
 
-pub behind-selector-spec : {M : Type 1} → statement M
-behind-selector-spec =
+pub behind_selector_spec : {M : Type 1} → statement M
+behind_selector_spec =
     tie.close
     (tie.spec
-    (λ c. omega (arith, (separator-within c.before.requires).1))
-    (λ c κs. opener-within c.before.requires.1)
+    (λ c. omega (arith, (separator_within c.before.requires).1))
+    (λ c κs. opener_within c.before.requires.1)
     (λ c κs. search rules)
-    (λ c. omega (arith, (separator-within c.before.before.before.before.requires).1))
-    (λ c κs. (c.before.before.before.before.requires.0, lead-sought c.before.before.before.before.requires.1 c.before.before.kind_at.ensures c.before.selects.ensures c.if1.true))
+    (λ c. omega (arith, (separator_within c.before.before.before.before.requires).1))
+    (λ c κs. (c.before.before.before.before.requires.0, lead_sought c.before.before.before.before.requires.1 c.before.before.kind_at.ensures c.before.selects.ensures c.if1.true))
     (λ c.
     let (g, v) = c.before.before.before.before.before.requires in
-    let s = lead-sought v c.before.before.before.kind_at.ensures c.before.before.selects.ensures c.before.if1.true in
+    let s = lead_sought v c.before.before.before.kind_at.ensures c.before.before.selects.ensures c.before.if1.true in
     omega (arith, found_within g s c.seek.result (c.seek.ensures.1 g s)))
     (λ c g v.
-    led-action v c.before.before.before.kind_at.ensures c.before.before.selects.ensures c.before.if1.true c.seek.result
-    (c.seek.ensures.1 g (lead-sought v c.before.before.before.kind_at.ensures c.before.before.selects.ensures c.before.if1.true)))
-    (λ c. omega (arith, (separator-within c.before.before.before.before.requires).1))
-    (λ c g v. bare-action v c.before.before.kind_at.ensures c.before.selects.ensures c.if1.false))
+    led_action v c.before.before.before.kind_at.ensures c.before.before.selects.ensures c.before.if1.true c.seek.result
+    (c.seek.ensures.1 g (lead_sought v c.before.before.before.kind_at.ensures c.before.before.selects.ensures c.before.if1.true)))
+    (λ c. omega (arith, (separator_within c.before.before.before.before.requires).1))
+    (λ c g v. bare_action v c.before.before.kind_at.ensures c.before.selects.ensures c.if1.false))

@@ -8,9 +8,9 @@ use Rattle.ways.specs.Turns.{selects}
 use Rattle.ways.proofs.separators.selects.Statement.{statement}
 use Rattle.ways.proofs.separators.selects.Tie as tie
 
-pub selects-spec : {M : Type 1} → statement M
+pub selects_spec : {M : Type 1} → statement M
 unfolding selects member
-selects-spec =
+selects_spec =
     tie.close
     (tie.spec
     (λ c. sym (ap selects c.match.keys1))

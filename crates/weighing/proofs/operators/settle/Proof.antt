@@ -6,15 +6,15 @@ use mathlib.Core.Path.{◌≡◌, refl, ap, ◌∙◌}
 use mathlib.Core.List.{List, []}
 use Prim.Native.Nat.{ℕ, ◌+◌, ◌-◌, ◌*◌, ◌<◌, ◌≤◌}
 use lib.ListN.{length, get_or}
-use Rattle.rules.specs.Text.Tokens.{Info, Op, opKind, kindNo}
+use Rattle.rules.specs.Text.Tokens.{Info, Op, op_kind, kind_no}
 use Rattle.rules.specs.Grammar.Precedence.{Factor, tightness}
-use Rattle.rules.specs.Faults.Bodies.{Judged, judgedAs}
-use Rattle.records.specs.Holds.{kindByte, placeCell}
-use Rattle.table.specs.Operators.{tightnessAt}
-use Rattle.table.specs.Laws.Operators.{tightness-at}
+use Rattle.rules.specs.Faults.Bodies.{Judged, judged_as}
+use Rattle.records.specs.Holds.{kind_byte, place_cell}
+use Rattle.table.specs.Operators.{tightness_at}
+use Rattle.table.specs.Laws.Operators.{tightness_at_lem}
 use Rattle.weighing.specs.Weights.{Weighs, operated}
 use Rattle.weighing.specs.Settling.{SettleAt, Settles}
-use Rattle.weighing.specs.Laws.Settling.{Settling, top, top-room, top-kind, top-place, top_small, length-fits, left-fits, turned, stopped, emptied}
+use Rattle.weighing.specs.Laws.Settling.{Settling, top, top_room, top_kind, top_place, top_small, length_fits, left_fits, turned, stopped, emptied}
 use Rattle.weighing.proofs.operators.settle.Statement.{statement}
 use Rattle.weighing.proofs.operators.settle.Tie as tie
 
@@ -23,7 +23,7 @@ record Inv (records ats keys lengths : List ℕ) (tight count₀ k₀ n₀ count
   pub all : (v : SettleAt records ats keys lengths count₀ k₀ n₀) (operand : Factor → Judged) → Settling v operand tight count k n
 
 begin : {records ats keys lengths : List ℕ} {tight count k n : ℕ} → SettleAt records ats keys lengths count k n → Inv records ats keys lengths tight count k n count k n
-begin s = record { now = s; all = λ v operand. record { here = v; same-looser = refl; same-settled = refl } }
+begin s = record { now = s; all = λ v operand. record { here = v; same_looser = refl; same_settled = refl } }
 
 module _ {records ats keys lengths : List ℕ} {tight count₀ k₀ n₀ count k n : ℕ} (inv : Inv records ats keys lengths tight count₀ k₀ n₀ count k n) where
   ended : count ≤ 0 → (v : SettleAt records ats keys lengths count₀ k₀ n₀) (operand : Factor → Judged) → Settles operand tight v.waits v.value count k n
@@ -31,30 +31,30 @@ module _ {records ats keys lengths : List ℕ} {tight count₀ k₀ n₀ count k
 
   module _ (some : 0 < count) where
     room : 8 * get_or ats (count - 1) 0 + 8 ≤ length records
-    room = top-room inv.now (top inv.now some) refl
+    room = top_room inv.now (top inv.now some) refl
 
-    fits : (place : ℕ) → place ≡ placeCell records (get_or ats (count - 1) 0) → (get_or lengths (count - 1) 0 ≤ 64) × (n ≤ 64) × (place ≤ 32768)
-    fits place e = (left-fits inv.now (top inv.now some), length-fits inv.now, omega (arith, top_small inv.now (top inv.now some) refl))
+    fits : (place : ℕ) → place ≡ place_cell records (get_or ats (count - 1) 0) → (get_or lengths (count - 1) 0 ≤ 64) × (n ≤ 64) × (place ≤ 32768)
+    fits place e = (left_fits inv.now (top inv.now some), length_fits inv.now, omega (arith, top_small inv.now (top inv.now some) refl))
 
-    module _ {op t : ℕ} (eo : op ≡ kindByte records (get_or ats (count - 1) 0)) (et : t ≡ tightnessAt op) where
+    module _ {op t : ℕ} (eo : op ≡ kind_byte records (get_or ats (count - 1) 0)) (et : t ≡ tightness_at op) where
       binds : {k n : ℕ} (v : SettleAt records ats keys lengths count k n) → t ≡ tightness (top v some).last.op
-      binds v = et ∙ ap tightnessAt (eo ∙ top-kind v (top v some) refl) ∙ tightness-at (top v some).last.op
+      binds v = et ∙ ap tightness_at (eo ∙ top_kind v (top v some) refl) ∙ tightness_at_lem (top v some).last.op
 
       stop : t < tight → (v : SettleAt records ats keys lengths count₀ k₀ n₀) (operand : Factor → Judged) → Settles operand tight v.waits v.value count k n
       stop h v operand = let s = inv.all v operand in stopped s (top s.here some) (rw (binds s.here) at h)
 
-      module _ (h : tight ≤ t) (place : ℕ) (ep : place ≡ placeCell records (get_or ats (count - 1) 0)) {k' n' : ℕ}
-          (both : (o : Op) (i : Info) (a b : Judged) → op ≡ kindNo (opKind o) → place ≡ i.place
+      module _ (h : tight ≤ t) (place : ℕ) (ep : place ≡ place_cell records (get_or ats (count - 1) 0)) {k' n' : ℕ}
+          (both : (o : Op) (i : Info) (a b : Judged) → op ≡ kind_no (op_kind o) → place ≡ i.place
           → Weighs (get_or keys (count - 1) 0) (get_or lengths (count - 1) 0) a → Weighs k n b → Weighs k' n' (operated o i a b)) where
         turn : (v : SettleAt records ats keys lengths count₀ k₀ n₀) (operand : Factor → Judged) → Settling v operand tight (count - 1) k' n'
         turn v operand =
             let s = inv.all v operand in
             let w = top s.here some in
             turned s w (rw (binds s.here) at h)
-            (both w.last.op w.last.info w.last.left s.here.value (eo ∙ top-kind s.here w refl) (ep ∙ top-place s.here w refl) w.at.left s.here.weighs)
+            (both w.last.op w.last.info w.last.left s.here.value (eo ∙ top_kind s.here w refl) (ep ∙ top_place s.here w refl) w.at.left s.here.weighs)
 
         again : SettleAt records ats keys lengths count₀ k₀ n₀ → Inv records ats keys lengths tight count₀ k₀ n₀ (count - 1) k' n'
-        again v = record { now = (turn v (λ f. judgedAs [] 0)).here; all = turn }
+        again v = record { now = (turn v (λ f. judged_as [] 0)).here; all = turn }
 
 abbrev invariant-loop : tie.invariant-loop
 invariant-loop records ats keys lengths tight count₀ key₀ bits₀ count key bits = Inv records ats keys lengths tight count₀ key₀ bits₀ count key bits
@@ -62,8 +62,8 @@ invariant-loop records ats keys lengths tight count₀ key₀ bits₀ count key 
 abbrev decreases-loop : tie.decreases-loop
 decreases-loop records ats keys lengths tight count₀ key₀ bits₀ count key bits = count
 
-pub settle-spec : {M : Type 1} → statement M
-settle-spec =
+pub settle_spec : {M : Type 1} → statement M
+settle_spec =
     tie.close
     (tie.spec
     invariant-loop

@@ -5,12 +5,12 @@ use native.Mathlib.Omega.{arith}
 use lib.Seq.{length-take-le}
 use Rattle.room.specs.Whole.{labels_from}
 use Rattle.whole.specs.Laws.Written.{reading, worded}
-use Rattle.whole.specs.Laws.WalkKeys.{memo-room, all-labels, fault-group, told-group, fault-jump, told-nothing}
+use Rattle.whole.specs.Laws.WalkKeys.{memo_room, all_labels, fault_group, told_group, fault_jump, told_nothing}
 use Rattle.whole.proofs.walks.fault_at.Statement.{statement}
 use Rattle.whole.proofs.walks.fault_at.Tie as tie
 
-pub fault-at-spec : {M : Type 1} → statement M
-fault-at-spec =
+pub fault_at_spec : {M : Type 1} → statement M
+fault_at_spec =
     tie.close
     (tie.spec
     (λ c κs. search rules)
@@ -20,15 +20,15 @@ fault-at-spec =
     (λ c κs. (
       reading c.before.before.before.before.before.before.before.requires.written,
       (
-        memo-room c.before.before.before.before.before.before.before.requires.written
+        memo_room c.before.before.before.before.before.before.before.requires.written
             c.before.before.before.before.before.before.before.requires.roomy,
         c.before.before.before.before.before.before.before.requires.roomy.complete,
       ),
     ))
     (λ c. (
-      fault-group c.before.before.before.before.before.before.before.before.requires c.before.before.before.opens.ensures
+      fault_group c.before.before.before.before.before.before.before.before.requires c.before.before.before.opens.ensures
           c.before.before.if1.true c.group_at.ensures.0,
-      told-group c.before.before.before.before.before.before.before.before.requires c.before.before.before.opens.ensures c.group_at.ensures.1,
+      told_group c.before.before.before.before.before.before.before.before.requires c.before.before.before.opens.ensures c.group_at.ensures.1,
     ))
     (λ c. search rules)
     (λ c. search rules)
@@ -36,14 +36,14 @@ fault-at-spec =
     (λ c κs. (
       worded c.before.before.before.before.before.before.before.requires.written,
       (
-        rw (all-labels c.before.before.before.before.before.before.before.args.room.now)
+        rw (all_labels c.before.before.before.before.before.before.before.args.room.now)
             c.before.before.before.before.before.before.before.requires.labelled,
-        (c.before.before.before.before.before.before.before.requires.within, c.before.before.before.before.before.before.before.requires.kind-is),
+        (c.before.before.before.before.before.before.before.requires.within, c.before.before.before.before.before.before.before.requires.kind_is),
       ),
     ))
     (λ c. (
-      fault-jump c.before.before.before.before.before.before.before.before.requires c.before.before.before.opens.ensures
-          c.before.before.if1.false (rw (all-labels c.before.before.before.before.before.before.before.before.args.room.now) at
+      fault_jump c.before.before.before.before.before.before.before.before.requires c.before.before.before.opens.ensures
+          c.before.before.if1.false (rw (all_labels c.before.before.before.before.before.before.before.before.args.room.now) at
           c.jump-key.ensures),
-      told-nothing c.before.before.before.before.before.before.before.before.requires c.before.before.before.opens.ensures c.before.before.if1.false _,
+      told_nothing c.before.before.before.before.before.before.before.before.requires c.before.before.before.opens.ensures c.before.before.if1.false _,
     )))

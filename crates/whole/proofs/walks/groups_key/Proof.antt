@@ -1,7 +1,7 @@
 -- `whole::walks::groups_key` meets its contract.
 use borrow.Author.Rules.{rules}
 use Prim.Native.Nat.{◌-◌}
-use Rattle.whole.specs.Laws.WalkKeys.{Bodies, bodies-none, bodies-more, bodies-all}
+use Rattle.whole.specs.Laws.WalkKeys.{Bodies, bodies_none, bodies_more, bodies_all}
 use Rattle.whole.proofs.walks.groups_key.Statement.{statement}
 use Rattle.whole.proofs.walks.groups_key.Tie as tie
 
@@ -11,17 +11,17 @@ invariant-loop text records decls room₀ m n key₀ k₀ room key k = Bodies te
 abbrev decreases-loop : tie.decreases-loop
 decreases-loop text records decls room₀ m n key₀ k₀ room key k = m - k
 
-pub groups-key-spec : {M : Type 1} → statement M
-groups-key-spec =
+pub groups_key_spec : {M : Type 1} → statement M
+groups_key_spec =
     tie.close
     (tie.spec
     invariant-loop
     decreases-loop
-    (λ c. search (rules, bodies-none))
+    (λ c. search (rules, bodies_none))
     (λ c. search rules)
     (λ c κs. (c.before.before.loop.invariant.gathered.given, (c.before.before.loop.invariant.roomy, c.before.loop-test.true)))
     (λ c κs. search rules)
     (λ c. search rules)
-    (λ c. search (rules, bodies-more))
+    (λ c. search (rules, bodies_more))
     (λ c. search rules)
-    (λ c. search (rules, bodies-all)))
+    (λ c. search (rules, bodies_all)))

@@ -7,9 +7,9 @@ use Rattle.scopes.specs.Walks.{opens}
 use Rattle.whole.proofs.walks.opens.Statement.{statement}
 use Rattle.whole.proofs.walks.opens.Tie as tie
 
-pub opens-spec : {M : Type 1} → statement M
+pub opens_spec : {M : Type 1} → statement M
 unfolding opens member
-opens-spec =
+opens_spec =
     tie.close
     (tie.spec
     (λ c. sym (ap opens c.match.keys1))

@@ -12,8 +12,8 @@ invariant-loop reason i k₀ k = k ≤ i
 abbrev decreases-loop : tie.decreases-loop
 decreases-loop reason i k₀ k = i - k
 
-pub closes-spec : {M : Type 1} → statement M
-closes-spec =
+pub closes_spec : {M : Type 1} → statement M
+closes_spec =
     tie.close
     (tie.spec
     invariant-loop

@@ -13,8 +13,8 @@ invariant-loop out₀ at reason text n next₀ i₀ out next i = (length out ≡
 abbrev decreases-loop : tie.decreases-loop
 decreases-loop out₀ at reason text n next₀ i₀ out next i = n - i
 
-pub put-bodies-spec : {M : Type 1} → statement M
-put-bodies-spec =
+pub put_bodies_spec : {M : Type 1} → statement M
+put_bodies_spec =
     tie.close
     (tie.spec
     invariant-loop
