@@ -1,4 +1,6 @@
 // Actions. Only BEGIN nests, and `depth` falls with each: a block holds actions, a DECODE alternatives, and these hold actions again.
+#![tactic(auto)]
+
 ghost use Rattle.std.specs.Prelude.{◌≡◌, List, ℕ, ◌+◌};
 ghost use Rattle.stacks.specs.Stacks.{Kept};
 ghost use Rattle.plain.specs.Actions.{ActionView, ActionAnswer, IsBlock, IsDecode};

@@ -1,4 +1,6 @@
 // Check and Run, each with its answer.
+#![tactic(auto)]
+
 ghost use Rattle.std.specs.Prelude.{◌≤◌};
 
 use lines::answers::{Answer, answer_of};

@@ -1,5 +1,7 @@
 // Runs the description on standard input from zero carriers, and writes how the run ended and the words that it left.
 
+#![tactic(auto)]
+
 ghost use Rattle.std.specs.Prelude.{◌≤◌, length};
 ghost use Rattle.rules.specs.Limits.{longest_text};
 

@@ -1,4 +1,6 @@
 // Writes how many steps a run of the description on standard input can take at most, from any carriers.
+#![tactic(auto)]
+
 ghost use Rattle.std.specs.Prelude.{◌≤◌, length};
 
 use lines::answers::{Answer, REFUSED, answer_of};

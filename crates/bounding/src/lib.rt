@@ -1,3 +1,5 @@
 // The longest run over the token table.
+#![tactic(auto)]
+
 pub mod filling;
 pub mod mains;

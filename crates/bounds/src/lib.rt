@@ -1,1 +1,3 @@
 // Theorems of the longest run: see specs/. There is no code here.
+
+#![tactic(auto)]

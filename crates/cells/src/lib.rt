@@ -1,4 +1,6 @@
 // A lent byte buffer as a table of little-endian cells, of 16 bits and of 64. The sums and remainders are compiled to single loads and stores.
+#![tactic(auto)]
+
 ghost use Rattle.std.specs.Prelude.{◌≡◌, ◌+◌, ◌*◌, ◌<◌, ◌≤◌, length, get_or};
 ghost use Rattle.cells.specs.Cells.{cell, put_cell};
 

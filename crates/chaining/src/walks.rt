@@ -14,13 +14,13 @@ use rules::limits::LONGEST_CHAIN;
 use sharing::name_place;
 
 // The numbers of a reason.
-#[derive(Drop)]
+#[derive(Clone, Copy)]
 pub struct Numbers {
     pub n: [u32; 24],
 }
 
 // What is listed, by its numbers and as a set of bodies; the body that is listed next; and whether there is one.
-#[derive(Drop)]
+#[derive(Clone, Copy)]
 pub struct Walk {
     pub going: bool,
     pub body: usize,

@@ -1,4 +1,6 @@
 // Check: judges a text.
+#![tactic(auto)]
+
 pub mod verdicts;
 
 ghost use Rattle.rules.specs.Calls.Memory.{memory};

@@ -1,4 +1,6 @@
 // The alternatives of one DECODE, each by itself and against the others: 45.
+#![tactic(auto)]
+
 ghost use Rattle.std.specs.Prelude.{◌≡◌, ◌||◌, [], ◌∷◌, ◌+◌, ◌*◌, ◌<◌, ◌≤◌, min, leb, length};
 ghost use Rattle.rules.specs.Selectors.{between};
 ghost use Rattle.rules.specs.Faults.Fault.{when};

@@ -1,4 +1,6 @@
 // Trace: compares a designer's list of stores with the runs of a text.
+#![tactic(auto)]
+
 mod traces;
 
 ghost use Rattle.rules.specs.Calls.Memory.{memory};

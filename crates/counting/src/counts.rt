@@ -10,7 +10,7 @@ use rules::limits::MOST_STEPS;
 pub const ENDLESS: u64 = MOST_STEPS + 1;
 
 // How many BEGINs are open, and the count.
-#[derive(Drop)]
+#[derive(Clone, Copy)]
 pub struct Nest {
     pub depth: usize,
     pub count: u64,

@@ -1,10 +1,12 @@
 // Decimals of up to 64 bits in a file.
+#![tactic(auto)]
+
 ghost use Rattle.std.specs.Prelude.{◌≤◌, length};
 
 const LARGEST: u64 = 18446744073709551615;
 
 // A number, or that there is none.
-#[derive(Drop)]
+#[derive(Clone, Copy)]
 pub struct Decimal {
     pub is_number: bool,
     pub value: u64,

@@ -1,4 +1,6 @@
 // What a description declares: where its declarations stand, the refusals 30 to 33, and what its names mean.
+#![tactic(auto)]
+
 pub mod counting;
 pub mod faults;
 pub mod finding;
@@ -17,7 +19,7 @@ use resolving::give_meanings;
 use spelling::spell;
 
 // No fault of the 30s, with the number of declarations; or the least one, its number and its place.
-#[derive(Drop)]
+#[derive(Clone, Copy)]
 pub enum Declared {
     Fine(usize),
     Refused(u32, usize),

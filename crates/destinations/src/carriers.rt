@@ -2,7 +2,7 @@
 ghost use Rattle.std.specs.Prelude.{◌≡◌, replicate};
 ghost use Rattle.destinations.specs.Carriers.{holds, added};
 
-#[derive(Drop)]
+#[derive(Clone, Copy)]
 pub struct Carriers {
     pub words: [u64; 4],
 }

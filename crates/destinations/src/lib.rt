@@ -1,4 +1,6 @@
 // A destination: accesses joined by `@`, up to `=`. Refusals 40 to 43 and 46.
+#![tactic(auto)]
+
 pub mod carriers;
 pub mod owners;
 
@@ -18,7 +20,7 @@ use weighing::Weight;
 use weighing::operators::combined;
 
 // The key of the least fault, and the token behind.
-#[derive(Drop)]
+#[derive(Clone, Copy)]
 pub struct Checked {
     pub key: u32,
     pub next: usize,

@@ -8,7 +8,7 @@ use table::meanings::OUTER_ONLY;
 use table::views::{bits_of, target_of};
 
 // A carrier by the number of its declaration, or none.
-#[derive(Drop)]
+#[derive(Clone, Copy)]
 pub enum Storage {
     Carrier(u8),
     Nothing,

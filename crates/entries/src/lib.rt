@@ -1,4 +1,6 @@
 // The entries of a list, written to its bytes.
+#![tactic(auto)]
+
 ghost use Rattle.std.specs.Prelude.{◌≡◌, ◌+◌, ◌*◌, ◌≤◌, length};
 ghost use Rattle.cells.specs.Cells.{put_cell};
 ghost use Rattle.entries.specs.Entries.{put_entry};

@@ -1,4 +1,6 @@
 // Expressions, tests and transfers of an accepted text, worked out over the carriers: a lent buffer with 8 bytes for each word.
+#![tactic(auto)]
+
 pub mod transfers;
 
 ghost use Rattle.evaluation.specs.Tests.{TestAt, TestAnswer};

@@ -12,14 +12,14 @@ use records::fields::inside_at;
 use rules::limits::DEEPEST;
 use values::fields::{part, with_field};
 
-#[derive(Drop)]
+#[derive(Clone, Copy)]
 pub enum Transferred {
     Stored,
     Fault(u16),
 }
 
 // The fields of a joined destination: how many stand in the scratch, and their bits together; or the place of a Fault 70.
-#[derive(Drop)]
+#[derive(Clone, Copy)]
 pub enum Gathered {
     Fields(usize, u32),
     Fault(u16),

@@ -11,7 +11,7 @@ use reading::bits::{Set, empty};
 pub const ABOVE_MARK: u64 = 65536;
 
 // What an action reads and writes, and whether it may stop.
-#[derive(Drop)]
+#[derive(Clone, Copy)]
 pub struct Touched {
     pub reads: Set,
     pub writes: Set,

@@ -9,7 +9,7 @@ use rules::kinds::{
 use table::scans::{SEPARATOR, deeper, halts};
 
 // Whether the action ends before the token or with it, and the depth and the mode behind it.
-#[derive(Drop)]
+#[derive(Clone, Copy)]
 pub struct Onward {
     pub ends: bool,
     pub closes: bool,

@@ -136,7 +136,7 @@ fn named(
 }
 
 // What an action touches, and a token from which a search outside of blocks comes to its end.
-#[derive(Drop)]
+#[derive(Clone, Copy)]
 pub struct Extent {
     pub touched: Touched,
     pub at: usize,

@@ -8,7 +8,7 @@ use lib.ListN.{get_or}
 use Rattle.laws_grammar.specs.Cited.Rows.{Site, Use, Part, Owner, State}
 use Rattle.laws_grammar.specs.Cited.Rows.{in_block, in_counted, in_selected, in_last, test, choose, value, in_parens, in_subscript, of_expression}
 use Rattle.laws_grammar.specs.Cited.Rows.{of_destination, of_mapping, of_words, of_name, of_main, title, title_becomes, title_begin, declaration, heading_name}
-use Rattle.laws_grammar.specs.Cited.Rows.{heading_close, declarator, declarator_rest, first_word_lem, word_colon, second_word, words_close, words_bits, own_bits, own_bits_more}
+use Rattle.laws_grammar.specs.Cited.Rows.{heading_close, declarator, declarator_rest, first_word, word_colon, second_word, words_close, words_bits, own_bits, own_bits_more}
 use Rattle.laws_grammar.specs.Cited.Rows.{own_bits_second, own_bits_close, own_bits_done, body_or_mapping, body_begin, mapping_bits, main_name, main_rest, declaration_done, action}
 use Rattle.laws_grammar.specs.Cited.Rows.{action_name, jump_target, call_open, destination, action_done, alternatives_begin, call_close, first_alternative, selector, selector_rest}
 use Rattle.laws_grammar.specs.Cited.Rows.{selector_second, selector_becomes, otherwise_becomes, list_item, list_item_rest, list_item_second, list_rest, operand, access_rest, access_bits_lem}
@@ -82,7 +82,7 @@ of_states f =
     ∷ f heading_close
     ∷ f declarator
     ∷ f declarator_rest
-    ∷ f first_word_lem
+    ∷ f first_word
     ∷ f word_colon
     ∷ f second_word
     ∷ f words_close
@@ -138,7 +138,7 @@ each_state f t heading_name = nth (of_states f) 4 t
 each_state f t heading_close = nth (of_states f) 5 t
 each_state f t declarator = nth (of_states f) 6 t
 each_state f t declarator_rest = nth (of_states f) 7 t
-each_state f t first_word_lem = nth (of_states f) 8 t
+each_state f t first_word = nth (of_states f) 8 t
 each_state f t word_colon = nth (of_states f) 9 t
 each_state f t second_word = nth (of_states f) 10 t
 each_state f t words_close = nth (of_states f) 11 t

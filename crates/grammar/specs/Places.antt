@@ -4,7 +4,7 @@ use Rattle.std.specs.Prelude.{[], ◌∷◌, ℕ, ◌+◌, get_or}
 use Rattle.laws_grammar.specs.Cited.Rows.{Site, Use, Part, Owner, State}
 use Rattle.laws_grammar.specs.Cited.Rows.{in_block, in_counted, in_selected, in_last, test, choose, value, in_parens, in_subscript, of_expression}
 use Rattle.laws_grammar.specs.Cited.Rows.{of_destination, of_mapping, of_words, of_name, of_main, title, title_becomes, title_begin, declaration, heading_name}
-use Rattle.laws_grammar.specs.Cited.Rows.{heading_close, declarator, declarator_rest, first_word_lem, word_colon, second_word, words_close, words_bits, own_bits, own_bits_more}
+use Rattle.laws_grammar.specs.Cited.Rows.{heading_close, declarator, declarator_rest, first_word, word_colon, second_word, words_close, words_bits, own_bits, own_bits_more}
 use Rattle.laws_grammar.specs.Cited.Rows.{own_bits_second, own_bits_close, own_bits_done, body_or_mapping, body_begin, mapping_bits, main_name, main_rest, declaration_done, action}
 use Rattle.laws_grammar.specs.Cited.Rows.{action_name, jump_target, call_open, destination, action_done, alternatives_begin, call_close, first_alternative, selector, selector_rest}
 use Rattle.laws_grammar.specs.Cited.Rows.{selector_second, selector_becomes, otherwise_becomes, list_item, list_item_rest, list_item_second, list_rest, operand, access_rest, access_bits_lem}
@@ -42,7 +42,7 @@ place heading_name = 11
 place heading_close = 5
 place declarator = 64
 place declarator_rest = 223
-place first_word_lem = 89
+place first_word = 89
 place word_colon = 94
 place second_word = 128
 place words_close = 136

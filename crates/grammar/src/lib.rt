@@ -1,4 +1,6 @@
 // The grammar's recogniser: refusals 20 and 21, by one move a token over a stack of states.
+#![tactic(auto)]
+
 mod rows;
 
 ghost use Rattle.std.specs.Prelude.{◌≡◌, ◌<◌};
@@ -14,7 +16,7 @@ use rows::{Entries, TABLE, TITLE};
 use rules::limits::DEEPEST;
 
 // The tokens are a description's, or refused with the number of the token where they are: that of the end is how many there are.
-#[derive(Drop)]
+#[derive(Clone, Copy)]
 pub enum Recognised {
     Accepted,
     Refused20(usize),
@@ -22,7 +24,7 @@ pub enum Recognised {
 }
 
 // What a state does with a token: nothing, on to a state, into a bracket (the state in it, the state behind it), out of a bracket.
-#[derive(Drop)]
+#[derive(Clone, Copy)]
 enum Next {
     Nowhere,
     On(usize),

@@ -7,7 +7,7 @@ use blocks::blocks::{BLOCK_SIZE, HEAD_SIZE, PAYLOAD_SIZE, is_checked, is_formed,
 use blocks::bytes::copy;
 
 // The image is not refused; or it is, with the number and the place.
-#[derive(Drop)]
+#[derive(Clone, Copy)]
 pub enum Judged {
     Fine,
     Refused(u32, usize),

@@ -1,2 +1,4 @@
 // Images of carrier buffers, on byte slices alone: written, judged, read.
+#![tactic(auto)]
+
 pub mod images;

@@ -1,4 +1,6 @@
 // The public calls.
+#![tactic(auto)]
+
 ghost use Rattle.rules.specs.Calls.Memory.{memory};
 ghost use Rattle.rules.specs.Calls.Check.{CheckCall};
 ghost use Rattle.rules.specs.Calls.Why.{WhyCall};

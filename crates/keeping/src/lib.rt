@@ -1,4 +1,6 @@
 // Store and Load: carriers of an accepted text kept as an image, and an image taken as carriers.
+#![tactic(auto)]
+
 mod endings;
 mod loads;
 mod stores;

@@ -1,7 +1,7 @@
 // How Store and Load end.
 
 // With a refusal, its number and its place; or the buffer is written.
-#[derive(Drop)]
+#[derive(Clone, Copy)]
 pub enum Ending {
     Refused(u32, usize),
     Done,

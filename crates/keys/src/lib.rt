@@ -1,4 +1,6 @@
 // Faults as numbers, of which the least is kept.
+#![tactic(auto)]
+
 ghost use Rattle.std.specs.Prelude.{◌≡◌, ◌/◌, ◌%◌, ◌<◌, ◌≤◌, min};
 ghost use Rattle.rules.specs.Faults.Fault.{fault};
 ghost use Rattle.rules.specs.Limits.{longest_text};
@@ -24,7 +26,7 @@ pub fn number_key(number: u32, place: usize) -> u32
 }
 
 // The fault that a key stands for.
-#[derive(Drop)]
+#[derive(Clone, Copy)]
 pub struct Refusal {
     pub number: u32,
     pub place: usize,

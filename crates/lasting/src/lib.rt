@@ -1,4 +1,6 @@
 // The longest run: a bound on the steps of a text.
+#![tactic(auto)]
+
 mod answers;
 
 ghost use Rattle.rules.specs.Calls.Memory.{memory};

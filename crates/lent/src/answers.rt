@@ -8,7 +8,7 @@ use cells::put64;
 use positions::position_of;
 
 // The numbers of an answer. What the fourth and the fifth mean depends on the call.
-#[derive(Drop)]
+#[derive(Clone, Copy)]
 pub struct Answer {
     pub ending: u32,
     pub number: u32,

@@ -15,7 +15,7 @@ use classes::letters::upper;
 use rules::limits::MOST_BITS;
 
 // What the digits of a constant come to.
-#[derive(Drop)]
+#[derive(Clone, Copy)]
 pub enum Number {
     Malformed,
     Known { value: u64, free: u64, bits: u8 },

@@ -12,7 +12,7 @@ use classes::classes::{IN_COMMENT, class_of, run_end};
 
 // Nothing and how many bytes more it takes, a token, or a refusal's number. A token has its kind's number, its size (bytes of a word, bits of a
 // constant), a constant's value and the bits that its `?` leave free.
-#[derive(Drop)]
+#[derive(Clone, Copy)]
 pub enum Lexeme {
     Nothing(usize),
     Token {

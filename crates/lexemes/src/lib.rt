@@ -1,4 +1,6 @@
 // One token: words, constants, marks.
+#![tactic(auto)]
+
 pub mod constants;
 pub mod lexemes;
 pub mod marks;

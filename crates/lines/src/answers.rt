@@ -7,7 +7,7 @@ use cells::get16;
 
 pub const REFUSED: u64 = 4;
 
-#[derive(Drop)]
+#[derive(Clone, Copy)]
 pub struct Answer {
     pub ending: u64,
     pub number: u64,

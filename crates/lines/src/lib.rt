@@ -1,4 +1,6 @@
 // What the programs over the public calls share: the numbers of an answer, and lines of text, appended to what a lent buffer holds.
+#![tactic(auto)]
+
 pub mod answers;
 pub mod bytes;
 pub mod digits;

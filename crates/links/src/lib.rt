@@ -1,4 +1,6 @@
 // Where control goes: each instruction of a body takes into its record where control goes behind it and inside.
+#![tactic(auto)]
+
 pub mod actions;
 pub mod bodies;
 pub mod leaves;

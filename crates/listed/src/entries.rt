@@ -13,7 +13,7 @@ const ENTRY_SIZE: usize = 16;
 const MOST_ENTRIES: usize = 4096;
 
 // A store: the place of the transfer, the word's number in carrier order, and the word's new value.
-#[derive(Drop)]
+#[derive(Clone, Copy)]
 pub struct Entry {
     pub place: u32,
     pub word: u32,

@@ -12,7 +12,7 @@ const LINE_END: u8 = 10;
 const LARGEST: u64 = 4294967295;
 
 // What stands on a line.
-#[derive(Drop)]
+#[derive(Clone, Copy)]
 pub enum Line {
     Blank,
     Store(Entry),
@@ -20,7 +20,7 @@ pub enum Line {
 }
 
 // What a file has: so many entries; or a line, counted from 1, that is none.
-#[derive(Drop)]
+#[derive(Clone, Copy)]
 pub struct Listed {
     pub is_list: bool,
     pub line: u64,

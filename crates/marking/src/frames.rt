@@ -9,7 +9,7 @@ use cells::get16;
 use rules::limits::DEEPEST;
 
 // Where a walk stands: how many BEGINs are open, the member that the next token is in, and the two cells of that token.
-#[derive(Drop)]
+#[derive(Clone, Copy)]
 pub struct Nest {
     pub depth: usize,
     pub around: usize,

@@ -1,4 +1,6 @@
 // The cells of tokens that have the members of groups, written in one walk along the tokens of a description.
+#![tactic(auto)]
+
 ghost use Rattle.std.specs.Prelude.{List, ℕ, ◌*◌, ◌≤◌, length};
 ghost use Rattle.reading.specs.Reading.{Reading};
 ghost use Rattle.telling.specs.Cited.Cells.{AllMarked};

@@ -12,7 +12,7 @@ use listed::entries::count;
 use room::trace::{BAD, FLOOR};
 
 // The list is that of an order; or the first entry at which it is none, or its length.
-#[derive(Drop)]
+#[derive(Clone, Copy)]
 pub enum Verdict {
     Yes,
     No(u16),

@@ -1,4 +1,6 @@
 // The members of groups, in two cells of two bytes for each token: its rank, and the member around it. What is behind the last token is in no member.
+#![tactic(auto)]
+
 ghost use Rattle.std.specs.Prelude.{◌≡◌, ◌*◌, ◌≤◌, length};
 ghost use Rattle.telling.specs.Cited.Cells.{member_of};
 ghost use Rattle.members.specs.Cells.{cells_in};

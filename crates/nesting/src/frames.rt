@@ -13,7 +13,7 @@ use rules::limits::DEEPEST;
 
 // How many labels are around it and the flag at its end, its own flag; whether control comes to the present group, whether all of its members so far have
 // ended, whether it is a block.
-#[derive(Drop)]
+#[derive(Clone, Copy)]
 pub struct Frame {
     pub label: usize,
     pub flag: usize,

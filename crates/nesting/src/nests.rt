@@ -8,7 +8,7 @@ use cells::{get16, put16};
 
 // How many BEGINs are open, the first free flag, how many labels are around; the flag at the end of the action here, whether control comes to it; whether it is a
 // DECODE; of its destination, whether it has begun, its place, whether it writes the output; and the lowest place so far.
-#[derive(Drop)]
+#[derive(Clone, Copy)]
 pub struct Nest {
     pub depth: usize,
     pub free: usize,

@@ -1,7 +1,7 @@
 // A budget of steps, as it is given to the program.
 use rules::limits::MOST_STEPS;
 
-#[derive(Drop)]
+#[derive(Clone, Copy)]
 pub enum Budget {
     Steps(u32),
     Unreadable,

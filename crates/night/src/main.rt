@@ -1,5 +1,7 @@
 // night IMAGE BUDGET: runs the description on standard input from the carriers that the file IMAGE keeps, or from zero carriers where there is no such file,
 // and keeps in it those that the run leaves, unless it faulted.
+#![tactic(auto)]
+
 mod budgets;
 mod carriers;
 mod files;

@@ -1,4 +1,6 @@
 // An operand behind its NOTs.
+#![tactic(auto)]
+
 ghost use Rattle.nots.specs.Nots.{OperandIn, Bared};
 
 use records::fields::kind_at;

@@ -13,14 +13,14 @@ use table::views::bits_size;
 use values::fields::field;
 
 // The bits that an access stands for: a word, its lowest bit, their number, and the token behind the access; or the place of a Fault 70.
-#[derive(Drop)]
+#[derive(Clone, Copy)]
 pub enum Located {
     Field(usize, u32, u32, usize),
     Fault(u16),
 }
 
 // How far a word stands from the left one.
-#[derive(Drop)]
+#[derive(Clone, Copy)]
 enum Word {
     Number(u64),
     Outside,

@@ -19,7 +19,7 @@ use values::operators::invert;
 use values::{operate, operate_bits};
 
 // A number, its length and the token behind what has it; or the place of a Fault 70.
-#[derive(Drop)]
+#[derive(Clone, Copy)]
 pub enum Evaluated {
     Value(u64, u32, usize),
     Fault(u16),

@@ -6,7 +6,7 @@ use table::operators::tightness_of;
 use values::{operate, operate_bits};
 
 // How many operators still wait, and the value of what is settled.
-#[derive(Drop)]
+#[derive(Clone, Copy)]
 pub struct Settled {
     pub count: usize,
     pub number: u64,

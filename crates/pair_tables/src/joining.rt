@@ -15,7 +15,7 @@ use places::counting::first_words;
 use records::fields::place_at;
 
 // The key of the least 80, and the words of the joint table.
-#[derive(Drop)]
+#[derive(Clone, Copy)]
 pub struct Joined {
     pub key: u32,
     pub words: usize,

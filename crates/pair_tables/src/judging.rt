@@ -14,7 +14,7 @@ use rules::limits::MOST_WORDS;
 use starts::Started;
 
 // The turns can be taken; or refused, with the side, the number and the place.
-#[derive(Drop)]
+#[derive(Clone, Copy)]
 pub enum Judged {
     Fine,
     Refused(u32, u32, usize),

@@ -10,7 +10,7 @@ use crate::words::same_words;
 use cells::get16;
 
 // Words of its own; words of its own, though storage of its name is there with other names; or those of the first text's declaration of this number.
-#[derive(Drop)]
+#[derive(Clone, Copy)]
 pub enum Met {
     Own,
     Clashing,

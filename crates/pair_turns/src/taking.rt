@@ -7,7 +7,7 @@ use crate::turns::turn;
 use runner::runs::Ended;
 
 // How the last turn ended, with the steps of all turns; and its side.
-#[derive(Drop)]
+#[derive(Clone, Copy)]
 pub struct Last {
     pub ended: Ended,
     pub side: u8,

@@ -1,4 +1,6 @@
 // Two texts over one table of carriers: reads both afresh and takes their turns.
+#![tactic(auto)]
+
 mod answers;
 mod memory;
 mod texts;

@@ -12,7 +12,7 @@ use pair_turns::views::fill_view;
 use preparing::runs::prepare;
 
 // Where MAIN begins in each text, and the words of the second.
-#[derive(Drop)]
+#[derive(Clone, Copy)]
 struct Begun {
     first: usize,
     second: usize,

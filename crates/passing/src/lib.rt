@@ -1,5 +1,7 @@
 // What control passes on its way between two instructions of a body, told to the matching. The members of groups around an instruction are followed upwards in
 // the cells of tokens.
+#![tactic(auto)]
+
 mod climbing;
 mod meeting;
 

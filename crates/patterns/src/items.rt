@@ -6,7 +6,7 @@ ghost use Rattle.patterns.specs.Items.{meant};
 use crate::meets::{patterns_meet, weight};
 
 // What an item stands for: a value with free bits, or all values from a lowest to a highest.
-#[derive(Drop)]
+#[derive(Clone, Copy)]
 pub enum Item {
     Pattern(u64, u64),
     Between(u64, u64),

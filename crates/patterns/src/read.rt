@@ -8,14 +8,14 @@ use records::fields::{kind_at, value_at};
 use rules::kinds::{COLON, MASKED};
 
 // A constant: its value with 0 for each `?`, and the bits that they leave free.
-#[derive(Drop)]
+#[derive(Clone, Copy)]
 pub struct Literal {
     pub value: u64,
     pub free: u64,
 }
 
 // An item, and the number of the token behind it.
-#[derive(Drop)]
+#[derive(Clone, Copy)]
 pub struct Found {
     pub item: Item,
     pub next: usize,

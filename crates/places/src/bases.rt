@@ -15,7 +15,7 @@ use records::fields::inside_at;
 use table::views::{Names, bits_of, target_bits, target_of, words_of};
 
 // The first word, the names of the words (0 without), the lowest bit, and the names of the bits.
-#[derive(Drop)]
+#[derive(Clone, Copy)]
 pub struct Base {
     pub first: u64,
     pub left: u64,
@@ -25,7 +25,7 @@ pub struct Base {
 }
 
 // Where a mapping lies: the first word of its carrier, and the lowest bit.
-#[derive(Drop)]
+#[derive(Clone, Copy)]
 pub struct Lies {
     pub first: u64,
     pub low: u64,

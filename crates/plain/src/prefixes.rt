@@ -13,7 +13,7 @@ use rules::kinds::{IF, REPEAT};
 use stacks::push;
 
 // The key of the least fault in front of an action, where the action begins, and how many names stand around it.
-#[derive(Drop)]
+#[derive(Clone, Copy)]
 pub struct Prefixed {
     pub key: u32,
     pub at: usize,

@@ -8,7 +8,7 @@ const LINE_END: u8 = 10;
 // Lines and columns are counted from here.
 const FIRST: u32 = 1;
 
-#[derive(Drop)]
+#[derive(Clone, Copy)]
 pub struct Cursor {
     pub offset: usize,
     pub line: u32,

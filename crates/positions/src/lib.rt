@@ -1,4 +1,6 @@
 // Line and column of a place in a text.
+#![tactic(auto)]
+
 mod cursors;
 
 ghost use Rattle.std.specs.Prelude.{◌≡◌, ◌<◌, ◌≤◌, length};

@@ -1,5 +1,7 @@
 // Judges the description on standard input by the resume profile: `profile TEST OUTPUT`, with the names of the test and of the output.
 
+#![tactic(auto)]
+
 ghost use Rattle.std.specs.Prelude.{◌+◌, ◌≤◌, length};
 ghost use Rattle.lines.specs.Appended.{Appended};
 ghost use Rattle.profile.specs.Report.{reason_bytes, report_bytes};

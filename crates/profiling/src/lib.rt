@@ -1,4 +1,6 @@
 // The resume profile over the token table.
+#![tactic(auto)]
+
 pub mod names;
 pub mod rounds;
 pub mod steps;

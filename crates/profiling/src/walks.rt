@@ -15,7 +15,7 @@ use records::fields::kind_at;
 use room::profile::FRAMES;
 
 // Whether its end is reached, and the lowest place that is too early.
-#[derive(Drop)]
+#[derive(Clone, Copy)]
 pub struct Found {
     pub ends: bool,
     pub low: usize,

@@ -10,7 +10,7 @@ use rules::kinds::SEMI;
 use whole::groups::{place_of, races};
 
 // Two members by their tokens. Where the later one is not behind the earlier one there are none.
-#[derive(Drop)]
+#[derive(Clone, Copy)]
 pub struct Pair {
     pub earlier: usize,
     pub later: usize,

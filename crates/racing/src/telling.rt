@@ -13,7 +13,7 @@ use sharing::{first_conflict, name_place, writers};
 use whole::groups::place_of;
 
 // Nothing; or the places of both members, the carrier's number, the place of its name, and who writes it.
-#[derive(Drop)]
+#[derive(Clone, Copy)]
 pub enum Reason {
     Nothing,
     Race(u32, u32, u32, u32, u32),

@@ -9,7 +9,7 @@ use crate::parsing::{Parsed, parse};
 use declare::{Declared, declare};
 
 // A description stands in the table with its names resolved, and has so many declarations and tokens; or the number and the place of the refusal.
-#[derive(Drop)]
+#[derive(Clone, Copy)]
 pub enum Standing {
     Fine(usize, usize),
     Refused(u32, usize),

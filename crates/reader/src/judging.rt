@@ -13,7 +13,7 @@ use rules::limits::MOST_DECLARATIONS;
 use whole::fault50;
 
 // Accepted, with so many declarations, words and tokens; or the number and the place of the refusal.
-#[derive(Drop)]
+#[derive(Clone, Copy)]
 pub enum Verdict {
     Accepted(usize, usize, usize),
     Refused(u32, usize),

@@ -1,4 +1,6 @@
 // From a text to what can be said of it: each pass in its turn, and the first refusal that is found.
+#![tactic(auto)]
+
 pub mod declaring;
 pub mod judging;
 pub mod parsing;

@@ -8,7 +8,7 @@ use records::fields::place_at;
 use text::Scanned;
 
 // A description stands in the table, with so many tokens; or the number and the place of the refusal.
-#[derive(Drop)]
+#[derive(Clone, Copy)]
 pub enum Parsed {
     Fine(usize),
     Refused(u32, usize),

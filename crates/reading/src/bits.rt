@@ -3,7 +3,7 @@ ghost use Rattle.std.specs.Prelude.{◌≡◌, ◌||◌, true, false, List, ℕ,
 ghost use Rattle.rules.specs.Whole.Sets.{member, meet};
 ghost use Rattle.reading.specs.Bits.{holds, Common};
 
-#[derive(Drop)]
+#[derive(Clone, Copy)]
 pub struct Set {
     pub w: [u64; 4],
 }

@@ -10,7 +10,7 @@ use rules::kinds::{LPAR, NAME};
 use table::scans::{SEPARATOR, deeper, halts};
 
 // The name of a body that is activated, or as many as there are tokens; and where to go on.
-#[derive(Drop)]
+#[derive(Clone, Copy)]
 pub struct Call {
     pub name: usize,
     pub at: usize,

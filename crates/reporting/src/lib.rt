@@ -1,4 +1,6 @@
 // Why a text is refused: Check with a reason.
+#![tactic(auto)]
+
 mod numbers;
 mod reports;
 

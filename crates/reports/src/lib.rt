@@ -1,4 +1,6 @@
 // What is said of a list, as people read it.
+#![tactic(auto)]
+
 ghost use Rattle.std.specs.Prelude.{◌+◌, ◌≤◌, length};
 ghost use Rattle.lines.specs.Appended.{Appended};
 ghost use Rattle.reports.specs.Reports.{reason_bytes, refusal_bytes, unended_bytes, yes_bytes, short_bytes, head_bytes, bad_bytes, behind_bytes, no_place_bytes, no_word_bytes, unreadable_bytes};

@@ -1,4 +1,6 @@
 // What the names mean: each name's record takes the number of its first declaration.
+#![tactic(auto)]
+
 ghost use Rattle.std.specs.Prelude.{◌≡◌, List, ◌+◌, ◌*◌, ◌<◌, ◌≤◌, length};
 ghost use Rattle.rules.specs.Limits.{most_tokens};
 ghost use Rattle.rules.specs.Grammar.Trees.{Tokens, Declaration};

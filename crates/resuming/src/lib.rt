@@ -1,4 +1,6 @@
 // The resume profile: whether a description writes its output before its test has ended.
+#![tactic(auto)]
+
 mod mains;
 mod outputs;
 mod profiles;

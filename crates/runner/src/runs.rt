@@ -7,7 +7,7 @@ use rules::limits::LONGEST_CHAIN;
 use stepping::steps::step;
 
 // How a run ends, with the number of steps; a fault with its number and its place before that.
-#[derive(Drop)]
+#[derive(Clone, Copy)]
 pub enum Ended {
     Done(u32),
     Stopped(u32),

@@ -9,7 +9,7 @@ use rules::limits::LONGEST_CHAIN;
 use stepping::steps::Moved;
 
 // Where control is behind a step: at an instruction, with so many on the stack; all has ended; at a STOP; or at a fault.
-#[derive(Drop)]
+#[derive(Clone, Copy)]
 pub enum Turned {
     At(usize, usize),
     Over,

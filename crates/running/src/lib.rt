@@ -1,4 +1,6 @@
 // Run: reads a text afresh and runs it.
+#![tactic(auto)]
+
 pub mod runs;
 
 ghost use Rattle.rules.specs.Calls.Memory.{memory};

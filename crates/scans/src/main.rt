@@ -3,6 +3,8 @@
 // The cases are each byte by itself (a mark for each: `-` refused 10, `2` refused 12, `0` no token, `1` a token), runs of one byte, and the lines of
 // the standard input. The lines to expect come from document 01 alone, "Bytes and tokens" and "Numbers given back", and not from the code: each case has
 // one rule that decides it. The kinds are numbered as in the rules, a place is counted in bytes from 0, and a value is written in decimal.
+#![tactic(auto)]
+
 ghost use Rattle.std.specs.Prelude.{◌+◌, ◌*◌, ◌≤◌, length};
 
 use cells::get64;

@@ -10,7 +10,7 @@ use room::whole::{FIRST_SCOPE, SCOPES_END};
 use rules::kinds::{BECOMES, BEGIN, COMMA, END, NEXT, SEMI};
 
 // How many blocks are open, and where the labels of the scope begin and end; where they end before they begin there is no scope.
-#[derive(Drop)]
+#[derive(Clone, Copy)]
 pub struct Nest {
     pub depth: usize,
     pub base: usize,

@@ -12,7 +12,7 @@ use rules::kinds::{LBRA, OTHERWISE};
 use summaries::{Summary, apart, of_items, open};
 
 // Where the items of an alternative begin; OTHERWISE has none.
-#[derive(Drop)]
+#[derive(Clone, Copy)]
 pub enum Items {
     From(usize),
     Nothing,

@@ -1,4 +1,6 @@
 // The sentence of a refusal: what is wrong at its place, and what to change there.
+#![tactic(auto)]
+
 mod bodies;
 mod calls;
 mod carriers;

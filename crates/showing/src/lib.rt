@@ -1,4 +1,6 @@
 // A run's report: how it ended, and the words of the text's carriers as lines; the text is read once more, for their names.
+#![tactic(auto)]
+
 ghost use Rattle.std.specs.Prelude.{◌≤◌, length};
 ghost use Rattle.rules.specs.Limits.{longest_text};
 

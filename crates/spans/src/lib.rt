@@ -1,4 +1,6 @@
 // Names of words and bits: how many there are, how large, and whether some lie inside others. A name may be any u64.
+#![tactic(auto)]
+
 ghost use Rattle.std.specs.Prelude.{◌≡◌, false, ◌+◌, ◌≤◌};
 ghost use Rattle.rules.specs.Declarations.{names, how_many, these};
 ghost use Rattle.rules.specs.Faults.Declared.{far_names, among, inside as lies-inside};

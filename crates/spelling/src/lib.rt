@@ -1,4 +1,6 @@
 // How names are spelled: each name's record takes, as its link, the number of the first name with the same word.
+#![tactic(auto)]
+
 pub mod letters;
 pub mod nodes;
 pub mod searching;

@@ -1,5 +1,7 @@
 // Names on a stack, kept as the numbers of their tokens in cells of lent bytes. An index behind the stack leads from a spelling to a stacked name, so that
 // looking a name up takes the same time however many are stacked.
+#![tactic(auto)]
+
 ghost use Rattle.std.specs.Prelude.{◌≡◌, ◌<◌};
 ghost use Rattle.rules.specs.Faults.Declared.{is_known};
 ghost use Rattle.records.specs.Words.{word_at};

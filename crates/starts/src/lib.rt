@@ -1,4 +1,6 @@
 // Whether carriers can start a run: the refusals 60 and 61.
+#![tactic(auto)]
+
 ghost use Rattle.std.specs.Prelude.{◌≡◌, List, leb, length, ℕ, ◌+◌, ◌*◌, ◌^◌, ◌<◌, ◌≤◌};
 ghost use Rattle.rules.specs.Grammar.Trees.{Tokens, Description};
 ghost use Rattle.rules.specs.Declarations.{declarations};
@@ -13,7 +15,7 @@ use spans::last_of;
 use table::views::bits_of;
 
 // The carriers can start a run; or they are refused, with the number and the place.
-#[derive(Drop)]
+#[derive(Clone, Copy)]
 pub enum Started {
     Fine,
     Refused(u32, usize),

@@ -13,7 +13,7 @@ use records::fields::{inside_at, kind_at, link_at, place16_at};
 use rules::kinds::{DECODE, IF, LPAR, NAME, STOP};
 
 // Where a step leads: by a link (0 for out of the body), into a body with the link behind the activation, to a STOP, or to a fault.
-#[derive(Drop)]
+#[derive(Clone, Copy)]
 pub enum Moved {
     Go(usize),
     Call(usize, usize),

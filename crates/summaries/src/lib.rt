@@ -1,4 +1,6 @@
 // Summaries of items: what is known of every value that they match. Lists that their summaries tell apart need no comparison of items.
+#![tactic(auto)]
+
 ghost use Rattle.std.specs.Prelude.{◌≡◌, true, [], ◌∷◌};
 ghost use Rattle.patterns.specs.Items.{meant};
 ghost use Rattle.patterns.specs.Stands.{ItemsView};
@@ -11,7 +13,7 @@ use records::fields::kind_at;
 use rules::kinds::COMMA;
 
 // The values lie from `low` to `high`, and agree with `value` in each bit that is not free.
-#[derive(Drop)]
+#[derive(Clone, Copy)]
 pub struct Summary {
     pub low: u64,
     pub high: u64,

@@ -1,4 +1,6 @@
 // The token table as the reader sees it: declarations, what names mean, operators, and walks over tokens.
+#![tactic(auto)]
+
 pub mod meanings;
 pub mod operators;
 pub mod scans;

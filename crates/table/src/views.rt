@@ -9,7 +9,7 @@ use records::fields::{kind_at, value_at};
 use rules::kinds::{BECOMES, BEGIN, COLON, GREATER, LBRA, LESS, MAIN};
 
 // Names of words or bits: none; one bit without a name; from left to right.
-#[derive(Drop)]
+#[derive(Clone, Copy)]
 pub enum Names {
     Missing,
     Unnamed,

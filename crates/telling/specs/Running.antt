@@ -20,7 +20,7 @@ use Rattle.laws_orders.specs.Cited.Flat.{Link, at, exit, Instr, if_i, decode_i, 
 use Rattle.laws_orders.specs.Cited.Flat.{return as return_m, Machine, runs, ended, stood, broke, put, put_after, step_m, Labels, outer, bind, leave_to, restart_to, own_label}
 use Rattle.laws_orders.specs.Orders.Stands as Flat
 use Rattle.laws_orders.specs.Orders.Stands.{work_says}
-use Rattle.laws_orders.specs.Orders.Foot.{Prints, Sub·refl}
+use Rattle.laws_orders.specs.Orders.Foot.{Prints, Sub-refl}
 use Rattle.laws_orders.specs.Orders.Ok.{Env, OkL, OkS, BodiesOk, call_ok, next_ok}
 use Rattle.traces.specs.Joining.{step_by}
 use Rattle.traces.specs.Cited.Entries.{Block}
@@ -289,7 +289,7 @@ module _ (ds : Table) (C : Code) (M : Grouping) where
     outermost n = record { foot = P.body n; may_stop = true; scope = [] }
 
     first_ok : (n : Word) → OkL P (outermost n) (call_l n (start (body_act ds n)))
-    first_ok n = call_ok P (body_act ds) ok (outermost n) n (record { foot = Sub·refl (P.body n); stopping = λ p. refl })
+    first_ok n = call_ok P (body_act ds) ok (outermost n) n (record { foot = Sub-refl (P.body n); stopping = λ p. refl })
 
     pub trace_agrees : (n : Word) (b : ℕ) (s : Carriers) → Traces n b s
     unfolding trace_run run begin openings whole

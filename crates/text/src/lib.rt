@@ -1,4 +1,6 @@
 // From bytes to tokens: the refusals 10 to 13, and the token table.
+#![tactic(auto)]
+
 mod bytes;
 
 ghost use Rattle.std.specs.Prelude.{◌≡◌, ◌+◌, ◌*◌, ◌≤◌, length};
@@ -14,7 +16,7 @@ use rules::kinds::{CONST, MASKED};
 use rules::limits::MOST_TOKENS;
 
 // The number of tokens; or a refusal's number and place.
-#[derive(Drop)]
+#[derive(Clone, Copy)]
 pub enum Scanned {
     Fine(usize),
     Refused(u32, usize),

@@ -1,4 +1,6 @@
 // trace FILE: says whether the stores that FILE lists are what some allowed order of the description on standard input makes, from zero carriers.
+#![tactic(auto)]
+
 mod naming;
 mod saying;
 

@@ -20,7 +20,7 @@ const PAUSED: u64 = 2;
 const NO_REFUSAL: u32 = 0;
 
 // What there is to say, each in its own words.
-#[derive(Drop)]
+#[derive(Clone, Copy)]
 pub enum Saying {
     BadLine(u64),
     Refusal(Answer),

@@ -1,4 +1,6 @@
 // Carrier arithmetic for numbers of any length to 64 bits: the operators of the rules, by the numbers of their kinds.
+#![tactic(auto)]
+
 pub mod fields;
 pub mod operators;
 

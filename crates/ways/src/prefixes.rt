@@ -10,7 +10,7 @@ use records::fields::{kind_at, put_inside, put_link};
 use rules::kinds::{ARROW, BECOMES, IF, NAME, REPEAT};
 
 // Where an action begins, where control goes behind it, how many labels are around it, and its first instruction.
-#[derive(Drop)]
+#[derive(Clone, Copy)]
 pub struct Spot {
     pub at: usize,
     pub link: usize,
@@ -19,7 +19,7 @@ pub struct Spot {
 }
 
 // Where an action begins, and its first instruction.
-#[derive(Drop)]
+#[derive(Clone, Copy)]
 pub struct Start {
     pub at: usize,
     pub first: usize,

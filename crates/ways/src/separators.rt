@@ -9,7 +9,7 @@ use rules::kinds::{BECOMES, CONST, LBRA, MASKED, OTHERWISE};
 use table::scans::SEPARATOR;
 
 // Where the action of an alternative begins, the separator behind it, and its first instruction.
-#[derive(Drop)]
+#[derive(Clone, Copy)]
 pub struct Extent {
     pub from: usize,
     pub end: usize,

@@ -14,7 +14,7 @@ use table::operators::tightness_of;
 use values::operate_bits;
 
 // How many operators still wait, and the weight of what is settled.
-#[derive(Drop)]
+#[derive(Clone, Copy)]
 pub struct Settled {
     pub count: usize,
     pub key: u32,

@@ -59,7 +59,7 @@ pub fn place_of(records: &[u8], decls: &[u8], m: usize, n: usize, i: usize) -> u
 }
 
 // The least key of a group, and whether it has two members or more: one member alone has none.
-#[derive(Drop)]
+#[derive(Clone, Copy)]
 pub struct Group {
     pub key: u32,
     pub several: bool,

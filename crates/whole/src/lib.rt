@@ -1,4 +1,6 @@
 // What is refused of a whole description: MAIN, chains of activations, jumps and STOP in groups, races.
+#![tactic(auto)]
+
 pub mod groups;
 pub mod walks;
 

@@ -1,4 +1,6 @@
 // Says why the description on standard input is refused, or that it is accepted.
+#![tactic(auto)]
+
 mod chains;
 mod races;
 mod reports;

@@ -16,7 +16,7 @@ use Rattle.rules.specs.Grammar.Trees.{Declarations, declared_all, declared_also,
 use Rattle.laws_grammar.specs.Cited.Rows.{Site, in_block, in_counted, in_selected, in_last, Use, test, choose, value, in_parens, in_subscript}
 use Rattle.laws_grammar.specs.Cited.Rows.{Part, of_expression, of_destination, of_mapping, Owner, of_words, of_name, of_main}
 use Rattle.laws_grammar.specs.Cited.Rows.{State, title, title_becomes, title_begin, declaration, heading_name, heading_close, declarator, declarator_rest}
-use Rattle.laws_grammar.specs.Cited.Rows.{first_word_lem, word_colon, second_word, words_close, words_bits, own_bits, own_bits_more, own_bits_second, own_bits_close, own_bits_done}
+use Rattle.laws_grammar.specs.Cited.Rows.{first_word, word_colon, second_word, words_close, words_bits, own_bits, own_bits_more, own_bits_second, own_bits_close, own_bits_done}
 use Rattle.laws_grammar.specs.Cited.Rows.{body_or_mapping, body_begin, mapping_bits, main_name, main_rest, declaration_done}
 use Rattle.laws_grammar.specs.Cited.Rows.{action, action_name, jump_target, call_open, destination, action_done, alternatives_begin, call_close, first_alternative, selector}
 use Rattle.laws_grammar.specs.Cited.Rows.{selector_rest, selector_second, selector_becomes, otherwise_becomes, list_item, list_item_rest, list_item_second, list_rest}
@@ -474,7 +474,7 @@ back heading_name k h = hit refl (hit refl (declaration_back k.1.1.0 (declaratio
 back heading_close k h = hit refl (declaration_back k.1.0 (declarations_back k.1.1 h))
 back declarator k h = declaration_back k.0 (declarations_back k.1 h)
 back declarator_rest k h = form_back k.0 (declarations_back k.1 h)
-back first_word_lem k h = hit refl (hit refl (hit refl (hit refl h)))
+back first_word k h = hit refl (hit refl (hit refl (hit refl h)))
 back word_colon k h = hit refl (hit refl (hit refl h))
 back second_word k h = hit refl (hit refl h)
 back words_close k h = hit refl h

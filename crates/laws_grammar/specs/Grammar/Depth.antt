@@ -10,7 +10,7 @@ use Rattle.laws_grammar.specs.Cited.Rows.{Rule, Row, row, lookup, first, too_dee
 use Rattle.laws_grammar.specs.Cited.Rows.{in_block, in_counted, in_selected, in_last, test, choose, value, in_parens, in_subscript}
 use Rattle.laws_grammar.specs.Cited.Rows.{of_expression, of_destination, of_mapping, of_words, of_name, of_main}
 use Rattle.laws_grammar.specs.Cited.Rows.{State, title, title_becomes, title_begin, declaration, heading_name, heading_close, declarator, declarator_rest}
-use Rattle.laws_grammar.specs.Cited.Rows.{first_word_lem, word_colon, second_word, words_close, words_bits, own_bits, own_bits_more, own_bits_second, own_bits_close, own_bits_done}
+use Rattle.laws_grammar.specs.Cited.Rows.{first_word, word_colon, second_word, words_close, words_bits, own_bits, own_bits_more, own_bits_second, own_bits_close, own_bits_done}
 use Rattle.laws_grammar.specs.Cited.Rows.{body_or_mapping, body_begin, mapping_bits, main_name, main_rest, declaration_done}
 use Rattle.laws_grammar.specs.Cited.Rows.{action, action_name, jump_target, call_open, destination, action_done, alternatives_begin, call_close, first_alternative, selector}
 use Rattle.laws_grammar.specs.Cited.Rows.{selector_rest, selector_second, selector_becomes, otherwise_becomes, list_item, list_item_rest, list_item_second, list_rest}
@@ -44,7 +44,7 @@ inside heading_name = true
 inside heading_close = true
 inside declarator = true
 inside declarator_rest = true
-inside first_word_lem = true
+inside first_word = true
 inside word_colon = true
 inside second_word = true
 inside words_close = true
@@ -113,7 +113,7 @@ row_fits heading_name = tt
 row_fits heading_close = tt
 row_fits declarator = tt
 row_fits declarator_rest = tt
-row_fits first_word_lem = tt
+row_fits first_word = tt
 row_fits word_colon = tt
 row_fits second_word = tt
 row_fits words_close = tt

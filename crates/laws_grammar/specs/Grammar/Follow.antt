@@ -10,7 +10,7 @@ use Rattle.laws_grammar.specs.Grammar.Reading.{find, put, act, read}
 use Rattle.laws_grammar.specs.Cited.Rows.{in_block, in_counted, in_selected, in_last, test, choose, value, in_parens, in_subscript}
 use Rattle.laws_grammar.specs.Cited.Rows.{of_expression, of_destination, of_mapping, of_words, of_name, of_main}
 use Rattle.laws_grammar.specs.Cited.Rows.{State, title, title_becomes, title_begin, declaration, heading_name, heading_close, declarator, declarator_rest}
-use Rattle.laws_grammar.specs.Cited.Rows.{first_word_lem, word_colon, second_word, words_close, words_bits, own_bits, own_bits_more, own_bits_second, own_bits_close, own_bits_done}
+use Rattle.laws_grammar.specs.Cited.Rows.{first_word, word_colon, second_word, words_close, words_bits, own_bits, own_bits_more, own_bits_second, own_bits_close, own_bits_done}
 use Rattle.laws_grammar.specs.Cited.Rows.{body_or_mapping, body_begin, mapping_bits, main_name, main_rest, declaration_done}
 use Rattle.laws_grammar.specs.Cited.Rows.{action, action_name, jump_target, call_open, destination, action_done, alternatives_begin, call_close, first_alternative, selector}
 use Rattle.laws_grammar.specs.Cited.Rows.{selector_rest, selector_second, selector_becomes, otherwise_becomes, list_item, list_item_rest, list_item_second, list_rest}
@@ -35,7 +35,7 @@ rows_agree heading_name = refl
 rows_agree heading_close = refl
 rows_agree declarator = refl
 rows_agree declarator_rest = refl
-rows_agree first_word_lem = refl
+rows_agree first_word = refl
 rows_agree word_colon = refl
 rows_agree second_word = refl
 rows_agree words_close = refl

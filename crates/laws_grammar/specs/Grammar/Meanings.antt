@@ -18,7 +18,7 @@ use Rattle.rules.specs.Grammar.Trees.{Declarations, declared_all, declared_also,
 use Rattle.laws_grammar.specs.Cited.Rows.{Site, in_block, in_counted, in_selected, in_last, Use, test, choose, value, in_parens, in_subscript}
 use Rattle.laws_grammar.specs.Cited.Rows.{Part, of_expression, of_destination, of_mapping, Owner, of_words, of_name, of_main}
 use Rattle.laws_grammar.specs.Cited.Rows.{State, title, title_becomes, title_begin, declaration, heading_name, heading_close, declarator, declarator_rest}
-use Rattle.laws_grammar.specs.Cited.Rows.{first_word_lem, word_colon, second_word, words_close, words_bits, own_bits, own_bits_more, own_bits_second, own_bits_close, own_bits_done}
+use Rattle.laws_grammar.specs.Cited.Rows.{first_word, word_colon, second_word, words_close, words_bits, own_bits, own_bits_more, own_bits_second, own_bits_close, own_bits_done}
 use Rattle.laws_grammar.specs.Cited.Rows.{body_or_mapping, body_begin, mapping_bits, main_name, main_rest, declaration_done}
 use Rattle.laws_grammar.specs.Cited.Rows.{action, action_name, jump_target, call_open, destination, action_done, alternatives_begin, call_close, first_alternative, selector}
 use Rattle.laws_grammar.specs.Cited.Rows.{selector_rest, selector_second, selector_becomes, otherwise_becomes, list_item, list_item_rest, list_item_second, list_rest}
@@ -175,7 +175,7 @@ meaning heading_name = tok Name ⊗ tok Stars ⊗ declaration_l ⊗ declarations
 meaning heading_close = tok Stars ⊗ declaration_l ⊗ declarations_l
 meaning declarator = declaration_l ⊗ declarations_l
 meaning declarator_rest = form_l ⊗ declarations_l
-meaning first_word_lem = tok Const ⊗ tok Colon ⊗ tok Const ⊗ tok RBra
+meaning first_word = tok Const ⊗ tok Colon ⊗ tok Const ⊗ tok RBra
 meaning word_colon = tok Colon ⊗ tok Const ⊗ tok RBra
 meaning second_word = tok Const ⊗ tok RBra
 meaning words_close = tok RBra
@@ -393,14 +393,14 @@ steps declarator = declarator_steps
 steps declarator_rest =
     record {
       on = LBra;
-      move = open_to first_word_lem words_bits;
+      move = open_to first_word words_bits;
       law = λ i r ts. refl;
       build = λ i r. (words i r.0.0 r.0.1.0 r.0.1.1.0 r.0.1.1.1 r.1.0 r.1.1.0, r.1.1.1);
     }
     ∷ record { on = Less; move = go (own_bits of_name); build = λ i r. (with_bits i r.0 r.1.0, r.1.1); law = λ i r ts. refl }
     ∷ record { on = Becomes; move = go body_begin; build = λ i r. (bare_body i r.0 r.1.0 r.1.1.0, r.1.1.1); law = λ i r ts. refl }
     ∷ []
-steps first_word_lem = record { on = Const; move = go word_colon; build = λ i r. (i, r); law = λ i r ts. refl } ∷ []
+steps first_word = record { on = Const; move = go word_colon; build = λ i r. (i, r); law = λ i r ts. refl } ∷ []
 steps word_colon = record { on = Colon; move = go second_word; build = λ i r. (i, r); law = λ i r ts. refl } ∷ []
 steps second_word = record { on = Const; move = go words_close; build = λ i r. (i, r); law = λ i r ts. refl } ∷ []
 steps words_close = record { on = RBra; move = shut; build = λ i r. i; law = λ i r ts. refl } ∷ []

@@ -12,7 +12,7 @@ use Rattle.rules.specs.Grammar.Trees.{declared_all, description}
 use Rattle.laws_grammar.specs.Cited.Rows.{Site, in_block, in_counted, in_selected, in_last, Use, test, choose, value, in_parens, in_subscript}
 use Rattle.laws_grammar.specs.Cited.Rows.{Part, of_expression, of_destination, of_mapping, Owner, of_words, of_name, of_main}
 use Rattle.laws_grammar.specs.Cited.Rows.{State, title, title_becomes, title_begin, declaration, heading_name, heading_close, declarator, declarator_rest}
-use Rattle.laws_grammar.specs.Cited.Rows.{first_word_lem, word_colon, second_word, words_close, words_bits, own_bits, own_bits_more, own_bits_second, own_bits_close, own_bits_done}
+use Rattle.laws_grammar.specs.Cited.Rows.{first_word, word_colon, second_word, words_close, words_bits, own_bits, own_bits_more, own_bits_second, own_bits_close, own_bits_done}
 use Rattle.laws_grammar.specs.Cited.Rows.{body_or_mapping, body_begin, mapping_bits, main_name, main_rest, declaration_done}
 use Rattle.laws_grammar.specs.Cited.Rows.{action, action_name, jump_target, call_open, destination, action_done, alternatives_begin, call_close, first_alternative, selector}
 use Rattle.laws_grammar.specs.Cited.Rows.{selector_rest, selector_second, selector_becomes, otherwise_becomes, list_item, list_item_rest, list_item_second, list_rest}
@@ -70,7 +70,7 @@ sample heading_name = (any_info, (any_info, (a_declaration, declared_all any_inf
 sample heading_close = (any_info, (a_declaration, declared_all any_info))
 sample declarator = (a_declaration, declared_all any_info)
 sample declarator_rest = (a_form, declared_all any_info)
-sample first_word_lem = (any_info, (any_info, (any_info, any_info)))
+sample first_word = (any_info, (any_info, (any_info, any_info)))
 sample word_colon = (any_info, (any_info, any_info))
 sample second_word = (any_info, any_info)
 sample words_close = any_info

@@ -9,7 +9,7 @@ use Rattle.rules.specs.Steps.Actions.{Act}
 use Rattle.rules.specs.Steps.Control.{Live, one, seq_l, both, left, right, lab_l, loop_l, call_l}
 use Rattle.rules.specs.Steps.Control.{Sig, ends, goes, leaves, restarts, stops, faults, Mv, work}
 use Rattle.rules.specs.Steps.Control.{seq_s, both_l, both_r, left_s, right_s, lab_s, loop_s, call_s, next}
-use Rattle.laws_orders.specs.Orders.Foot.{Foot, Indep, Prints, work_foot, Indep·sub, Indep·sym}
+use Rattle.laws_orders.specs.Orders.Foot.{Foot, Indep, Prints, work_foot, Indep-sub, Indep-sym}
 use Rattle.laws_orders.specs.Orders.Ok.{Env, under, member, in_body, OkL, OkS, BodiesOk, next_ok, work_sub}
 
 -- a fault, whatever its number and place
@@ -165,13 +165,13 @@ module _ (body : Word → Act) where
     quiet G (faults m p) h = (faulting m p, refl)
 
     turn_free : {r : Live} {m k : Mv r} → Free r m k → Free r k m
-    turn_free d = record { apart = Indep·sym d.apart; meets = λ v w. turn (d.meets w v) }
+    turn_free d = record { apart = Indep-sym d.apart; meets = λ v w. turn (d.meets w v) }
 
     module _ (bodies : BodiesOk P body) where
       cross_free : (E : Env) (r t : Live) → OkL P E (both r t) → (m : Mv r) (k : Mv t) → Free (both r t) (inl m) (inr k)
       cross_free E r t h m k =
           record {
-            apart = Indep·sub (work_sub P (member h.0) r m h.3) (work_sub P (member h.1) t k h.4) h.2.apart;
+            apart = Indep-sub (work_sub P (member h.0) r m h.3) (work_sub P (member h.1) t k h.4) h.2.apart;
             meets = λ v w.
                 let x : (q : Quiet) × (next body r m v ≡ said q) = quiet h.0 (next body r m v) (next_ok P body bodies (member h.0) r m v h.3) in
                 let y : (q : Quiet) × (next body t k w ≡ said q) = quiet h.1 (next body t k w) (next_ok P body bodies (member h.1) t k w h.4) in

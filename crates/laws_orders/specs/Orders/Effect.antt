@@ -9,7 +9,7 @@ use Rattle.rules.specs.Steps.Actions.{Access}
 use Rattle.rules.specs.Steps.Evaluation.{Carriers, Outcome, gives, faulty, evaluate, transferred}
 use Rattle.rules.specs.Steps.Control.{Work, moves, tests, nothing}
 use Rattle.rules.specs.Steps.Runs.{Worked, worked, moved, tested, perform}
-use Rattle.laws_orders.specs.Orders.Foot.{Cells, Disjoint, Indep, Prints, work_foot, Indep·sym}
+use Rattle.laws_orders.specs.Orders.Foot.{Cells, Disjoint, Indep, Prints, work_foot, Indep-sym}
 
 abbrev pub Agree : (Carriers → ℕ → ℕ) → Cells → Carriers → Carriers → Type 0
 Agree get F s u = (i : ℕ) → F i ≡ true → get s i ≡ get u i
@@ -116,7 +116,7 @@ module _ {ds : Table} {P : Prints} (M : Frames ds P) where
       second_after = work_gives o' s w.carriers w' (sym (work_length o s w e)) (unread o o' d s w e) e'
 
       first_after : Again o w w'.carriers
-      first_after = work_gives o s w'.carriers w (sym (work_length o' s w' e')) (unread o' o (Indep·sym d) s w' e') e
+      first_after = work_gives o s w'.carriers w (sym (work_length o' s w' e')) (unread o' o (Indep-sym d) s w' e') e
 
       same_length : length second_after.carriers ≡ length first_after.carriers
       same_length =

@@ -37,22 +37,22 @@ pub record Indep (F G : Foot) : Type 0 where
   pub rd_wr : Disjoint F.rd G.wr
   pub wr_wr : Disjoint F.wr G.wr
 
-pub Indep·sym : {F G : Foot} → Indep F G → Indep G F
-Indep·sym d = record { wr_rd = λ i p q. d.rd_wr i q p; rd_wr = λ i p q. d.wr_rd i q p; wr_wr = λ i p q. d.wr_wr i q p }
+pub Indep-sym : {F G : Foot} → Indep F G → Indep G F
+Indep-sym d = record { wr_rd = λ i p q. d.rd_wr i q p; rd_wr = λ i p q. d.wr_rd i q p; wr_wr = λ i p q. d.wr_wr i q p }
 
-pub Indep·sub : {F G F' G' : Foot} → Sub F' F → Sub G' G → Indep F G → Indep F' G'
-Indep·sub s t d =
+pub Indep-sub : {F G F' G' : Foot} → Sub F' F → Sub G' G → Indep F G → Indep F' G'
+Indep-sub s t d =
     record {
       wr_rd = λ i p q. d.wr_rd i (s.writes i p) (t.reads i q);
       rd_wr = λ i p q. d.rd_wr i (s.reads i p) (t.writes i q);
       wr_wr = λ i p q. d.wr_wr i (s.writes i p) (t.writes i q);
     }
 
-pub Sub·refl : (F : Foot) → Sub F F
-Sub·refl F = record { reads = λ i p. p; writes = λ i p. p }
+pub Sub-refl : (F : Foot) → Sub F F
+Sub-refl F = record { reads = λ i p. p; writes = λ i p. p }
 
-pub Sub·trans : {F G H : Foot} → Sub F G → Sub G H → Sub F H
-Sub·trans s t = record { reads = λ i p. t.reads i (s.reads i p); writes = λ i p. t.writes i (s.writes i p) }
+pub Sub-trans : {F G H : Foot} → Sub F G → Sub G H → Sub F H
+Sub-trans s t = record { reads = λ i p. t.reads i (s.reads i p); writes = λ i p. t.writes i (s.writes i p) }
 
 -- what is declared: of a body its footprint and whether it may stop; of a transfer its footprint; of a test what it reads
 pub record Prints : Type 0 where

@@ -5,7 +5,7 @@ use Rattle.rules.specs.Declarations.{Table}
 use Rattle.rules.specs.Steps.Evaluation.{Carriers, Outcome, gives, faulty}
 use Rattle.rules.specs.Steps.Control.{Live, Sig, ends, goes, leaves, restarts, stops, faults, Mv, work, next}
 use Rattle.rules.specs.Steps.Runs.{running, Worked, worked, perform, told, after, body_act, step}
-use Rattle.laws_orders.specs.Orders.Foot.{Prints, Indep·sym}
+use Rattle.laws_orders.specs.Orders.Foot.{Prints, Indep-sym}
 use Rattle.laws_orders.specs.Orders.Diamond.{Faulty, After, Meet, neither, first, second, meet, Free}
 use Rattle.laws_orders.specs.Orders.Effect.{Frames, Both, later_faults, commute}
 use Rattle.rules.specs.Steps.Orders.{Faulted}
@@ -52,7 +52,7 @@ module _ (ds : Table) where
           → After (body_act ds) r k m w.number → Joined r m k s
       still_faults w n p e b y =
           m_faults y.rest y.move w.carriers (step_by r k s w (goes y.rest) e y.goes_there)
-          (step_faults y.rest y.move w.carriers n p (rw y.same_work (later_faults M (work r k) (work r m) (Indep·sym d.apart) s w n p e b)))
+          (step_faults y.rest y.move w.carriers n p (rw y.same_work (later_faults M (work r k) (work r m) (Indep-sym d.apart) s w n p e b)))
 
       -- the work of k goes through, and that of m does not
       join_faulty :
@@ -83,4 +83,4 @@ module _ (ds : Table) where
       join (faulty n p) y e b = k_faults (step_faults r k s n p e)
       join (gives w) (faulty n p) e b = join_faulty w n p 0 e b (d.meets 0 w.number)
       join (gives w) (gives w') e b =
-          join_gives w w' e b (commute M (work r k) (work r m) (Indep·sym d.apart) s w w' e b) (d.meets w'.number w.number)
+          join_gives w w' e b (commute M (work r k) (work r m) (Indep-sym d.apart) s w w' e b) (d.meets w'.number w.number)

@@ -11,7 +11,7 @@ use Rattle.rules.specs.Steps.Actions.{Act, seq, par, label, ins, Ins, iff, decod
 use Rattle.rules.specs.Steps.Control.{Live, one, seq_l, both, left, right, lab_l, loop_l, call_l, start}
 use Rattle.rules.specs.Steps.Control.{Sig, ends, goes, leaves, restarts, stops, faults, Mv, work_i, work}
 use Rattle.rules.specs.Steps.Control.{seq_s, both_l, both_r, left_s, right_s, lab_s, loop_s, choose, pick_s, lost, call_s, next_i, next}
-use Rattle.laws_orders.specs.Orders.Foot.{Foot, Within, Sub, Indep, Prints, work_foot, Sub·trans, reads_only, untouched}
+use Rattle.laws_orders.specs.Orders.Foot.{Foot, Within, Sub, Indep, Prints, work_foot, Sub-trans, reads_only, untouched}
 
 -- where an action stands: what it may read and write, whether it may stop, and the labels that it may leave or restart
 pub record Env : Type 0 where
@@ -189,13 +189,13 @@ module _ (P : Prints) where
   pub work_sub : (E : Env) (r : Live) (m : Mv r) → OkL E r → Sub (work_foot P (work r m)) E.foot
   work_sub E (one i) m h = work_i_sub E i h
   work_sub E (seq_l r a) m h = work_sub E r m h.0
-  work_sub E (both r t) (inl m) h = Sub·trans (work_sub (member h.0) r m h.3) h.2.first
-  work_sub E (both r t) (inr m) h = Sub·trans (work_sub (member h.1) t m h.4) h.2.second
-  work_sub E (left r) m h = Sub·trans (work_sub (member h.0) r m h.2) h.1
-  work_sub E (right r) m h = Sub·trans (work_sub (member h.0) r m h.2) h.1
+  work_sub E (both r t) (inl m) h = Sub-trans (work_sub (member h.0) r m h.3) h.2.first
+  work_sub E (both r t) (inr m) h = Sub-trans (work_sub (member h.1) t m h.4) h.2.second
+  work_sub E (left r) m h = Sub-trans (work_sub (member h.0) r m h.2) h.1
+  work_sub E (right r) m h = Sub-trans (work_sub (member h.0) r m h.2) h.1
   work_sub E (lab_l l a r) m h = work_sub (under l E) r m h.1
   work_sub E (loop_l a r) m h = work_sub E r m h.1
-  work_sub E (call_l p r) m h = Sub·trans (work_sub (in_body p) r m h.1) h.0.foot
+  work_sub E (call_l p r) m h = Sub-trans (work_sub (in_body p) r m h.1) h.0.foot
 
   module _ (body : Word → Act) where
     -- the bodies are well formed in their declared footprints

@@ -11,7 +11,7 @@ use Rattle.rules.specs.Whole.Sets.{Sets, sets, union, member, race, meet, reads_
 use Rattle.rules.specs.Limits.{longest_chain}
 use Rattle.rules.specs.Whole.Sets.{stops_in, stops_i, stops_alts, body_stops, may_stop}
 use Rattle.laws_orders.specs.Orders.Orderly.{AllApart, AllApartI, AllApartAlts, Orderly, without, jumps_out, jumps_i, jumps_alts}
-use Rattle.laws_orders.specs.Orders.Foot.{Within, Sub, Indep, Sub·refl, Sub·trans}
+use Rattle.laws_orders.specs.Orders.Foot.{Within, Sub, Indep, Sub-refl, Sub-trans}
 use Rattle.laws_orders.specs.Orders.Ok.{Env, under, In, OkA, OkI, OkAlts, BodiesOk, in_body}
 use Rattle.laws_orders.specs.Orders.Ok.{member as as_member}
 use Rattle.laws_orders.specs.Orders.Tests.{or_neither, or_left, or_right, member_left, member_right, member_either, no_meeting}
@@ -98,7 +98,7 @@ module _ (ds : Table) where
   fits_left : (x y : Deeds) (E : Env) → Fits (x with y) E → Fits x E
   fits_left x y E f =
       record {
-        within = Sub·trans (sub_left x.touches y.touches) f.within;
+        within = Sub-trans (sub_left x.touches y.touches) f.within;
         stopping = λ p. f.stopping (or_left x.stops y.stops p);
         jumping = all_left E.scope x.jumps y.jumps f.jumping;
       }
@@ -106,7 +106,7 @@ module _ (ds : Table) where
   fits_right : (x y : Deeds) (E : Env) → Fits (x with y) E → Fits y E
   fits_right x y E f =
       record {
-        within = Sub·trans (sub_right x.touches y.touches) f.within;
+        within = Sub-trans (sub_right x.touches y.touches) f.within;
         stopping = λ p. f.stopping (or_right x.stops y.stops p);
         jumping = all_right E.scope x.jumps y.jumps f.jumping;
       }
@@ -114,7 +114,7 @@ module _ (ds : Table) where
   -- a member, in its own footprint
   fits_member : (x : Deeds) → x.stops ≡ false → x.jumps ≡ [] → Fits x (as_member (foot_of ds x.touches))
   fits_member x e n =
-      record { within = Sub·refl (foot_of ds x.touches); stopping = λ p. absurd (false≢true (sym e ∙ p)); jumping = subst (AllIn []) (sym n) tt }
+      record { within = Sub-refl (foot_of ds x.touches); stopping = λ p. absurd (false≢true (sym e ∙ p)); jumping = subst (AllIn []) (sym n) tt }
 
   fits_label : (l : Word) (x : Deeds) (E : Env) → Fits (deeds x.touches x.stops (without l x.jumps)) E → Fits x (under l E)
   fits_label l x E f = record { within = f.within; stopping = f.stopping; jumping = all_inside l E.scope x.jumps f.jumping }
@@ -146,7 +146,7 @@ module _ (ds : Table) where
       record {
         first = (fits_left (deeds_of a) (deeds_of b) E f).within;
         second = (fits_right (deeds_of a) (deeds_of b) E f).within;
-        apart = apart (touched ds a) (touched ds b) g.0.no_Race;
+        apart = apart (touched ds a) (touched ds b) g.0.no_race;
       },
       fits_ok a (as_member (foot_of ds (touched ds a))) g.1 (fits_member (deeds_of a) g.0.first_goes_on g.0.first_stays),
       fits_ok b (as_member (foot_of ds (touched ds b))) g.2 (fits_member (deeds_of b) g.0.second_goes_on g.0.second_stays),
@@ -175,7 +175,7 @@ module _ (ds : Table) where
   bodies_ok o n =
       fits_ok (body_act ds n) (in_body (prints_of ds) n) (o.groups n)
       (record {
-        within = rw (sets_closed ds longest_chain n (o.chains n)) (Sub·refl (foot_of ds (body_sets ds longest_chain n)));
+        within = rw (sets_closed ds longest_chain n (o.chains n)) (Sub-refl (foot_of ds (body_sets ds longest_chain n)));
         stopping = λ p. sym (stops_closed ds longest_chain n (o.chains n)) ∙ p;
         jumping = all_inside n [] (jumps_out (body_act ds n)) (subst (AllIn []) (sym (o.jumps n)) tt);
       })

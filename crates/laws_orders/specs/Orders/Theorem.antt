@@ -5,7 +5,7 @@ use Rattle.rules.specs.Declarations.{Word, Table}
 use Rattle.rules.specs.Steps.Evaluation.{Carriers}
 use Rattle.rules.specs.Steps.Control.{Live, call_l, start}
 use Rattle.rules.specs.Steps.Runs.{Conf, running, finished, stopped, failed, Steps, body_act, begin, Run, run}
-use Rattle.laws_orders.specs.Orders.Foot.{Prints, Sub·refl}
+use Rattle.laws_orders.specs.Orders.Foot.{Prints, Sub-refl}
 use Rattle.laws_orders.specs.Orders.Ok.{Env, OkL, BodiesOk, call_ok}
 use Rattle.laws_orders.specs.Orders.Effect.{Frames}
 use Rattle.laws_orders.specs.Orders.Ends.{end_ended, EndsWell}
@@ -30,7 +30,7 @@ module _ {ds : Table} {P : Prints} (M : Frames ds P) (bodies : BodiesOk P (body_
   outermost = record { foot = P.body n; may_stop = true; scope = [] }
 
   first_ok : OkL P outermost first
-  first_ok = call_ok P (body_act ds) bodies outermost n (record { foot = Sub·refl (P.body n); stopping = λ p. refl })
+  first_ok = call_ok P (body_act ds) bodies outermost n (record { foot = Sub-refl (P.body n); stopping = λ p. refl })
 
   pub order_free : EndsWell (run ds n b s) → (k : ℕ) (c : Conf) → Steps ds k (begin ds n s) c → EveryOrder ds (run ds n b s) k c
   unfolding run begin

@@ -1,0 +1,11 @@
+-- `lines::digits::hex_digit` meets its contract.
+-- Assumes nothing.
+use borrow.Author.Rules.{rules}
+use Rattle.lines.proofs.Numbers.{low_digit, high_digit}
+use Rattle.lines.proofs.digits.hex_digit.Goals as goal
+
+pub returns-then-d-lt10 : goal.returns-then-d-lt10
+returns-then-d-lt10 c = search (rules, low_digit)
+
+pub returns : goal.returns
+returns c = search (rules, high_digit)

@@ -1,0 +1,8 @@
+-- `lines::endings::put_fault` meets its contract: one follows the other.
+-- Assumes nothing.
+use borrow.Author.Rules.{rules}
+use Rattle.lines.specs.Laws.Appended.{and_then}
+use Rattle.lines.proofs.endings.put_fault.Goals as goal
+
+pub returns : goal.returns
+returns c = search (rules, and_then)

@@ -1,0 +1,8 @@
+-- `lines::refusals::put_refused` meets its contract: one follows the other.
+-- Assumes nothing.
+use borrow.Author.Rules.{rules}
+use Rattle.lines.specs.Laws.Appended.{and_then}
+use Rattle.lines.proofs.refusals.put_refused.Goals as goal
+
+pub returns : goal.returns
+returns c = search (rules, and_then)

@@ -1,0 +1,487 @@
+#!/usr/bin/env python3
+"""tools/turn_proofs.py CRATE..: turns the proofs of crates from the older form, a Proof.antt that answers all goals by position, to Invariants.antt and Answers.antt.
+
+Run at the top of the repository, once the crates below are proved. `rattle check --generated --old-names` lists for each function its goals in their order, the places where they are
+asked, and what each step is called. An answer that is `search rules` is left out, since the check tries that by itself. A file of another shape is left as it is, and named."""
+import json
+import os
+import re
+import shutil
+import subprocess
+import sys
+import tempfile
+
+SEARCH = re.compile(r"^\(?\s*λ c( κs)?\. search rules\s*\)?$")
+NAME = r"[^\s(){}\[\];,.@:]+"
+
+
+def norm(name):
+    return name.replace("-", "_")
+
+
+def listed(root, crate):
+    out = tempfile.mkdtemp()
+    where = os.path.join(root, "crates", crate)
+    said = subprocess.run(["rt", "check", "--generated", os.path.join(out, "names"), "--old-names"], cwd=where, stdout=subprocess.PIPE, stderr=subprocess.STDOUT, text=True)
+    path = os.path.join(out, "names", "names.json")
+    if not os.path.exists(path):
+        print(said.stdout[-3000:])
+        raise SystemExit(f"{crate}: no names")
+    with open(path, encoding="utf-8") as f:
+        found = json.load(f)
+    shutil.rmtree(out)
+    return found
+
+
+BEGINS = re.compile(r"(?:pub |abbrev |unfoldable )*(?:(?:record|data|module|mutual|use|open|ruleset|infix[lr]?)\b|[^\s:(){}=]+(?: [^\s:(){}=]+)* :(?: |$))")
+
+
+def items_of(text):
+    """The top-level items of a file: each begins with a signature in the first column, and takes the comment above it along."""
+    items, now, commented = [], [], False
+    for line in text.split("\n"):
+        is_comment = line.startswith("--")
+        begins = BEGINS.match(line) is not None
+        if (is_comment and not commented) or (begins and not commented):
+            items.append("\n".join(now).rstrip())
+            now = []
+        if line.strip():
+            commented = is_comment
+        now.append(line)
+    items.append("\n".join(now).rstrip())
+    return [i for i in items if i.strip()]
+
+
+def args_of(text):
+    """The arguments of an application that begins the text: names, and terms in parentheses."""
+    found, at, n = [], 0, len(text)
+    while at < n:
+        if text[at].isspace():
+            at += 1
+            continue
+        if text[at] in "({[":
+            depth, start = 0, at
+            while at < n:
+                if text[at] in "({[":
+                    depth += 1
+                elif text[at] in ")}]":
+                    depth -= 1
+                    if depth == 0:
+                        break
+                at += 1
+            at += 1
+            # a projection behind it belongs to it
+            m = re.compile(r"(?:\.[\w'-]+)+").match(text, at)
+            if m:
+                at = m.end()
+            found.append(text[start:at])
+            continue
+        m = re.compile(r"[^\s(){}\[\]]+").match(text, at)
+        found.append(m[0])
+        at = m.end()
+    return found
+
+
+class Names:
+    """What the checker calls the goals and steps of one function."""
+
+    def __init__(self, it):
+        self.needs = it["needs"]
+        self.asked = [a[0] for a in it["asked_at"]]
+        self.places = {p[0]: p for p in it["places"]}
+        self.loops = it["loops"]
+        self.changed = it["changed"]
+        self.arms = {p[0]: a for p, a in zip(it["places"], it["arms"]) if a}
+        self.it = it
+
+    def path(self, place, befores, fields):
+        """The path of today for `c` with so many `before`s and then fields, at a place."""
+        at = place
+        for _ in range(befores):
+            up = self.places.get(at)
+            if up is None or up[1] is None:
+                return None
+            at = up[1]
+        if not fields:
+            return "c" if befores == 0 else None
+        here = self.places.get(at)
+        first = fields[0]
+        arm = self.arms.get(at)
+        if arm is not None:
+            for new, old, further in arm[2]:
+                if norm(old) == norm(first) and fields[1:1 + len(further)] == further:
+                    return ".".join(["c", arm[0], new] + fields[1 + len(further):])
+        if here is not None and here[2][0] and norm(first) == norm(here[2][0]):
+            return ".".join(["c", here[2][1]] + fields[1:])
+        if here is not None and here[2][0] and norm(first) == norm(here[2][1]):
+            return ".".join(["c", here[2][1]] + fields[1:])
+        return ".".join(["c"] + fields)
+
+
+CITED = re.compile(r"(?<![\w'-])c((?:\.before)*)((?:\.[\w'₀-₉-]+)*)(?![\w'-])")
+
+
+def turned(body, names, place, left):
+    def put(m):
+        befores = m[1].count(".before")
+        fields = [f for f in m[2].split(".") if f]
+        path = names.path(place, befores, fields)
+        if path is None:
+            left.append(f"{m[0]} at {place}")
+            return m[0]
+        return path
+
+    return CITED.sub(put, body)
+
+
+def arms(body, names):
+    return body
+
+
+def turn(root, crate, path, function, names):
+    with open(path, encoding="utf-8") as f:
+        text = f.read()
+    items = items_of(text)
+    uses = [i for i in items if re.match(r"(--[^\n]*\n)*use ", i)]
+    head, used = [], []
+    for i in uses:
+        for line in i.split("\n"):
+            if line.startswith("--"):
+                head.append(line)
+            elif line.strip():
+                used.append(line)
+    rest = [i for i in items if i not in uses]
+    main = [i for i in rest if "tie.close" in i]
+    if len(main) != 1:
+        return "no single tie.close"
+    main = main[0]
+    rest.remove(main)
+    comment = [l for l in main.split("\n") if l.startswith("--")]
+    lines = [l for l in main.split("\n") if not l.startswith("--")]
+    unfolding = [l for l in lines if l.startswith("unfolding ")]
+    joined = "\n".join(l for l in lines if not l.startswith("unfolding "))
+    m = re.search(r"=\s*tie\.close\s*", joined)
+    if not m:
+        return "no = tie.close"
+    closing = args_of(joined[m.end():])
+    if len(closing) < 1:
+        return "tie.close without tie.spec"
+    inner = closing[-1]
+    measure = closing[:-1]
+    inner = inner.strip()
+    if inner.startswith("("):
+        inner = inner[1:-1].strip()
+    recursion = None
+    m = re.match(r"λ t\.\s*", inner)
+    if m:
+        recursion = "t"
+        inner = inner[m.end():]
+        if inner.startswith("("):
+            inner = inner[1:-1].strip()
+    if not inner.startswith("tie.spec"):
+        return f"no tie.spec: {inner[:40]}"
+    if measure or recursion:
+        return "a recursion"
+    given = args_of(inner[len("tie.spec"):])
+    left = []
+    n_loops = len(names.loops)
+    defs = {}
+    for i in rest:
+        m = re.search(rf"(?m)^(?:pub |abbrev |unfoldable )*({NAME}) : (tie\.[^\n]*)$", i)
+        if m:
+            defs[m[1]] = (i, m[2])
+    leading = []
+    for number, loop in enumerate(names.loops):
+        for kind in ("invariant", "decreases"):
+            if given and is_leading(given[0], kind, loop[0][1], loop[1], names.changed[number], defs):
+                leading.append(given.pop(0))
+    given = aligned(given, names, defs)
+    if given is None:
+        return "answers and goals do not fit"
+    invariants, answers, taken = [], [], set()
+    # invariants and measures
+    if leading:
+        at = 0
+        for number, loop in enumerate(names.loops):
+            (old, new), variables = loop
+            changed = names.changed[number]
+            for kind in ("invariant", "decreases"):
+                if at >= len(leading):
+                    break
+                arg = leading[at]
+                made = invariant_of(kind, new, arg, variables, changed, defs)
+                if made is None:
+                    if kind == "decreases":
+                        continue
+                    return f"invariant {arg[:40]}"
+                invariants.append(made)
+                if arg in defs:
+                    taken.add(arg)
+                at += 1
+        if at != len(leading):
+            return f"{len(leading)} invariants and measures for {n_loops} loops"
+    for number, arg in enumerate(given):
+        if SEARCH.match(arg):
+            continue
+        goal = names.needs[number][1]
+        place = names.asked[number]
+        arg = arg.strip()
+        if arg in defs:
+            item, _ = defs[arg]
+            taken.add(arg)
+            answers.append(renamed(item, arg, goal, names, place, left, unfolding))
+            continue
+        m = re.match(r"\(\s*λ c((?: [^\s.]+)*)\.\s*", arg)
+        if m and m[1].strip() in ("", "κs"):
+            body = arg[m.end():-1].rstrip()
+        elif m:
+            body = f"λ{m[1]}. {arg[m.end():-1].rstrip()}"
+        elif re.fullmatch(r"\((.*)\)", arg, re.S):
+            body = f"{arg[1:-1]} c"
+        else:
+            body = f"{arg} c"
+        body = turned(body, names, place, left)
+        answer = f"pub {goal} : goal.{goal}\n" + "".join(u + "\n" for u in unfolding)
+        if "\n" in body:
+            answer += f"{goal} c =\n    " + body
+        else:
+            answer += f"{goal} c = {body}"
+        answers.append(answer)
+    helpers = [i for i in rest if not any(i is defs[t][0] for t in defs if t in taken)]
+    helpers = [i for i in helpers if not re.match(r"^(?:--[^\n]*\n)*(?:pub |abbrev |unfoldable )*\S+ : tie\.(invariant|decreases)", i)]
+    write(root, crate, path, function, head, used, helpers, invariants, answers)
+    return ("left: " + "; ".join(left)) if left else None
+
+
+def is_leading(arg, kind, new, variables, changed, defs):
+    if arg in defs and not re.match(r"tie\.(invariant|decreases)", defs[arg][1]):
+        return False
+    if arg in defs and not re.match(rf"tie\.{kind}", defs[arg][1]):
+        return False
+    return invariant_of(kind, new, arg, variables, changed, defs) is not None
+
+
+def aligned(given, names, defs):
+    """One answer for each goal of today, in order: those that only searched may stand for goals that are settled by themselves now."""
+    needs = names.needs
+    n, m = len(given), len(needs)
+    if n == m:
+        return given
+
+    def cost(i, j):
+        arg = given[i]
+        goal = needs[j][0]
+        asks = re.search(r"requires(-\d+)?$", goal) is not None
+        binds = re.match(r"\(\s*λ c κs", arg) is not None
+        plain = re.match(r"\(\s*λ c\.", arg) is not None
+        if binds and not asks or plain and asks:
+            return 1000
+        if SEARCH.match(arg):
+            return 0
+        if arg in defs:
+            need = re.match(r"tie\.Need-(\S+)", defs[arg][1])
+            if need and norm(need[1]) not in (norm(goal), norm(needs[j][1])):
+                return 5
+        left = []
+        turned(arg, names, names.asked[j], left)
+        lost = len(left)
+        place = names.asked[j]
+        for c in CITED.finditer(arg):
+            fields = [f for f in c[2].split(".") if f]
+            at = place
+            for _ in range(c[1].count(".before")):
+                up = names.places.get(at)
+                at = up[1] if up else None
+            here = names.places.get(at)
+            if fields and here is not None and fields[0] not in ("args", "ranges", "requires", "type_inv", "lifetimes", "auto", "well_formed"):
+                known = [here[2][0], here[2][1]]
+                if norm(fields[0]) not in [norm(k) for k in known]:
+                    lost += 3
+        return lost
+
+    skip = 2
+    best = {(0, 0): (0, None)}
+    for i in range(n + 1):
+        for j in range(m + 1):
+            if (i, j) not in best:
+                continue
+            here = best[(i, j)][0]
+            moves = []
+            if i < n and j < m:
+                moves.append((i + 1, j + 1, cost(i, j)))
+            if i < n:
+                moves.append((i + 1, j, 0.1 if SEARCH.match(given[i]) else 50))
+            if j < m:
+                moves.append((i, j + 1, skip))
+            for a, b, extra in moves:
+                if (a, b) not in best or best[(a, b)][0] > here + extra:
+                    best[(a, b)] = (here + extra, (i, j))
+    at, out = (n, m), []
+    if best[at][0] >= 1000:
+        return None
+    while at != (0, 0):
+        was = best[at][1]
+        if was == (at[0] - 1, at[1] - 1):
+            out.append(given[was[0]])
+        elif was == (at[0], at[1] - 1):
+            out.append("(λ c. search rules)")
+        elif not SEARCH.match(given[was[0]]):
+            print(f"    an answer finds no goal: {given[was[0]][:100]}")
+        at = was
+    return out[::-1]
+
+
+def invariant_of(kind, new, arg, variables, changed, defs):
+    goal = f"{kind}-{new}"
+    if arg in defs:
+        item, _ = defs[arg]
+        lines = [l for l in item.split("\n") if l.strip()]
+        comment = [l for l in lines if l.startswith("--")]
+        unfolding = [l for l in lines if l.startswith("unfolding")]
+        body = [l for l in lines if not l.startswith("--") and not l.startswith("unfolding") and not re.match(rf"(?:pub |abbrev )*{re.escape(arg)} : ", l)]
+        text = "\n".join(body)
+        m = re.match(rf"{re.escape(arg)}((?: [^\s=]+)*) =(\s*)", text)
+        if not m:
+            return None
+        params, value = m[1].split(), text[m.end():]
+    else:
+        m = re.match(r"\(\s*λ ([^.]*)\.\s*", arg)
+        if not m:
+            return None
+        params, value = m[1].split(), arg[m.end():-1]
+        comment, unfolding = [], []
+    moved = [v for v, c in zip(variables, changed) if c]
+    if len(params) != len(variables) + len(moved):
+        return None
+    meaning = {}
+    for p, v, c in zip(params, variables, changed):
+        meaning[p] = f"l.initial.{v}" if c else f"l.{v}"
+    for p, v in zip(params[len(variables):], moved):
+        meaning[p] = f"l.{v}"
+
+    def put(m):
+        name = m[0]
+        return meaning.get(name, name)
+
+    value = re.sub(r"(?<![\w'₀-₉.-])[A-Za-zα-ω][\w'₀-₉]*(?:-[\w'₀-₉]+)*(?![\w'₀-₉])", put, value)
+    out = "".join(c + "\n" for c in comment)
+    sep = "\n    " if "\n" in value else " "
+    return f"{out}abbrev pub {goal} : goal.{goal}\n" + "".join(u + "\n" for u in unfolding) + f"{goal} l ={sep}{value.strip()}"
+
+
+def renamed(item, old, goal, names, place, left, unfolding):
+    out = []
+    has_unfolding = any(l.startswith("unfolding") for l in item.split("\n"))
+    for line in item.split("\n"):
+        m = re.match(rf"(?:pub |abbrev )*{re.escape(old)} : tie\.", line)
+        if m:
+            out.append(f"pub {goal} : goal.{goal}")
+            if not has_unfolding:
+                out.extend(unfolding)
+            continue
+        m = re.match(rf"{re.escape(old)} c(?: κs)? =", line)
+        if m:
+            line = f"{goal} c =" + line[m.end():]
+        out.append(line)
+    return turned("\n".join(out), names, place, left)
+
+
+def words(text):
+    return set(re.findall(r"[^\s(){}\[\];,.@:]+", text))
+
+
+def write(root, crate, path, function, head, used, helpers, invariants, answers):
+    folder = os.path.dirname(path)
+    module = "Rattle." + crate + ".proofs." + function
+    used = [u for u in used if not re.search(r"\.(Statement|Tie)\b", u)]
+    used = [u for u in used if not re.search(r"\.(Goals|Given)\b", u)]
+    os.remove(path)
+    shared = []
+    if invariants:
+        # a record or a definition that an invariant names stands with it
+        wanted = set().union(*(words(i) for i in invariants))
+        again = True
+        while again:
+            again = False
+            for i in helpers:
+                m = re.search(rf"(?m)^(?:pub |abbrev |unfoldable )*(?:record |data )?(?:pub )?({NAME})", "\n".join(l for l in i.split("\n") if not l.startswith("--")))
+                if m and m[1] in wanted and i not in shared and m[1] != "module":
+                    shared.append(i)
+                    wanted |= words(i)
+                    again = True
+        text = "\n".join(head + used + [f"use {module}.Given as goal", ""])
+        made = [published(i) for i in helpers if i in shared]
+        text += "\n" + "\n\n".join(made + invariants) + "\n"
+        with open(os.path.join(folder, "Invariants.antt"), "w", encoding="utf-8") as f:
+            f.write(pruned(text))
+    rest = [i for i in helpers if i not in shared]
+    if answers:
+        lines = head + used
+        if shared:
+            names = []
+            for i in shared:
+                m = re.search(rf"(?m)^(?:pub |abbrev |unfoldable )*(?:record |data )?(?:pub )?({NAME})", "\n".join(l for l in i.split("\n") if not l.startswith("--")))
+                names.append(m[1])
+            lines = lines + [f"use {module}.Invariants.{{{', '.join(names)}}}"]
+        text = "\n".join(lines + [f"use {module}.Goals as goal", ""])
+        text += "\n" + "\n\n".join(rest + answers) + "\n"
+        with open(os.path.join(folder, "Answers.antt"), "w", encoding="utf-8") as f:
+            f.write(pruned(text))
+    if not os.listdir(folder):
+        os.removedirs(folder)
+
+
+def published(item):
+    return re.sub(r"(?m)^(record|data) ", r"pub \1 ", re.sub(r"(?m)^(abbrev|unfoldable) (?!pub)", r"\1 pub ", item))
+
+
+def pruned(text):
+    """Without the names of `use` lines that nothing in the file cites."""
+    body = "\n".join(l for l in text.split("\n") if not l.startswith("use "))
+    cited = words(re.sub(r"--[^\n]*", "", body)) | set(re.findall(r"[^\s(){}\[\];,@:]+", body))
+    operators = re.findall(r"◌([^◌\s,{}]+)◌", text)
+    out = []
+    for line in text.split("\n"):
+        m = re.match(r"use ([^\s{]+)\.\{([^}]*)\}$", line)
+        if m:
+            kept = []
+            for item in m[2].split(","):
+                item = item.strip()
+                name = item.split(" as ")[-1]
+                if "◌" in name:
+                    pieces = [p for p in name.split("◌") if p]
+                    if all(p in body for p in pieces):
+                        kept.append(item)
+                elif re.search(rf"(?<![\w'-]){re.escape(name)}(?![\w'-])", body):
+                    kept.append(item)
+            if kept:
+                out.append(f"use {m[1]}.{{{', '.join(kept)}}}")
+            continue
+        m = re.match(r"use (\S+) as (\S+)$", line)
+        if m and m[2] != "goal" and not re.search(rf"(?<![\w'-]){re.escape(m[2])}\.", body):
+            continue
+        out.append(line)
+    return "\n".join(out)
+
+
+def main(argv):
+    root = os.getcwd()
+    for crate in argv:
+        names = listed(root, crate)
+        base = os.path.join(root, "crates", crate, "proofs")
+        for folder, dirs, files in os.walk(base):
+            if "Proof.antt" not in files:
+                continue
+            function = ".".join(os.path.relpath(folder, base).split(os.sep))
+            key = f"Rattle-{crate}-proofs.{function}.Lts"
+            path = os.path.join(folder, "Proof.antt")
+            if key not in names:
+                print(f"{crate}: {function}: by hand: not listed")
+                continue
+            said = turn(root, crate, path, function, Names(names[key]))
+            if said:
+                print(f"{crate}: {function}: {said}")
+
+
+if __name__ == "__main__":
+    main(sys.argv[1:])
