@@ -121,7 +121,20 @@ class Names:
 CITED = re.compile(r"(?<![\w'-])c((?:\.before)*)((?:\.[\w'₀-₉-]+)*)(?![\w'-])")
 
 
+def without_aliases(body):
+    """With no `let` that only names an earlier place."""
+    while True:
+        m = re.search(r"let ([A-Za-z][\w'-]*) = (c(?:\.before)+) in\s*", body)
+        if not m:
+            return body
+        rest = body[m.end():]
+        rest = re.sub(rf"(?<![\w'.-]){re.escape(m[1])}(?=\.)", m[2], rest)
+        body = body[:m.start()] + rest
+
+
 def turned(body, names, place, left):
+    body = without_aliases(body)
+
     def put(m):
         befores = m[1].count(".before")
         fields = [f for f in m[2].split(".") if f]

@@ -9,8 +9,7 @@ returns-then-n-m c = λ v. search (rules, other_size)
 
 pub same_run-requires : goal.same_run-requires
 same_run-requires c =
-    let sizes = c.before.before.before in
-    runs_inside sizes.before.before.before.before.requires sizes.before.size-at.ensures sizes.size-at2.ensures c.if-n-m.false
+    runs_inside c.requires c.size_at-n.ensures c.size_at-m.ensures c.if-n-m.false
     c.place_at.ensures c.place_at-2.ensures
 
 pub returns : goal.returns
