@@ -12,8 +12,7 @@ use Rattle.classes.specs.Classes.{RunEnds}
 use Rattle.lexemes.specs.Lexemes.{lexeme_of}
 use Rattle.classes.specs.Laws.Runs.{Run, ran, comment_set}
 use Rattle.lexemes.specs.declared.lexemes.Lexeme.TheVariants.{Nothing}
-use Rattle.lexemes.proofs.lexemes.comment_at.Statement.{statement}
-use Rattle.lexemes.proofs.lexemes.comment_at.Tie as tie
+use Rattle.lexemes.proofs.lexemes.comment_at.Goals as goal
 
 found : (text : List ℕ) (at end : ℕ) → RunEnds 1022 text (at + 1) end
     → Nothing (end - (at + 1)) ≡ lexeme_of (lexeme_by exclamation at (get_or text at 0) (drop (at + 1) text))
@@ -23,5 +22,5 @@ found text at end runs =
     let more : end - (at + 1) ≡ length (leading in_comment (drop (at + 1) text)) = omega (arith, behind.ends) in
     ap Nothing more
 
-pub comment_at_spec : {M : Type 1} → statement M
-comment_at_spec = tie.close (tie.spec (λ c. search rules) (λ c κs. search rules) (λ c. search rules) (λ c. search (rules, found)))
+pub returns : goal.returns
+returns c = search (rules, found)

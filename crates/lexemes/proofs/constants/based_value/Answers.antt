@@ -17,8 +17,7 @@ use Rattle.lexemes.specs.Numbers.{number_of, known, based_digits}
 use Rattle.lexemes.specs.Laws.Numbers.{known_by}
 use Rattle.lexemes.specs.declared.constants.Number.{Number}
 use Rattle.lexemes.specs.declared.constants.Number.TheVariants.{Malformed}
-use Rattle.lexemes.proofs.constants.based_value.Statement.{statement}
-use Rattle.lexemes.proofs.constants.based_value.Tie as tie
+use Rattle.lexemes.proofs.constants.based_value.Goals as goal
 
 module _ (n : ℕ) (ds : List ℕ) where
   sound : Bool
@@ -65,15 +64,14 @@ module _ (text : List ℕ) (from end n : ℕ) (inside : end ≤ length text) whe
         let same : based n ds ≡ based_digits base bits ds = within n ds (rw size (omega arith)) (rw size (omega arith)) ∙ rw (b, e, size) in
         x ∙ ap number_of (sym same)
 
-pub based_value_spec : {M : Type 1} → statement M
-based_value_spec =
-    tie.close
-    (tie.spec
-    (λ c. search rules)
-    (λ c. search (rules, empty))
-    (λ c κs. search rules)
-    (λ c. search (rules, long))
-    (λ c κs. search rules)
-    (λ c. search rules)
-    (λ c κs. search (rules, fits))
-    (λ c. search (rules, whole)))
+pub returns-then-count-eq0 : goal.returns-then-count-eq0
+returns-then-count-eq0 c = search (rules, empty)
+
+pub returns-then-bits : goal.returns-then-bits
+returns-then-bits c = search (rules, long)
+
+pub based_digits-requires : goal.based_digits-requires
+based_digits-requires c = search (rules, fits)
+
+pub returns : goal.returns
+returns c = search (rules, whole)

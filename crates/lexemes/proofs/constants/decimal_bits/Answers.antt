@@ -10,14 +10,8 @@ use mathlib.Core.Path.{◌≡◌, refl, sym, ap, ◌∙◌}
 use Prim.Native.Nat.{ℕ, zero, suc, ◌+◌, ◌-◌, ◌/◌, ◌^◌, ◌<◌, ◌≤◌}
 use lib.Pow.{pow_pos}
 use Rattle.rules.specs.Text.Constants.{bits_from, decimal_bits}
-use Rattle.lexemes.proofs.constants.decimal_bits.Statement.{statement}
-use Rattle.lexemes.proofs.constants.decimal_bits.Tie as tie
-
-record Inv (value bits rest : ℕ) : Type 0 where
-  pub low : 1 ≤ bits
-  pub high : bits ≤ 64
-  pub left : rest ≡ value / 2 ^ bits
-  pub so_far : bits_from (64 - bits) bits value ≡ decimal_bits value
+use Rattle.lexemes.proofs.constants.decimal_bits.Invariants.{Inv}
+use Rattle.lexemes.proofs.constants.decimal_bits.Goals as goal
 
 -- the tests by what is left
 enough : (v k : ℕ) → v / 2 ^ k ≡ 0 → v < 2 ^ k
@@ -66,20 +60,11 @@ module _ {value bits rest : ℕ} (inv : Inv value bits rest) where
   ended : rest ≡ 0 → bits ≡ decimal_bits value
   ended e = sym (found (64 - bits) bits value (enough value bits (sym inv.left ∙ e))) ∙ inv.so_far
 
-abbrev invariant-loop : tie.invariant-loop
-invariant-loop value bits₀ rest₀ bits rest = Inv value bits rest
+pub loop-rest-init : goal.loop-rest-init
+loop-rest-init c = search (rules, starts)
 
-abbrev decreases-loop : tie.decreases-loop
-decreases-loop value bits₀ rest₀ bits rest = rest
+pub loop-rest-preserved : goal.loop-rest-preserved
+loop-rest-preserved c = search (rules, passed)
 
-pub decimal_bits_spec : {M : Type 1} → statement M
-decimal_bits_spec =
-    tie.close
-    (tie.spec
-    invariant-loop
-    decreases-loop
-    (λ c. search (rules, starts))
-    (λ c. search rules)
-    (λ c. search rules)
-    (λ c. search (rules, passed))
-    (λ c. search (rules, ended)))
+pub returns : goal.returns
+returns c = search (rules, ended)

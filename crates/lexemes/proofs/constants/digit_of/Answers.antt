@@ -6,8 +6,7 @@ use mathlib.Core.Path.{◌≡◌, ap, ◌∙◌}
 use Prim.Native.Nat.{ℕ, ◌-◌, ◌<◌, ◌≤◌}
 use Rattle.rules.specs.Text.Bytes.{fold}
 use Rattle.lexemes.specs.Digits.{upper_digit, digit_no}
-use Rattle.lexemes.proofs.constants.digit_of.Statement.{statement}
-use Rattle.lexemes.proofs.constants.digit_of.Tie as tie
+use Rattle.lexemes.proofs.constants.digit_of.Goals as goal
 
 module _ (n b : ℕ) (e : n ≡ fold b) where
   of : {r : ℕ} → r ≡ upper_digit n → r ≡ digit_no b
@@ -33,16 +32,20 @@ module _ (n b : ℕ) (e : n ≡ fold b) where
     high : 48 ≤ n → 58 ≤ n → 65 ≤ n → 71 ≤ n → 17 ≡ digit_no b
     high l m k h = of (rw (ne_eqb n 63 q, le-ltb n 48 l, le-ltb n 58 m, le-ltb n 65 k, le-ltb n 71 h))
 
-pub digit_of_spec : {M : Type 1} → statement M
-digit_of_spec =
-    tie.close
-    (tie.spec
-    (λ c κs. search rules)
-    (λ c. search rules)
-    (λ c. (search (rules, query), search rules))
-    (λ c. (search (rules, low), search rules))
-    (λ c. (search (rules, decimal), search rules))
-    (λ c. (search (rules, between), search rules))
-    (λ c. search rules)
-    (λ c. (search (rules, letter), search rules))
-    (λ c. (search (rules, high), search rules)))
+pub returns-then-n-eq63 : goal.returns-then-n-eq63
+returns-then-n-eq63 c = (search (rules, query), search rules)
+
+pub returns-then-n-lt48 : goal.returns-then-n-lt48
+returns-then-n-lt48 c = (search (rules, low), search rules)
+
+pub returns-then-n-lt58 : goal.returns-then-n-lt58
+returns-then-n-lt58 c = (search (rules, decimal), search rules)
+
+pub returns-then-n-lt65 : goal.returns-then-n-lt65
+returns-then-n-lt65 c = (search (rules, between), search rules)
+
+pub returns-then-n-lt71 : goal.returns-then-n-lt71
+returns-then-n-lt71 c = (search (rules, letter), search rules)
+
+pub returns : goal.returns
+returns c = (search (rules, high), search rules)

@@ -19,8 +19,7 @@ use Rattle.lexemes.specs.Lexemes.{lexeme_of}
 use Rattle.classes.specs.Laws.Runs.{Run, drop_from, ran, one_more, all_run, name_set}
 use Rattle.lexemes.specs.declared.lexemes.Lexeme.{Lexeme}
 use Rattle.lexemes.specs.declared.lexemes.Lexeme.TheVariants.{Token, Refused}
-use Rattle.lexemes.proofs.words.word_at.Statement.{statement}
-use Rattle.lexemes.proofs.words.word_at.Tie as tie
+use Rattle.lexemes.proofs.words.word_at.Goals as goal
 
 module _ (text : List ℕ) (at end : ℕ) (h : at < length text) (first : in_name (get_or text at 0) ≡ true) (r : RunEnds 56 text (at + 1) end) where
   word : Run in_name text at end
@@ -51,16 +50,14 @@ module _ (text : List ℕ) (at end : ℕ) (h : at < length text) (first : in_nam
       = rw (word_lexeme, le-leb _ _ short, size, kind, length-map, add-zero) in
       same ∙ law
 
-pub word_at_spec : {M : Type 1} → statement M
+pub returns-then-size-gt-LONGEST_NAME : goal.returns-then-size-gt-LONGEST_NAME
 unfolding here
-word_at_spec =
-    tie.close
-    (tie.spec
-    (λ c. search rules)
-    (λ c κs. search rules)
-    (λ c. search rules)
-    (λ c. search (rules, long))
-    (λ c. search rules)
-    (λ c κs. search (rules, names))
-    (λ c. search rules)
-    (λ c. search (rules, found)))
+returns-then-size-gt-LONGEST_NAME c = search (rules, long)
+
+pub word_kind-requires : goal.word_kind-requires
+unfolding here
+word_kind-requires c = search (rules, names)
+
+pub returns : goal.returns
+unfolding here
+returns c = search (rules, found)

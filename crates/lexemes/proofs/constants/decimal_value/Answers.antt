@@ -17,8 +17,8 @@ use Rattle.lexemes.specs.Laws.Digits.{is_digit_of_lem, is_value}
 use Rattle.lexemes.specs.Numbers.{number_of}
 use Rattle.lexemes.specs.Laws.Numbers.{known_by, decimal_from}
 use Rattle.lexemes.specs.declared.constants.Number.TheVariants.{Malformed, Known}
-use Rattle.lexemes.proofs.constants.decimal_value.Statement.{statement}
-use Rattle.lexemes.proofs.constants.decimal_value.Tie as tie
+use Rattle.lexemes.proofs.constants.decimal_value.Invariants.{Inv}
+use Rattle.lexemes.proofs.constants.decimal_value.Goals as goal
 
 whole : (ds : List ℕ) → decimal_from 0 ds ≡ decimal ds
 unfolding decimal
@@ -41,12 +41,6 @@ more v b bs h = rw h
 no_digit : (v b : ℕ) (bs : List ℕ) → is_digit_of 10 b ≡ false → decimal_from v (b ∷ bs) ≡ malformed
 unfolding all
 no_digit v b bs h = rw h
-
-record Inv (text : List ℕ) (at end value i : ℕ) : Type 0 where
-  pub low : at ≤ i
-  pub high : i ≤ end
-  pub small : value < 2 ^ 64
-  pub left : decimal_from value (slice i end text) ≡ decimal (slice at end text)
 
 starts : (text : List ℕ) (at end : ℕ) → at ≤ end → Inv text at end 0 at
 starts text at end h = record { low = omega arith; high = h; small = omega arith; left = whole (slice at end text) }
@@ -84,28 +78,17 @@ module _ {text : List ℕ} {at end value i : ℕ} (inv : Inv text at end value i
       let known : decimal_from value [] ≡ constant value 0 (decimal_bits value) = rw (lt-ltb value (2 ^ 64) inv.small) in
       rw e (ap number_of (sym known ∙ ap (decimal_from value) (sym over) ∙ inv.left))
 
-abbrev invariant-loop : tie.invariant-loop
-invariant-loop text at end value₀ i₀ value i = Inv text at end value i
+pub loop-i-init : goal.loop-i-init
+loop-i-init c = search (rules, starts)
 
-abbrev decreases-loop : tie.decreases-loop
-decreases-loop text at end value₀ i₀ value i = end - i
+pub returns-then-digit-gt9 : goal.returns-then-digit-gt9
+returns-then-digit-gt9 c = search (rules, not_digit)
 
-pub decimal_value_spec : {M : Type 1} → statement M
-decimal_value_spec =
-    tie.close
-    (tie.spec
-    invariant-loop
-    decreases-loop
-    (λ c. search (rules, starts))
-    (λ c. search rules)
-    (λ c κs. search rules)
-    (λ c. search (rules, not_digit))
-    (λ c. search rules)
-    (λ c. search (rules, overflow))
-    (λ c. search rules)
-    (λ c. search rules)
-    (λ c. search rules)
-    (λ c. search rules)
-    (λ c. search (rules, passed))
-    (λ c κs. search rules)
-    (λ c. search (rules, ended)))
+pub returns-then-digit-value : goal.returns-then-digit-value
+returns-then-digit-value c = search (rules, overflow)
+
+pub loop-i-preserved : goal.loop-i-preserved
+loop-i-preserved c = search (rules, passed)
+
+pub returns : goal.returns
+returns c = search (rules, ended)

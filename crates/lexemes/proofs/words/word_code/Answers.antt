@@ -10,14 +10,8 @@ use lib.ListN.{length, get_or}
 use lib.Seq.{slice, slice_empty, slice-cons}
 use Rattle.rules.specs.Text.Bytes.{fold}
 use Rattle.lexemes.specs.Codes.{code_of, word_digit, word_code}
-use Rattle.lexemes.proofs.words.word_code.Statement.{statement}
-use Rattle.lexemes.proofs.words.word_code.Tie as tie
-
-record Inv (text : List ℕ) (at end code i : ℕ) : Type 0 where
-  pub low : at ≤ i
-  pub high : i ≤ end
-  pub small : code < 64 ^ (end - i)
-  pub so_far : code ≡ word_code (map fold (slice i end text))
+use Rattle.lexemes.proofs.words.word_code.Invariants.{Inv}
+use Rattle.lexemes.proofs.words.word_code.Goals as goal
 
 starts : (text : List ℕ) (at end : ℕ) → at ≤ end → Inv text at end 0 end
 unfolding code_of
@@ -49,24 +43,17 @@ module _ {text : List ℕ} {at end code i : ℕ} (inv : Inv text at end code i) 
   ended : i ≤ at → code ≡ word_code (map fold (slice at end text))
   ended h = let e : i ≡ at = omega (arith, inv.low) in rw e at inv.so_far
 
-abbrev invariant-loop : tie.invariant-loop
-invariant-loop text at end code₀ i₀ code i = Inv text at end code i
+pub loop-i-init : goal.loop-i-init
+loop-i-init c = search (rules, starts)
 
-abbrev decreases-loop : tie.decreases-loop
-decreases-loop text at end code₀ i₀ code i = i
+pub overflow_mul-code : goal.overflow_mul-code
+overflow_mul-code c = omega (arith, bounded c.loop-i.invariant (omega arith) (omega arith))
 
-pub word_code_spec : {M : Type 1} → statement M
-word_code_spec =
-    tie.close
-    (tie.spec
-    invariant-loop
-    decreases-loop
-    (λ c. search (rules, starts))
-    (λ c. search rules)
-    (λ c. search rules)
-    (λ c κs. search rules)
-    (λ c. omega (arith, bounded c.before.before.before.loop.invariant (omega arith) (omega arith)))
-    (λ c. omega (arith, bounded c.before.before.before.loop.invariant (omega arith) (omega arith)))
-    (λ c. search rules)
-    (λ c. search (rules, passed))
-    (λ c. search (rules, ended)))
+pub overflow_add-code : goal.overflow_add-code
+overflow_add-code c = omega (arith, bounded c.loop-i.invariant (omega arith) (omega arith))
+
+pub loop-i-preserved : goal.loop-i-preserved
+loop-i-preserved c = search (rules, passed)
+
+pub returns : goal.returns
+returns c = search (rules, ended)

@@ -17,8 +17,7 @@ use Rattle.lexemes.specs.Laws.Spellings.{all_bytes, all_drop, is_byte}
 use Rattle.lexemes.specs.Laws.Marks.{marked, mark_law, marked_some}
 use Rattle.lexemes.specs.declared.lexemes.Lexeme.{Lexeme}
 use Rattle.lexemes.specs.declared.lexemes.Lexeme.TheVariants.{Token, Refused}
-use Rattle.lexemes.proofs.marks.mark_at.Statement.{statement}
-use Rattle.lexemes.proofs.marks.mark_at.Tie as tie
+use Rattle.lexemes.proofs.marks.mark_at.Goals as goal
 
 module _ (text : List ℕ) (at : ℕ) (h : at < length text) (bytes : (i : ℕ) → Fits w8 (get_or text i 0)) {n pair : ℕ}
     (en : n ≡ mark_code (take 2 (drop at text)))
@@ -46,16 +45,14 @@ module _ (text : List ℕ) (at : ℕ) (h : at < length text) (bytes : (i : ℕ) 
     neither : single ≡ 0 → Refused 10 ≡ here
     neither e = sym (rest ∙ rw e)
 
-pub mark_at_spec : {M : Type 1} → statement M
+pub returns-then-pair-ne0 : goal.returns-then-pair-ne0
 unfolding here
-mark_at_spec =
-    tie.close
-    (tie.spec
-    (λ c κs. search rules)
-    (λ c κs. search rules)
-    (λ c. search (rules, two))
-    (λ c. search rules)
-    (λ c κs. search rules)
-    (λ c κs. search rules)
-    (λ c. search (rules, one))
-    (λ c. search (rules, neither)))
+returns-then-pair-ne0 c = search (rules, two)
+
+pub returns-then-single-ne0 : goal.returns-then-single-ne0
+unfolding here
+returns-then-single-ne0 c = search (rules, one)
+
+pub returns : goal.returns
+unfolding here
+returns c = search (rules, neither)

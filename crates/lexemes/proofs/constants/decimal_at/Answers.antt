@@ -18,8 +18,7 @@ use Rattle.classes.specs.Laws.Runs.{Run, ran, one_more, constant_set, drop_from}
 use Rattle.lexemes.specs.Laws.Constants.{decimal_law}
 use Rattle.lexemes.specs.declared.constants.Number.{Number}
 use Rattle.lexemes.specs.declared.lexemes.Lexeme.{Lexeme}
-use Rattle.lexemes.proofs.constants.decimal_at.Statement.{statement}
-use Rattle.lexemes.proofs.constants.decimal_at.Tie as tie
+use Rattle.lexemes.proofs.constants.decimal_at.Goals as goal
 
 found : (text : List ℕ) (at end : ℕ) {x : Number} {r : Lexeme} → at < length text → in_constant (get_or text at 0) ≡ true → RunEnds 184 text (at + 1) end
     → x ≡ number_of (decimal (slice at end text)) → r ≡ constant_of (end - (at + 1)) x
@@ -32,14 +31,5 @@ found text at end {x} {r} h first runs ex er =
     let digits : slice at end text ≡ leading in_constant (get_or text at 0 ∷ drop (at + 1) text) = whole.part ∙ ap (leading in_constant) (drop_from text at h) in
     er ∙ rw (more, ex, digits) (sym (decimal_law at _ _))
 
-pub decimal_at_spec : {M : Type 1} → statement M
-decimal_at_spec =
-    tie.close
-    (tie.spec
-    (λ c. search rules)
-    (λ c κs. search rules)
-    (λ c κs. search rules)
-    (λ c. search rules)
-    (λ c. search rules)
-    (λ c κs. search rules)
-    (λ c. search (rules, found)))
+pub returns : goal.returns
+returns c = search (rules, found)

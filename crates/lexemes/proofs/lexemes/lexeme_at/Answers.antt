@@ -12,8 +12,7 @@ use Rattle.lexemes.specs.Lexemes.{lexeme_of}
 use Rattle.classes.specs.Laws.Runs.{class_at, class_back}
 use Rattle.lexemes.specs.declared.lexemes.Lexeme.{Lexeme}
 use Rattle.lexemes.specs.declared.lexemes.Lexeme.TheVariants.{Refused}
-use Rattle.lexemes.proofs.lexemes.lexeme_at.Statement.{statement}
-use Rattle.lexemes.proofs.lexemes.lexeme_at.Tie as tie
+use Rattle.lexemes.proofs.lexemes.lexeme_at.Goals as goal
 
 told : (n b : ℕ) {k : ℕ} → k ≡ class_no (class_of b) → k ≡ n → class_of b ≡ class_at n
 told n b e q = sym (class_back (class_of b)) ∙ ap class_at (sym e ∙ q)
@@ -54,22 +53,38 @@ nothing_starts p b bs e h1 h2 h3 h4 h6 h8 =
     (ap lexeme_of
     (none (class_of b) p b bs (λ q. h1 (e ∙ q)) (λ q. h2 (e ∙ q)) (λ q. h3 (e ∙ q)) (λ q. h4 (e ∙ q)) (λ q. h6 (e ∙ q)) (λ q. h8 (e ∙ q))))
 
-pub lexeme_at_spec : {M : Type 1} → statement M
+pub word_at-requires : goal.word_at-requires
 unfolding class_at lexeme_by
-lexeme_at_spec =
-    tie.close
-    (tie.spec
-    (λ c. search rules)
-    (λ c κs. search rules)
-    (λ c κs. search rules)
-    (λ c κs. search (rules, starts_name))
-    (λ c κs. search (rules, starts_decimal))
-    (λ c κs. search rules)
-    (λ c κs. search rules)
-    (λ c. by 1 _ _ _ c.before.class_of.ensures c.match.keys1 refl)
-    (λ c. by 2 _ _ _ c.before.before.class_of.ensures c.before.match.keys2 c.comment-at.ensures)
-    (λ c. by 3 _ _ _ c.before.before.class_of.ensures c.before.match.keys3 c.word-at.ensures)
-    (λ c. by 4 _ _ _ c.before.before.class_of.ensures c.before.match.keys4 c.decimal-at.ensures)
-    (λ c. by 6 _ _ _ c.before.before.class_of.ensures c.before.match.keys5 c.based-at.ensures)
-    (λ c. by 8 _ _ _ c.before.before.class_of.ensures c.before.match.keys6 c.mark-at.ensures)
-    (λ c. search (rules, nothing_starts)))
+word_at-requires c = search (rules, starts_name)
+
+pub decimal_at-requires : goal.decimal_at-requires
+unfolding class_at lexeme_by
+decimal_at-requires c = search (rules, starts_decimal)
+
+pub returns-in-1 : goal.returns-in-1
+unfolding class_at lexeme_by
+returns-in-1 c = by 1 _ _ _ c.class_of-class.ensures c.in-1.is refl
+
+pub returns-in-2 : goal.returns-in-2
+unfolding class_at lexeme_by
+returns-in-2 c = by 2 _ _ _ c.class_of-class.ensures c.in-2.is c.comment_at.ensures
+
+pub returns-in-3 : goal.returns-in-3
+unfolding class_at lexeme_by
+returns-in-3 c = by 3 _ _ _ c.class_of-class.ensures c.in-3.is c.word_at.ensures
+
+pub returns-in-4 : goal.returns-in-4
+unfolding class_at lexeme_by
+returns-in-4 c = by 4 _ _ _ c.class_of-class.ensures c.in-4.is c.decimal_at.ensures
+
+pub returns-in-6 : goal.returns-in-6
+unfolding class_at lexeme_by
+returns-in-6 c = by 6 _ _ _ c.class_of-class.ensures c.in-6.is c.based_at.ensures
+
+pub returns-in-8 : goal.returns-in-8
+unfolding class_at lexeme_by
+returns-in-8 c = by 8 _ _ _ c.class_of-class.ensures c.in-8.is c.mark_at.ensures
+
+pub returns-in_default : goal.returns-in_default
+unfolding class_at lexeme_by
+returns-in_default c = search (rules, nothing_starts)

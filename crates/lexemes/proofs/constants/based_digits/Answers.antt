@@ -17,8 +17,8 @@ use Rattle.lexemes.specs.Digits.{digit_no}
 use Rattle.lexemes.specs.Laws.Digits.{is_query_lem, is_digit_of_lem, is_value}
 use Rattle.lexemes.specs.Numbers.{number_of, based_from, based_digits}
 use Rattle.lexemes.specs.declared.constants.Number.TheVariants.{Malformed, Known}
-use Rattle.lexemes.proofs.constants.based_digits.Statement.{statement}
-use Rattle.lexemes.proofs.constants.based_digits.Tie as tie
+use Rattle.lexemes.proofs.constants.based_digits.Invariants.{Inv}
+use Rattle.lexemes.proofs.constants.based_digits.Goals as goal
 
 -- one more digit of a number, with room for it
 below : (base v d n m : ℕ) → v < base ^ n → d < base → n < m → base ^ m ≤ 2 ^ 64 → v * base + d < 2 ^ 64
@@ -58,13 +58,6 @@ module _ (base n v f b : ℕ) (bs : List ℕ) (byte : b < 256) (low : base ≤ 1
 
   not_digit : base ≤ digit_no b → based_from base n v f (b ∷ bs) ≡ malformed
   not_digit l = no_digit base n v f b bs (based ∙ is_digit_of_lem base b byte low ∙ le-ltb _ _ l)
-
-record Inv (text : List ℕ) (from end base bits value free i : ℕ) : Type 0 where
-  pub low : from ≤ i
-  pub high : i ≤ end
-  pub small : value < base ^ (i - from)
-  pub small_free : free < base ^ (i - from)
-  pub left : based_from base bits value free (slice i end text) ≡ based_digits base bits (slice from end text)
 
 starts : (text : List ℕ) (from end base bits : ℕ) → from ≤ end → 2 ≤ base → Inv text from end base bits 0 0 from
 starts text from end base bits h two =
@@ -130,32 +123,35 @@ module _ {text : List ℕ} {from end base bits value free i : ℕ} (inv : Inv te
       let over : slice i end text ≡ [] = rw (last, slice_empty end text) in
       ap number_of (ap (based_from base bits value free) (sym over) ∙ inv.left)
 
-abbrev invariant-loop : tie.invariant-loop
-invariant-loop text from end base bits value₀ free₀ i₀ value free i = Inv text from end base bits value free i
+pub loop-i-init : goal.loop-i-init
+loop-i-init c = search (rules, starts)
 
-abbrev decreases-loop : tie.decreases-loop
-decreases-loop text from end base bits value₀ free₀ i₀ value free i = end - i
+pub overflow_mul-value : goal.overflow_mul-value
+overflow_mul-value c = search (rules, value_fits)
 
-pub based_digits_spec : {M : Type 1} → statement M
-based_digits_spec =
-    tie.close
-    (tie.spec
-    invariant-loop
-    decreases-loop
-    (λ c. search (rules, starts))
-    (λ c. search rules)
-    (λ c κs. search rules)
-    (λ c. search rules)
-    (λ c. search (rules, value_fits))
-    (λ c. search (rules, free_fits))
-    (λ c. search rules)
-    (λ c. search (rules, query_fits))
-    (λ c. search rules)
-    (λ c. search (rules, query_passed))
-    (λ c. search (rules, value_fits))
-    (λ c. search (rules, digit_fits))
-    (λ c. search (rules, free_fits))
-    (λ c. search rules)
-    (λ c. search (rules, digit_passed))
-    (λ c. search (rules, stopped))
-    (λ c. search (rules, ended)))
+pub overflow_mul-free : goal.overflow_mul-free
+overflow_mul-free c = search (rules, free_fits)
+
+pub overflow_add-free : goal.overflow_add-free
+overflow_add-free c = search (rules, query_fits)
+
+pub loop-i-preserved-then-digit-eq16 : goal.loop-i-preserved-then-digit-eq16
+loop-i-preserved-then-digit-eq16 c = search (rules, query_passed)
+
+pub overflow_mul-value-then-digit-base : goal.overflow_mul-value-then-digit-base
+overflow_mul-value-then-digit-base c = search (rules, value_fits)
+
+pub overflow_add-value : goal.overflow_add-value
+overflow_add-value c = search (rules, digit_fits)
+
+pub overflow_mul-free-then-digit-base : goal.overflow_mul-free-then-digit-base
+overflow_mul-free-then-digit-base c = search (rules, free_fits)
+
+pub loop-i-preserved : goal.loop-i-preserved
+loop-i-preserved c = search (rules, digit_passed)
+
+pub returns-else-digit-base : goal.returns-else-digit-base
+returns-else-digit-base c = search (rules, stopped)
+
+pub returns : goal.returns
+returns c = search (rules, ended)

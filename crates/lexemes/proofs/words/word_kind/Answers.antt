@@ -14,8 +14,7 @@ use Rattle.rules.specs.Text.Constants.{all}
 use Rattle.rules.specs.Text.Scan.{word_kind}
 use Rattle.lexemes.specs.Codes.{word_code, kind_by}
 use Rattle.lexemes.specs.Laws.Words.{keyword_by, no_keyword}
-use Rattle.lexemes.proofs.words.word_kind.Statement.{statement}
-use Rattle.lexemes.proofs.words.word_kind.Tie as tie
+use Rattle.lexemes.proofs.words.word_kind.Goals as goal
 
 long : (text : List ℕ) (at end : ℕ) → end ≤ length text → 9 < end - at → 0 ≡ kind_no (word_kind keywords (map fold (slice at end text)))
 long text at end within h =
@@ -25,12 +24,8 @@ found : (w : List ℕ) {n r : ℕ} → all in_name w ≡ true → n ≡ word_cod
     → r ≡ kind_no (word_kind keywords (map fold w))
 found w h e f = f ∙ ap (λ (n : ℕ). kind_by word_code n keywords) e ∙ sym (keyword_by w h)
 
-pub word_kind_spec : {M : Type 1} → statement M
-word_kind_spec =
-    tie.close
-    (tie.spec
-    (λ c. search rules)
-    (λ c. search (rules, long))
-    (λ c κs. search rules)
-    (λ c κs. search rules)
-    (λ c. search (rules, found)))
+pub returns-then-end-at-gt9 : goal.returns-then-end-at-gt9
+returns-then-end-at-gt9 c = search (rules, long)
+
+pub returns : goal.returns
+returns c = search (rules, found)

@@ -17,8 +17,7 @@ use Rattle.classes.specs.Laws.Runs.{Run, ran, constant_set}
 use Rattle.lexemes.specs.Laws.Constants.{based_law}
 use Rattle.lexemes.specs.declared.constants.Number.{Number}
 use Rattle.lexemes.specs.declared.lexemes.Lexeme.{Lexeme}
-use Rattle.lexemes.proofs.constants.based_at.Statement.{statement}
-use Rattle.lexemes.proofs.constants.based_at.Tie as tie
+use Rattle.lexemes.proofs.constants.based_at.Goals as goal
 
 found : (text : List ℕ) (at end : ℕ) {x : Number} {r : Lexeme} → RunEnds 184 text (at + 1) end
     → x ≡ number_of (based (digit_bits (get_or text at 0)) (slice (at + 1) end text)) → r ≡ constant_of (end - (at + 1)) x
@@ -29,16 +28,5 @@ found text at end {x} {r} runs ex er =
     let more : end - (at + 1) ≡ length (leading in_constant (drop (at + 1) text)) = omega (arith, digits.ends) in
     er ∙ rw (more, ex, digits.part) (sym (based_law at _ (get_or text at 0) _))
 
-pub based_at_spec : {M : Type 1} → statement M
-based_at_spec =
-    tie.close
-    (tie.spec
-    (λ c. search rules)
-    (λ c. search rules)
-    (λ c κs. search rules)
-    (λ c. search rules)
-    (λ c κs. search rules)
-    (λ c. search rules)
-    (λ c. search rules)
-    (λ c κs. search rules)
-    (λ c. search (rules, found)))
+pub returns : goal.returns
+returns c = search (rules, found)

@@ -9,8 +9,7 @@ use Prim.Native.Nat.{ℕ, suc, ◌+◌, ◌*◌, ◌<◌, ◌≤◌}
 use lib.ListN.{length, get_or, take, drop, drop_of_length-le}
 use lib.Seq.{drop-cons}
 use Rattle.lexemes.specs.Codes.{code_of, mark_digit, mark_code}
-use Rattle.lexemes.proofs.marks.pair_code.Statement.{statement}
-use Rattle.lexemes.proofs.marks.pair_code.Tie as tie
+use Rattle.lexemes.proofs.marks.pair_code.Goals as goal
 
 module _ (text : List ℕ) (at : ℕ) (h : at < length text) {x : ℕ} (ex : x ≡ mark_digit (get_or text at 0)) where
   two : {y : ℕ} → at + 1 < length text → y ≡ mark_digit (get_or text (at + 1) 0) → x + 257 * y ≡ mark_code (take 2 (drop at text))
@@ -27,16 +26,8 @@ module _ (text : List ℕ) (at : ℕ) (h : at < length text) {x : ℕ} (ex : x �
       let split : drop at text ≡ get_or text at 0 ∷ [] = drop-cons text at 0 h ∙ ap (λ (r : List ℕ). get_or text at 0 ∷ r) (drop_of_length-le text past) in
       rw split (omega arith)
 
-pub pair_code_spec : {M : Type 1} → statement M
-pair_code_spec =
-    tie.close
-    (tie.spec
-    (λ c. search rules)
-    (λ c κs. search rules)
-    (λ c. search rules)
-    (λ c. search rules)
-    (λ c κs. search rules)
-    (λ c. search rules)
-    (λ c. search rules)
-    (λ c. search (rules, two))
-    (λ c. search (rules, one)))
+pub returns-then-next-text : goal.returns-then-next-text
+returns-then-next-text c = search (rules, two)
+
+pub returns : goal.returns
+returns c = search (rules, one)
