@@ -91,6 +91,7 @@ class Names:
         self.places = {p[0]: p for p in it["places"]}
         self.loops = it["loops"]
         self.changed = it["changed"]
+        self.new = {p[0]: n for p, n in zip(it["places"], it["places_by_name"])}
         self.arms = {p[0]: a for p, a in zip(it["places"], it["arms"]) if a}
         self.it = it
 
@@ -139,6 +140,8 @@ def turned(body, names, place, left):
         befores = m[1].count(".before")
         fields = [f for f in m[2].split(".") if f]
         path = names.path(place, befores, fields)
+        if path is None and not fields:
+            return m[0]
         if path is None:
             left.append(f"{m[0]} at {place}")
             return m[0]
@@ -260,10 +263,38 @@ def turn(root, crate, path, function, names):
         else:
             answer += f"{goal} c = {body}"
         answers.append(answer)
+    rest, placed = at_places(rest, names, left)
+    if placed:
+        answers = [cited_at(a, placed) for a in answers]
+        used = used + [f"use Rattle.{crate}.proofs.{function}.Goals.{{{', '.join(sorted(set(placed.values())))}}}"]
     helpers = [i for i in rest if not any(i is defs[t][0] for t in defs if t in taken)]
     helpers = [i for i in helpers if not re.match(r"^(?:--[^\n]*\n)*(?:pub |abbrev |unfoldable )*\S+ : tie\.(invariant|decreases)", i)]
     write(root, crate, path, function, head, used, helpers, invariants, answers)
     return ("left: " + "; ".join(left)) if left else None
+
+
+def at_places(items, names, left):
+    """Lemmas over the record of a place take today's record of that place."""
+    out, placed = [], {}
+    for item in items:
+        m = re.search(r"\(c : tie\.([^\s()]+)\)", item)
+        head = re.search(rf"(?m)^(?:pub |abbrev )*({NAME}) : ", item)
+        if m and head:
+            old = [p for p in names.new if norm(p) == norm(m[1])] or [p for p, n in names.new.items() if norm(n) == norm(m[1])]
+            if old:
+                placed[head[1]] = names.new[old[0]]
+                item = item.replace(m[0], f"(c : {names.new[old[0]]})")
+                item = turned(item, names, old[0], left)
+        out.append(item)
+    return out, placed
+
+
+def cited_at(answer, placed):
+    """An answer that cites such a lemma gives it the record of its own place."""
+    goal = re.search(r"(?m)^pub (\S+) : goal\.", answer)
+    for lemma, place in placed.items():
+        answer = re.sub(rf"(?<![\w'.-]){re.escape(lemma)} c(?:\.before)*(?![\w'.-])", f"{lemma} (goal.at.{goal[1]} c).{place}", answer)
+    return answer
 
 
 def is_leading(arg, kind, new, variables, changed, defs):
@@ -407,7 +438,7 @@ def write(root, crate, path, function, head, used, helpers, invariants, answers)
     folder = os.path.dirname(path)
     module = "Rattle." + crate + ".proofs." + function
     used = [u for u in used if not re.search(r"\.(Statement|Tie)\b", u)]
-    used = [u for u in used if not re.search(r"\.(Goals|Given)\b", u)]
+    used = [u for u in used if not re.search(r"\.(Goals|Given)$|\.(Goals|Given) as", u)]
     os.remove(path)
     shared = []
     if invariants:
