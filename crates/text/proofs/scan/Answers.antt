@@ -19,24 +19,20 @@ use Rattle.text.specs.Laws.Lexemes.{nothing_back, refused_back, token_back, IsTo
 use Rattle.text.specs.Laws.Scans.{from, from_end, from_nothing, from_token, from_full, from_refused}
 use Rattle.text.specs.Laws.Sound.{Sound, Placed, lexeme_sound}
 use Rattle.text.specs.Table.{pack, record_of, record_cells, value_by, value_of, value_cells, write_cells, ended_at, scanned_of}
-use Rattle.text.specs.Laws.Table.{scanned_from}
 use Rattle.text.specs.declared.Scanned.{Scanned}
 use Rattle.text.specs.declared.Scanned.TheVariants.{Fine, Refused}
 use Rattle.lexemes.specs.declared.lexemes.Lexeme.{Lexeme}
 use Rattle.lexemes.specs.declared.lexemes.Lexeme.TheVariants.{Nothing, Token as Found, Refused as Not}
-use Rattle.text.proofs.scan.Statement.{statement}
-use Rattle.text.proofs.scan.Tie as tie
-
--- a scan s that is still to come, behind `count` tokens, brings both buffers and the answer to those of the whole text
-record Left (text records₀ values₀ : List ℕ) (s : Scan) (records values : List ℕ) (count before : ℕ) : Type 0 where
-  pub answer : scanned_from count s ≡ scanned_of (scan text)
-  pub in_records : write_cells 8 records count (record_cells s.tokens) ≡ write_cells 8 records₀ 0 (record_cells (scan text).tokens)
-  pub in_values : write_cells 8 values count (value_cells before s.tokens) ≡ write_cells 8 values₀ 0 (value_cells 0 (scan text).tokens)
+use Rattle.text.proofs.scan.Invariants.{Inv, Left}
+use Rattle.text.proofs.scan.Goals as goal
 
 abbrev Done : List ℕ → List ℕ → List ℕ → Scanned → List ℕ → List ℕ → Type 0
 Done text records₀ values₀ r records values =
-    (r ≡ scanned_of (scan text))
-    × ((records ≡ write_cells 8 records₀ 0 (record_cells (scan text).tokens)) × (values ≡ write_cells 8 values₀ 0 (value_cells 0 (scan text).tokens)))
+    record {
+      value : r ≡ scanned_of (scan text);
+      records_after : records ≡ write_cells 8 records₀ 0 (record_cells (scan text).tokens);
+      values_after : values ≡ write_cells 8 values₀ 0 (value_cells 0 (scan text).tokens);
+    }
 
 module _ {text records₀ values₀ records values : List ℕ} {count before : ℕ} where
   stored : (t : Token) (s : Scan) {x y f : ℕ} {records' values' : List ℕ} → x ≡ record_of t → y ≡ value_of before t → f ≡ t.info.free
@@ -51,7 +47,7 @@ module _ {text records₀ values₀ records values : List ℕ} {count before : �
 
   finished : (e : End) → Left text records₀ values₀ (scan_end e) records values count before → Done text records₀ values₀ (ended_at count e) records values
   unfolding write_cells value_cells
-  finished e l = (ap (λ (n : ℕ). ended_at n e) (omega arith) ∙ l.answer, (l.in_records, l.in_values))
+  finished e l = record { value = ap (λ (n : ℕ). ended_at n e) (omega arith) ∙ l.answer; records_after = l.in_records; values_after = l.in_values }
 
 -- what the code writes is what the table has for a token
 same_record : (t : Token) {x k s at : ℕ} → x ≡ pack k s at → k ≡ kind_no t.kind → s ≡ size_of t → t.info.place ≡ at → x ≡ record_of t
@@ -59,14 +55,6 @@ same_record t e kind size place = e ∙ rw (kind, size, place)
 
 same_value : (t : Token) {y k v : ℕ} (before : ℕ) → y ≡ value_by k v before → k ≡ kind_no t.kind → v ≡ t.info.value → y ≡ value_of before t
 same_value t before e kind value = e ∙ rw (kind, value)
-
-record Inv (text records₀ values₀ classes records values : List ℕ) (at count before : ℕ) : Type 0 where
-  pub classed : Classed classes
-  pub within : at ≤ length text
-  pub few : count ≤ 8192
-  pub long_records : length records ≡ length records₀
-  pub long_values : length values ≡ length values₀
-  pub left : Left text records₀ values₀ (from text at (8192 - count)) records values count before
 
 starts : (text records values classes : List ℕ) → Classed classes → Inv text records values classes records values 0 0 0
 unfolding scan
@@ -159,70 +147,57 @@ module _ {text records₀ values₀ classes records values : List ℕ} {at count
                 (same_value back.it before ey back.kind back.value) back.free er ev (turned rest);
           }
 
-abbrev invariant-loop : tie.invariant-loop
-invariant-loop text records₀ values₀ classes at₀ count₀ before₀ records values at count before =
-    Inv text records₀ values₀ classes records values at count before
+pub loop-at-init : goal.loop-at-init
+unfolding right class_of class_in
+loop-at-init c = starts _ _ _ _ (classed _ refl tt)
 
-abbrev decreases-loop : tie.decreases-loop
-decreases-loop text records₀ values₀ classes at₀ count₀ before₀ records values at count before = length text - at
+pub overflow_add-at : goal.overflow_add-at
+unfolding right class_of class_in
+overflow_add-at c = search (rules, nothing_more)
+
+pub overflow_add-at-in-Nothing : goal.overflow_add-at-in-Nothing
+unfolding right class_of class_in
+overflow_add-at-in-Nothing c = search (rules, nothing_sum)
+
+pub loop-at-smaller-in-Nothing : goal.loop-at-smaller-in-Nothing
+unfolding right class_of class_in
+loop-at-smaller-in-Nothing c = search (rules, nothing_less)
+
+pub loop-at-preserved-in-Nothing : goal.loop-at-preserved-in-Nothing
+unfolding right class_of class_in
+loop-at-preserved-in-Nothing c = search (rules, nothing_passed)
+
+pub returns-then-count-eq-MOST_TOKENS : goal.returns-then-count-eq-MOST_TOKENS
+unfolding right class_of class_in
+returns-then-count-eq-MOST_TOKENS c =
+    full c.loop-at.invariant c.loop-at-test.true c.lexeme_at.ensures c.in-Token.is
+    c.if-count-eq-MOST_TOKENS.true
+
+pub overflow_add-at-in-Token : goal.overflow_add-at-in-Token
+unfolding right class_of class_in
+overflow_add-at-in-Token c = search (rules, token_more)
+
+pub overflow_add-at-in-Token-2 : goal.overflow_add-at-in-Token-2
+unfolding right class_of class_in
+overflow_add-at-in-Token-2 c = search (rules, token_sum)
+
+pub loop-at-smaller : goal.loop-at-smaller
+unfolding right class_of class_in
+loop-at-smaller c = search (rules, token_less)
 
 -- a token is stored, and the three ways out
-stored_turn : tie.Need-loop-preserved-2 invariant-loop decreases-loop
-stored_turn c =
-    let put = c.before.before.before.before in
-    let cell = put.before.before.before.before in
-    let found = cell.before.before.before in
-    let lexed = found.before.before in
-    token_passed lexed.before.before.before.loop.invariant lexed.before.before.loop-test.true lexed.lexeme-at.ensures
-    found.more2.given.1 cell.before.if1.false cell.value_cell.ensures put.before.packed.ensures put.put-token.ensures.0
-    put.put-token.ensures.1
-
-too_many : tie.Need-returns invariant-loop decreases-loop
-too_many c =
-    let found = c.before.before in
-    let lexed = found.before.before in
-    full lexed.before.before.before.loop.invariant lexed.before.before.loop-test.true lexed.lexeme-at.ensures found.more2.given.1
-    c.if1.true
-
-refused : tie.Need-returns-2 invariant-loop decreases-loop
-refused c =
-    let found = c.before in
-    let lexed = found.before.before in
-    refused_here lexed.before.before.before.loop.invariant lexed.before.before.loop-test.true lexed.lexeme-at.ensures found.number.given.1
-
-all_read : tie.Need-returns-3 invariant-loop decreases-loop
-all_read c = ended_here c.before.loop.invariant c.loop-test.false
-
-pub scan_spec : {M : Type 1} → statement M
+pub loop-at-preserved : goal.loop-at-preserved
 unfolding right class_of class_in
-scan_spec =
-    tie.close
-    (tie.spec
-    invariant-loop
-    decreases-loop
-    (λ c. starts _ _ _ _ (classed _ refl tt))
-    (λ c κs. search rules)
-    (λ c. search rules)
-    (λ c. search (rules, nothing_more))
-    (λ c. search (rules, nothing_sum))
-    (λ c. search (rules, nothing_less))
-    (λ c. search (rules, nothing_passed))
-    (λ c. search rules)
-    (λ c. search rules)
-    (λ c. search rules)
-    too_many
-    (λ c κs. search rules)
-    (λ c κs. search rules)
-    (λ c κs. search rules)
-    (λ c. search rules)
-    (λ c. search (rules, token_more))
-    (λ c. search (rules, token_sum))
-    (λ c. search (rules, token_less))
-    stored_turn
-    (λ c. search rules)
-    (λ c. search rules)
-    (λ c. search rules)
-    refused
-    (λ c. search rules)
-    (λ c. search rules)
-    all_read)
+loop-at-preserved c =
+    token_passed c.loop-at.invariant c.loop-at-test.true c.lexeme_at.ensures
+    c.in-Token.is c.if-count-eq-MOST_TOKENS.false c.value_cell-cell.ensures c.packed.ensures c.put_token.ensures.records_after
+    c.put_token.ensures.values_after
+
+pub returns-in-Refused : goal.returns-in-Refused
+unfolding right class_of class_in
+returns-in-Refused c =
+    refused_here c.loop-at.invariant c.loop-at-test.true c.lexeme_at.ensures c.in-Refused.is
+
+pub returns : goal.returns
+unfolding right class_of class_in
+returns c = ended_here c.loop-at.invariant c.loop-at-test.false
