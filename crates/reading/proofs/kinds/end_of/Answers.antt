@@ -1,0 +1,17 @@
+-- `reading::kinds::end_of` meets its contract: what is left to read comes to the same place.
+use borrow.Author.Rules.{rules}
+use Prim.Native.Nat.{◌-◌}
+use Rattle.reading.specs.Laws.Ends.{seek_from, found_end, seek_on, seek_ended}
+use Rattle.reading.proofs.kinds.end_of.Goals as goal
+
+pub loop-i-init : goal.loop-i-init
+loop-i-init c = search (rules, seek_from)
+
+pub returns-then-halts : goal.returns-then-halts
+returns-then-halts c = search (rules, found_end)
+
+pub loop-i-preserved : goal.loop-i-preserved
+loop-i-preserved c = search (rules, seek_on)
+
+pub returns : goal.returns
+returns c = search (rules, seek_ended)
