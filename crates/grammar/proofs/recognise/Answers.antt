@@ -6,4 +6,4 @@ use Rattle.grammar.proofs.recognise.Goals as goal
 
 pub walk-requires : goal.walk-requires
 unfolding lookup
-walk-requires c = (ruled _ tt, c.requires)
+walk-requires c = record { ruled = ruled _ tt; records = c.requires }
