@@ -97,14 +97,29 @@ class Names:
 
     def path(self, place, befores, fields):
         """The path of today for `c` with so many `before`s and then fields, at a place."""
-        at = place
-        for _ in range(befores):
-            up = self.places.get(at)
-            if up is None or up[1] is None:
-                return None
-            at = up[1]
+        chain = self.above(place)
         if not fields:
             return "c" if befores == 0 else None
+        if fields[0] in AT_START:
+            return ".".join(["c"] + fields)
+        # the older form had steps that are gone: the nearest place that has a step of this name
+        for away in range(len(chain) + befores + 1):
+            for i in (befores - away, befores + away):
+                if 0 <= i < len(chain):
+                    found = self.step(chain[i], fields)
+                    if found is not None:
+                        return found
+        return ".".join(["c"] + fields) if befores < len(chain) else None
+
+    def above(self, place):
+        chain = []
+        while place is not None:
+            chain.append(place)
+            here = self.places.get(place)
+            place = here[1] if here is not None else None
+        return chain
+
+    def step(self, at, fields):
         here = self.places.get(at)
         first = fields[0]
         arm = self.arms.get(at)
@@ -112,13 +127,12 @@ class Names:
             for new, old, further in arm[2]:
                 if norm(old) == norm(first) and fields[1:1 + len(further)] == further:
                     return ".".join(["c", arm[0], new] + fields[1 + len(further):])
-        if here is not None and here[2][0] and norm(first) == norm(here[2][0]):
-            return ".".join(["c", here[2][1]] + fields[1:])
-        if here is not None and here[2][0] and norm(first) == norm(here[2][1]):
-            return ".".join(["c", here[2][1]] + fields[1:])
-        return ".".join(["c"] + fields)
+        if here is not None and here[2][0] and norm(first) in (norm(here[2][0]), norm(here[2][1])):
+            return ".".join(["c", here[2][1]] + [f.replace("type-inv", "type_inv") for f in fields[1:]])
+        return None
 
 
+AT_START = ("args", "requires", "ranges")
 CITED = re.compile(r"(?<![\w'-])c((?:\.before)*)((?:\.[\w'₀-₉-]+)*)(?![\w'-])")
 
 
@@ -329,18 +343,17 @@ def aligned(given, names, defs):
         left = []
         turned(arg, names, names.asked[j], left)
         lost = len(left)
-        place = names.asked[j]
-        for c in CITED.finditer(arg):
+        chain = names.above(names.asked[j])
+        for c in CITED.finditer(without_aliases(arg)):
+            befores = c[1].count(".before")
             fields = [f for f in c[2].split(".") if f]
-            at = place
-            for _ in range(c[1].count(".before")):
-                up = names.places.get(at)
-                at = up[1] if up else None
-            here = names.places.get(at)
-            if fields and here is not None and fields[0] not in ("args", "ranges", "requires", "type_inv", "lifetimes", "auto", "well_formed"):
-                known = [here[2][0], here[2][1]]
-                if norm(fields[0]) not in [norm(k) for k in known]:
-                    lost += 3
+            if not fields:
+                continue
+            if fields[0] in ("args", "ranges", "requires"):
+                lost += 0.3 * abs(len(chain) - 1 - befores)
+            elif fields[0] not in ("type_inv", "lifetimes", "auto", "well_formed"):
+                away = [abs(k - befores) for k, at in enumerate(chain) if names.step(at, fields) is not None]
+                lost += min(3, 0.3 * min(away)) if away else 3
         return lost
 
     skip = 2

@@ -11,13 +11,8 @@ use Rattle.places.specs.Valued.{Valued}
 use Rattle.places.specs.Laws.Valued.{few, record_there, kind_there, next_token, no_more}
 use Rattle.places.specs.Brackets.{opened, past}
 use Rattle.places.specs.Laws.Brackets.{past_all, past_none, past_one}
-use Rattle.places.proofs.reading.behind_subscript.Statement.{statement}
-use Rattle.places.proofs.reading.behind_subscript.Tie as tie
-
-record Inv (records : List ℕ) (n p d i : ℕ) : Type 0 where
-  pub within : i ≤ n
-  pub shallow : d ≤ i + 1
-  pub left : (values : List ℕ) (v : Valued records values n) → past d (drop i v.tokens) ≡ past 1 (drop p v.tokens)
+use Rattle.places.proofs.reading.behind_subscript.Invariants.{Inv}
+use Rattle.places.proofs.reading.behind_subscript.Goals as goal
 
 start : (records : List ℕ) (n p : ℕ) → p ≤ n → Inv records n p 1 p
 start records n p h = record { within = h; shallow = omega arith; left = λ values v. refl }
@@ -44,23 +39,20 @@ module _ {records : List ℕ} {n p d i : ℕ} (inv : Inv records n p d i) where
   room : (values : List ℕ) × Valued records values n → i < n → 8 * i + 8 ≤ length records
   room t h = record_there t.1 h
 
-abbrev invariant-loop : tie.invariant-loop
-invariant-loop records n p d₀ i₀ d i = Inv records n p d i
+pub loop-i-init : goal.loop-i-init
+loop-i-init c = search (rules, start)
 
-abbrev decreases-loop : tie.decreases-loop
-decreases-loop records n p d₀ i₀ d i = n - i
+pub returns-then-d-eq0 : goal.returns-then-d-eq0
+returns-then-d-eq0 c = (search rules, search (rules, found))
 
-pub behind_subscript_spec : {M : Type 1} → statement M
-behind_subscript_spec =
-    tie.close
-    (tie.spec
-    invariant-loop
-    decreases-loop
-    (λ c. search (rules, start))
-    (λ c. (search rules, search (rules, found)))
-    (λ c κs. search (rules, room))
-    (λ c κs. search (rules, small))
-    (λ c. search rules)
-    (λ c. search rules)
-    (λ c. passed c.before.before.before.before.loop.invariant c.before.before.before.loop-test.true c.before.before.if1.false c.before.kind_at.ensures c.opened.ensures)
-    (λ c. (search rules, search (rules, ended))))
+pub kind_at-requires : goal.kind_at-requires
+kind_at-requires c = search (rules, room)
+
+pub opened-d-requires : goal.opened-d-requires
+opened-d-requires c = search (rules, small)
+
+pub loop-i-preserved : goal.loop-i-preserved
+loop-i-preserved c = passed c.loop-i.invariant c.loop-i-test.true c.if-d-eq0.false c.kind_at.ensures c.opened-d.ensures
+
+pub returns : goal.returns
+returns c = (search rules, search (rules, ended))
