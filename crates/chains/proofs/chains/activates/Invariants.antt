@@ -1,0 +1,10 @@
+-- `chains::chains::activates` meets its contract.
+use Prim.Native.Nat.{◌-◌}
+use Rattle.chains.specs.Laws.Chains.{Asking}
+use Rattle.chains.proofs.chains.activates.Given as goal
+
+abbrev pub invariant-loop-level : goal.invariant-loop-level
+invariant-loop-level l = Asking l.records l.decls l.m l.n l.from l.level.w l.all l.at l.depth l.mode
+
+abbrev pub decreases-loop-level : goal.decreases-loop-level
+decreases-loop-level l = l.n - l.at
