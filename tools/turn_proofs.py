@@ -98,6 +98,7 @@ class Names:
     def path(self, place, befores, fields):
         """The path of today for `c` with so many `before`s and then fields, at a place."""
         chain = self.above(place)
+        fields = [TODAY.get(f, f) for f in fields]
         if not fields:
             return "c" if befores == 0 else None
         if fields[0] in AT_START:
@@ -128,11 +129,13 @@ class Names:
                 if norm(old) == norm(first) and fields[1:1 + len(further)] == further:
                     return ".".join(["c", arm[0], new] + fields[1 + len(further):])
         if here is not None and here[2][0] and norm(first) in (norm(here[2][0]), norm(here[2][1])):
-            return ".".join(["c", here[2][1]] + [f.replace("type-inv", "type_inv") for f in fields[1:]])
+            return ".".join(["c", here[2][1]] + fields[1:])
         return None
 
 
 AT_START = ("args", "requires", "ranges")
+
+TODAY = {"type-inv": "type_inv", "well-formed": "well_formed"}
 CITED = re.compile(r"(?<![\w'-])c((?:\.before)*)((?:\.[\w'₀-₉-]+)*)(?![\w'-])")
 
 

@@ -1,0 +1,13 @@
+-- `nots::behind_nots` meets its contract: each turn passes a NOT, and the table ends.
+-- Assumes nothing.
+use Prim.Native.Nat.{◌-◌}
+use lib.ListN.{length}
+use Rattle.nots.specs.Nots.{OperandIn}
+use Rattle.nots.specs.Laws.Nots.{Baring}
+use Rattle.nots.proofs.behind_nots.Given as goal
+
+abbrev pub invariant-loop-i : goal.invariant-loop-i
+invariant-loop-i l = (v : OperandIn l.records l.i) → Baring v l.at
+
+abbrev pub decreases-loop-i : goal.decreases-loop-i
+decreases-loop-i l = length l.records - l.at
