@@ -101,6 +101,7 @@ class Names:
         fields = [TODAY.get(f, f) for f in fields]
         if not fields:
             return "c" if befores == 0 else None
+        fields = [f.replace("-", "_") if f in ("well-formed", "type-inv") else f for f in fields]
         if fields[0] in AT_START:
             return ".".join(["c"] + fields)
         # the older form had steps that are gone: the nearest place that has a step of this name

@@ -13,19 +13,8 @@ use lib.Pow.{pow_pos, pow_mono}
 use Rattle.rules.specs.Faults.Bodies as rules
 use Rattle.patterns.specs.Reaches.{may, either_way}
 use Rattle.patterns.specs.Laws.Reaches.{both_have, neither_has, one_has}
-use Rattle.patterns.proofs.meets.reaches.Statement.{statement}
-use Rattle.patterns.proofs.meets.reaches.Tie as tie
-
--- the answer is that of what is left
-record Left (v f l h value free low high n : ℕ) : Type 0 where
-  short : n ≤ 64
-  same : rules.reaches n value free low high ≡ rules.reaches 64 v f l h
-
-abbrev invariant-loop : tie.invariant-loop
-invariant-loop v f l h value₀ free₀ low₀ high₀ n₀ value free low high n = Left v f l h value free low high n
-
-abbrev decreases-loop : tie.decreases-loop
-decreases-loop v f l h value₀ free₀ low₀ high₀ n₀ value free low high n = n
+use Rattle.patterns.proofs.meets.reaches.Invariants.{Left}
+use Rattle.patterns.proofs.meets.reaches.Goals as goal
 
 positive : (n t : ℕ) → t ≡ 2 ^ n → 0 < t
 positive n t e = rw e (pow_pos n)
@@ -78,26 +67,32 @@ settled v f l h value free low high n left none =
     let z : n ≡ 0 = omega arith in
     only_zero low ∙ rw z at left.same
 
-pub reaches_spec : {M : Type 1} → statement M
-reaches_spec =
-    tie.close
-    (tie.spec
-    invariant-loop
-    decreases-loop
-    (λ c. record { short = search rules; same = refl })
-    (λ c. search rules)
-    (λ c κs. search rules)
-    (λ c κs. search rules)
-    (λ c κs. search rules)
-    (λ c. search (rules, positive))
-    (λ c. search (rules, positive))
-    (λ c κs. search (rules, fits))
-    (λ c. search (rules, decided))
-    (λ c. search (rules, none_lacks))
-    (λ c. search rules)
-    (λ c. search (rules, all_lack))
-    (λ c. search (rules, none_has))
-    (λ c κs. search rules)
-    (λ c. search rules)
-    (λ c. search (rules, all_have))
-    (λ c. search (rules, settled)))
+pub loop-n-init : goal.loop-n-init
+loop-n-init c = record { short = search rules; same = refl }
+
+pub nonzero_rem-value : goal.nonzero_rem-value
+nonzero_rem-value c = search (rules, positive)
+
+pub nonzero_rem-free : goal.nonzero_rem-free
+nonzero_rem-free c = search (rules, positive)
+
+pub one_way-requires : goal.one_way-requires
+one_way-requires c = search (rules, fits)
+
+pub returns-then-top-high : goal.returns-then-top-high
+returns-then-top-high c = search (rules, decided)
+
+pub returns-then-not-without : goal.returns-then-not-without
+returns-then-not-without c = search (rules, none_lacks)
+
+pub loop-n-preserved-then-low-top : goal.loop-n-preserved-then-low-top
+loop-n-preserved-then-low-top c = search (rules, all_lack)
+
+pub returns-then-not-with : goal.returns-then-not-with
+returns-then-not-with c = search (rules, none_has)
+
+pub loop-n-preserved : goal.loop-n-preserved
+loop-n-preserved c = search (rules, all_have)
+
+pub returns : goal.returns
+returns c = search (rules, settled)

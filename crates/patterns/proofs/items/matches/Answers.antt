@@ -11,8 +11,7 @@ use Rattle.patterns.specs.declared.items.Item.{Item}
 use Rattle.patterns.specs.declared.items.Item.TheVariants.{Pattern, Between}
 use Rattle.patterns.specs.Items.{meant}
 use Rattle.patterns.specs.Laws.Patterns.{agree_meets}
-use Rattle.patterns.proofs.items.matches.Statement.{statement}
-use Rattle.patterns.proofs.items.matches.Tie as tie
+use Rattle.patterns.proofs.items.matches.Goals as goal
 
 by_pattern : (i : Item) (v f x : ℕ) (r : Bool) → i ≡ Pattern v f → r ≡ patterns_meet 64 v f x 0 → r ≡ rules.matches (meant i) x
 unfolding rules.matches
@@ -22,7 +21,8 @@ by_range : (i : Item) (l h x : ℕ) → i ≡ Between l h → leb l x && leb x h
 unfolding rules.matches
 by_range i l h x e = rw e refl
 
-pub matches_spec : {M : Type 1} → statement M
-matches_spec =
-    tie.close
-    (tie.spec (λ c. search rules) (λ c κs. search rules) (λ c. search rules) (λ c. search (rules, by_pattern)) (λ c. search (rules, by_range)))
+pub returns-in-Pattern : goal.returns-in-Pattern
+returns-in-Pattern c = search (rules, by_pattern)
+
+pub returns-in-Between : goal.returns-in-Between
+returns-in-Between c = search (rules, by_range)

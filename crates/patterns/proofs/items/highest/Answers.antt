@@ -8,8 +8,7 @@ use Rattle.rules.specs.Selectors as rules
 use Rattle.patterns.specs.declared.items.Item.{Item}
 use Rattle.patterns.specs.declared.items.Item.TheVariants.{Pattern, Between}
 use Rattle.patterns.specs.Items.{meant}
-use Rattle.patterns.proofs.items.highest.Statement.{statement}
-use Rattle.patterns.proofs.items.highest.Tie as tie
+use Rattle.patterns.proofs.items.highest.Goals as goal
 
 sum : (i : Item) (v f : ℕ) → i ≡ Pattern v f → v + f ≡ rules.highest (meant i)
 unfolding rules.highest
@@ -22,7 +21,11 @@ bound : (i : Item) (l h : ℕ) → i ≡ Between l h → h ≡ rules.highest (me
 unfolding rules.highest
 bound i l h e = rw e refl
 
-pub highest_spec : {M : Type 1} → statement M
-highest_spec =
-    tie.close
-    (tie.spec (λ c. search rules) (λ c. search (rules, fits)) (λ c. search rules) (λ c. search (rules, sum)) (λ c. search (rules, bound)))
+pub overflow_add-result : goal.overflow_add-result
+overflow_add-result c = search (rules, fits)
+
+pub returns-in-Pattern : goal.returns-in-Pattern
+returns-in-Pattern c = search (rules, sum)
+
+pub returns-in-Between : goal.returns-in-Between
+returns-in-Between c = search (rules, bound)

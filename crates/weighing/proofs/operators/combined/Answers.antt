@@ -13,8 +13,7 @@ use Rattle.values.specs.Laws.Operators.{op_at_kind}
 use Rattle.keys.specs.Keys.{key, no_key}
 use Rattle.weighing.specs.Weights.{Weighs, operated}
 use Rattle.weighing.specs.Laws.Weights.{operated_unsound, operated_long, operated_short}
-use Rattle.weighing.proofs.operators.combined.Statement.{statement}
-use Rattle.weighing.proofs.operators.combined.Tie as tie
+use Rattle.weighing.proofs.operators.combined.Goals as goal
 
 module _ (op place k m l n : ℕ) where
   -- whatever is judged so, the weight is that of the operator's result
@@ -36,14 +35,11 @@ module _ (op place k m l n : ℕ) where
       short : y ≤ most_bits → All x y
       short g o i a b eo ep wa wb = rw (ex, is o eo) (operated_short wa wb o i (rw ex at h) (rw (is o eo) at g))
 
-pub combined_spec : {M : Type 1} → statement M
-combined_spec =
-    tie.close
-    (tie.spec
-    (λ c κs. search rules)
-    (λ c. search (rules, unsound))
-    (λ c κs. search rules)
-    (λ c. search rules)
-    (λ c κs. search rules)
-    (λ c. search (rules, long))
-    (λ c. search (rules, short)))
+pub returns-then-key-lt-NO_KEY : goal.returns-then-key-lt-NO_KEY
+returns-then-key-lt-NO_KEY c = search (rules, unsound)
+
+pub returns-then-bits-gt-MOST_BITS : goal.returns-then-bits-gt-MOST_BITS
+returns-then-bits-gt-MOST_BITS c = search (rules, long)
+
+pub returns : goal.returns
+returns c = search (rules, short)

@@ -9,8 +9,7 @@ use Rattle.rules.specs.Faults.Bodies.{patterns_meet, items_meet, reaches}
 use Rattle.patterns.specs.declared.items.Item.{Item}
 use Rattle.patterns.specs.declared.items.Item.TheVariants.{Pattern, Between}
 use Rattle.patterns.specs.Items.{meant}
-use Rattle.patterns.proofs.meets.items_meet.Statement.{statement}
-use Rattle.patterns.proofs.meets.items_meet.Tie as tie
+use Rattle.patterns.proofs.meets.items_meet.Goals as goal
 
 module _ (a b : Item) (r : Bool) where
   patterns : (v f w g : ℕ) → a ≡ Pattern v f → b ≡ Pattern w g → r ≡ patterns_meet 64 v f w g → r ≡ items_meet (meant a) (meant b)
@@ -29,22 +28,14 @@ ranges : (a b : Item) (l h m k x y : ℕ) → a ≡ Between l h → b ≡ Betwee
 unfolding items_meet
 ranges a b l h m k x y p q e d = rw (p, q, e, d) refl
 
-pub items_meet_spec : {M : Type 1} → statement M
-items_meet_spec =
-    tie.close
-    (tie.spec
-    (λ c. search rules)
-    (λ c. search rules)
-    (λ c κs. search rules)
-    (λ c. search rules)
-    (λ c κs. search rules)
-    (λ c. search rules)
-    (λ c. search rules)
-    (λ c κs. search rules)
-    (λ c. search rules)
-    (λ c κs. search rules)
-    (λ c κs. search rules)
-    (λ c. search (rules, patterns))
-    (λ c. search (rules, pattern_range))
-    (λ c. search (rules, range_pattern))
-    (λ c. search (rules, ranges)))
+pub returns-in-Pattern-b : goal.returns-in-Pattern-b
+returns-in-Pattern-b c = search (rules, patterns)
+
+pub returns-in-Between-b : goal.returns-in-Between-b
+returns-in-Between-b c = search (rules, pattern_range)
+
+pub returns-in-Pattern-b-2 : goal.returns-in-Pattern-b-2
+returns-in-Pattern-b-2 c = search (rules, range_pattern)
+
+pub returns-in-Between-b-2 : goal.returns-in-Between-b-2
+returns-in-Between-b-2 c = search (rules, ranges)

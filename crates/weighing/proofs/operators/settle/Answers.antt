@@ -15,12 +15,8 @@ use Rattle.table.specs.Laws.Operators.{tightness_at_lem}
 use Rattle.weighing.specs.Weights.{Weighs, operated}
 use Rattle.weighing.specs.Settling.{SettleAt, Settles}
 use Rattle.weighing.specs.Laws.Settling.{Settling, top, top_room, top_kind, top_place, top_small, length_fits, left_fits, turned, stopped, emptied}
-use Rattle.weighing.proofs.operators.settle.Statement.{statement}
-use Rattle.weighing.proofs.operators.settle.Tie as tie
-
-record Inv (records ats keys lengths : List ℕ) (tight count₀ k₀ n₀ count k n : ℕ) : Type 0 where
-  pub now : SettleAt records ats keys lengths count k n
-  pub all : (v : SettleAt records ats keys lengths count₀ k₀ n₀) (operand : Factor → Judged) → Settling v operand tight count k n
+use Rattle.weighing.proofs.operators.settle.Invariants.{Inv}
+use Rattle.weighing.proofs.operators.settle.Goals as goal
 
 begin : {records ats keys lengths : List ℕ} {tight count k n : ℕ} → SettleAt records ats keys lengths count k n → Inv records ats keys lengths tight count k n count k n
 begin s = record { now = s; all = λ v operand. record { here = v; same_looser = refl; same_settled = refl } }
@@ -56,32 +52,26 @@ module _ {records ats keys lengths : List ℕ} {tight count₀ k₀ n₀ count k
         again : SettleAt records ats keys lengths count₀ k₀ n₀ → Inv records ats keys lengths tight count₀ k₀ n₀ (count - 1) k' n'
         again v = record { now = (turn v (λ f. judged_as [] 0)).here; all = turn }
 
-abbrev invariant-loop : tie.invariant-loop
-invariant-loop records ats keys lengths tight count₀ key₀ bits₀ count key bits = Inv records ats keys lengths tight count₀ key₀ bits₀ count key bits
+pub loop-count-init : goal.loop-count-init
+loop-count-init c = begin c.requires
 
-abbrev decreases-loop : tie.decreases-loop
-decreases-loop records ats keys lengths tight count₀ key₀ bits₀ count key bits = count
+pub overflow_cast-at : goal.overflow_cast-at
+overflow_cast-at c = record { fits = omega (arith, room c.loop-count.invariant c.loop-count-test.true) }
 
-pub settle_spec : {M : Type 1} → statement M
-settle_spec =
-    tie.close
-    (tie.spec
-    invariant-loop
-    decreases-loop
-    (λ c. begin c.before.requires)
-    (λ c. search rules)
-    (λ c. search rules)
-    (λ c. search rules)
-    (λ c. record { fits = omega (arith, room c.before.before.loop.invariant c.before.loop-test.true) })
-    (λ c κs. search (rules, room))
-    (λ c κs. search rules)
-    (λ c. search (rules, stop))
-    (λ c. search rules)
-    (λ c. search rules)
-    (λ c. search rules)
-    (λ c. search rules)
-    (λ c κs. search (rules, room))
-    (λ c κs. fits c.before.before.before.before.before.before.before.before.loop.invariant c.before.before.before.before.before.before.before.loop-test.true _ c.place_at.ensures)
-    (λ c. search rules)
-    (λ c. search (rules, again))
-    (λ c. search (rules, ended)))
+pub kind_at-op-requires : goal.kind_at-op-requires
+kind_at-op-requires c = search (rules, room)
+
+pub returns-then-tightness_of-tight : goal.returns-then-tightness_of-tight
+returns-then-tightness_of-tight c = search (rules, stop)
+
+pub place_at-requires : goal.place_at-requires
+place_at-requires c = search (rules, room)
+
+pub combined-both-requires : goal.combined-both-requires
+combined-both-requires c = fits c.loop-count.invariant c.loop-count-test.true _ c.place_at.ensures
+
+pub loop-count-preserved : goal.loop-count-preserved
+loop-count-preserved c = search (rules, again)
+
+pub returns : goal.returns
+returns c = search (rules, ended)

@@ -1,0 +1,19 @@
+-- `weighing::operators::settle` meets its contract. The invariant: settling what still waits comes to settling all.
+-- Assumes nothing.
+use mathlib.Core.List.{List}
+use Prim.Native.Nat.{ℕ, ◌-◌}
+use Rattle.rules.specs.Grammar.Precedence.{Factor}
+use Rattle.rules.specs.Faults.Bodies.{Judged}
+use Rattle.weighing.specs.Settling.{SettleAt}
+use Rattle.weighing.specs.Laws.Settling.{Settling}
+use Rattle.weighing.proofs.operators.settle.Given as goal
+
+pub record Inv (records ats keys lengths : List ℕ) (tight count₀ k₀ n₀ count k n : ℕ) : Type 0 where
+  pub now : SettleAt records ats keys lengths count k n
+  pub all : (v : SettleAt records ats keys lengths count₀ k₀ n₀) (operand : Factor → Judged) → Settling v operand tight count k n
+
+abbrev pub invariant-loop-count : goal.invariant-loop-count
+invariant-loop-count l = Inv l.records l.ats l.keys l.lengths l.tight l.initial.count l.initial.key l.initial.bits l.count l.key l.bits
+
+abbrev pub decreases-loop-count : goal.decreases-loop-count
+decreases-loop-count l = l.count
