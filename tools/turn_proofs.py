@@ -486,10 +486,26 @@ def write(root, crate, path, function, head, used, helpers, invariants, answers)
             lines = lines + [f"use {module}.Invariants.{{{', '.join(names)}}}"]
         text = "\n".join(lines + [f"use {module}.Goals as goal", ""])
         text += "\n" + "\n\n".join(rest + answers) + "\n"
+        text = negated(text)
         with open(os.path.join(folder, "Answers.antt"), "w", encoding="utf-8") as f:
             f.write(pruned(text))
     if not os.listdir(folder):
         os.removedirs(folder)
+
+
+def negated(text):
+    """The test of an `if !f(..)` says today what f answered, where the older form spoke of the negation."""
+    found = set()
+
+    def put(m):
+        name = {"true": "not_from_false", "false": "not_from_true"}[m[2]]
+        found.add(name)
+        return f"({name} _ {m[1]}.{m[2]})"
+
+    text = re.sub(r"(?<![\w'.-])(c(?:\.[\w'-]+)*\.if-not-[\w'-]+)\.(true|false)(?![\w'-])", put, text)
+    if found:
+        text = re.sub(r"(?m)^use ", f"use Rattle.std.proofs.lemmas.Bool.{{{', '.join(sorted(found))}}}\nuse ", text, count=1)
+    return text
 
 
 def published(item):
