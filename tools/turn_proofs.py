@@ -93,6 +93,7 @@ class Names:
         self.changed = it["changed"]
         self.new = {p[0]: n for p, n in zip(it["places"], it["places_by_name"])}
         self.arms = {p[0]: a for p, a in zip(it["places"], it["arms"]) if a}
+        self.recursive = False
         self.it = it
 
     def path(self, place, befores, fields):
@@ -101,7 +102,13 @@ class Names:
         fields = [TODAY.get(f, f) for f in fields]
         if not fields:
             return "c" if befores == 0 else None
-        fields = [f.replace("-", "_") if f in ("well-formed", "type-inv") else f for f in fields]
+        if self.recursive and fields[0] == "requires":
+            # the older form had the measure's equation in front
+            if fields[1:2] == ["0"]:
+                return ".".join(["c", "decreases"] + fields[2:])
+            if fields[1:2] == ["1"]:
+                return ".".join(["c", "requires"] + fields[2:])
+            return None
         if fields[0] in AT_START:
             return ".".join(["c"] + fields)
         # the older form had steps that are gone: the nearest place that has a step of this name
@@ -130,8 +137,20 @@ class Names:
                 if norm(old) == norm(first) and fields[1:1 + len(further)] == further:
                     return ".".join(["c", arm[0], new] + fields[1 + len(further):])
         if here is not None and here[2][0] and norm(first) in (norm(here[2][0]), norm(here[2][1])):
-            return ".".join(["c", here[2][1]] + fields[1:])
+            return ".".join(["c", here[2][1]] + self.auto(here[3], fields[1:]))
         return None
+
+    def auto(self, called, fields):
+        """`auto` of a call by the name of its argument, where the older form had its position."""
+        params = self.it["params"].get(called) if called else None
+        if params is None or fields[:1] != ["auto"]:
+            return fields
+        ones = 0
+        while fields[1 + ones:2 + ones] == ["1"]:
+            ones += 1
+        if ones < len(params) and fields[1 + ones:2 + ones] == ["0"]:
+            return ["auto", params[ones]] + fields[2 + ones:]
+        return fields
 
 
 AT_START = ("args", "requires", "ranges")
@@ -218,6 +237,108 @@ def turn(root, crate, path, function, names):
         return "a recursion"
     given = args_of(inner[len("tie.spec"):])
     left = []
+    made = converted(given, rest, names, unfolding, left, "", "c")
+    if isinstance(made, str):
+        return made
+    invariants, answers, taken = made
+    rest, placed = at_places(rest, names, left)
+    if placed:
+        answers = [cited_at(a, placed) for a in answers]
+        used = used + [f"use Rattle.{crate}.proofs.{function}.Goals.{{{', '.join(sorted(set(placed.values())))}}}"]
+    helpers = [i for i in rest if i not in taken]
+    helpers = [i for i in helpers if not re.match(r"^(?:--[^\n]*\n)*(?:pub |abbrev |unfoldable )*\S+ : tie\.(invariant|decreases)", i)]
+    write(root, crate, path, function, head, used, helpers, invariants, answers)
+    return ("left: " + "; ".join(left)) if left else None
+
+
+def turn_cycle(root, crate, path, function, listed_names):
+    """The same of a cycle: a measure and answers for each of its functions."""
+    with open(path, encoding="utf-8") as f:
+        text = f.read()
+    text = re.sub(r"\{\n\s*([^{}\n]*?),?\n\}", r"{\1}", text)
+    items = items_of(text)
+    uses = [i for i in items if re.match(r"(--[^\n]*\n)*use ", i)]
+    head, used = [], []
+    for i in uses:
+        for line in i.split("\n"):
+            if line.startswith("--"):
+                head.append(line)
+            elif line.strip():
+                used.append(line)
+    rest = [i for i in items if i not in uses]
+    main = [i for i in rest if re.search(r"=\s*close\s", i)]
+    if len(main) != 1:
+        return "no single close"
+    main = main[0]
+    rest.remove(main)
+    unfolding = [l for l in main.split("\n") if l.startswith("unfolding ")]
+    joined = "\n".join(l for l in main.split("\n") if not l.startswith("unfolding ") and not l.startswith("--"))
+    closing = joined[re.search(r"=\s*close\s*", joined).end():]
+    parts, at = [], 0
+    while at < len(closing):
+        m = re.compile(r"\s*").match(closing, at)
+        at = m.end()
+        if at >= len(closing):
+            break
+        if closing[at] == "λ":
+            parts.append("(" + closing[at:].rstrip() + ")")
+            break
+        one = args_of(closing[at:])[0]
+        parts.append(one)
+        at += len(one)
+    measures, kept = {}, []
+    for i in rest:
+        m = re.search(r"(?m)^abbrev μ_(\S+) : Measures ", i)
+        if m:
+            body = re.search(rf"(?ms)^μ_{re.escape(m[1])} κs a =\s*(.*)", i)
+            measures[m[1]] = (body[1].strip(), [l for l in i.split("\n") if l.startswith("--")])
+            continue
+        if re.search(r"(?m)^abbrev \S+_(at|below) : ℕ → In ", i):
+            continue
+        kept.append(i)
+    rest = kept
+    left, invariants, loops, answers, taken = [], [], [], [], []
+    for part in parts:
+        m = re.match(r"\(\s*λ t\.\s*\(?\s*(\S+)_lts\.spec", part)
+        if not m:
+            continue
+        own = m[1]
+        given = args_of(part[m.end():-1])[3:]
+        key = [k for k in listed_names if norm(k.rsplit(".Lts-", 1)[-1]) == norm(own)]
+        if len(key) != 1:
+            return f"{own}: not listed"
+        names = Names(listed_names[key[0]])
+        names.recursive = True
+        function_name = key[0].rsplit(".Lts-", 1)[-1]
+        params = None
+        for it in listed_names.values():
+            for p, ps in it["params"].items():
+                if p.split("::")[-1] == function_name:
+                    params = ps
+        value, comment = measures[own]
+
+        def put(found):
+            place = found[1].count(".1")
+            name = params[place] if params and place < len(params) else f"parameter_{place}"
+            return "l." + name
+
+        value = re.sub(r"(?<![\w'.])a((?:\.1)*)\.0", put, value)
+        invariants.append("".join(l + "\n" for l in comment) + f"abbrev pub decreases-{function_name} : goal.decreases-{function_name}\ndecreases-{function_name} l = {value}")
+        mine = [re.sub(rf"(?<![\w'.]){re.escape(own)}_lts\.", "tie.", i) for i in rest]
+        made = converted(given, mine, names, unfolding, left, names.it["stem"], "t c")
+        if isinstance(made, str):
+            return f"{own}: {made}"
+        loops += made[0]
+        answers += made[1]
+        taken += [rest[k] for k, i in enumerate(mine) if i in made[2]]
+    helpers = [i for i in rest if i not in taken and not re.search(r"(?m)^abbrev \S+ : \S+_lts\.", i)]
+    used = [u for u in used if not re.search(r"borrow\.Fn\.(Kinds|PlainCycle)|\.(Reads|Kinds|Lts-\S+) as |\.Tie\.\{|\.\+[^.]*\.\{", u)]
+    write(root, crate, path, function, head, used, helpers, invariants + loops, answers)
+    return ("left: " + "; ".join(left)) if left else None
+
+
+def converted(given, rest, names, unfolding, left, stem, params):
+    """The invariants and the answers of one function, and the items that became some of them."""
     n_loops = len(names.loops)
     defs = {}
     for i in rest:
@@ -243,7 +364,7 @@ def turn(root, crate, path, function, names):
                 if at >= len(leading):
                     break
                 arg = leading[at]
-                made = invariant_of(kind, new, arg, variables, changed, defs)
+                made = invariant_of(kind, stem + new, arg, variables, changed, defs)
                 if made is None:
                     if kind == "decreases":
                         continue
@@ -263,7 +384,7 @@ def turn(root, crate, path, function, names):
         if arg in defs:
             item, _ = defs[arg]
             taken.add(arg)
-            answers.append(renamed(item, arg, goal, names, place, left, unfolding))
+            answers.append(renamed(item, arg, stem + goal, names, place, left, unfolding))
             continue
         m = re.match(r"\(\s*λ c((?: [^\s.]+)*)\.\s*", arg)
         if m and m[1].strip() in ("", "κs"):
@@ -275,20 +396,13 @@ def turn(root, crate, path, function, names):
         else:
             body = f"{arg} c"
         body = turned(body, names, place, left)
-        answer = f"pub {goal} : goal.{goal}\n" + "".join(u + "\n" for u in unfolding)
+        answer = f"pub {stem}{goal} : goal.{stem}{goal}\n" + "".join(u + "\n" for u in unfolding)
         if "\n" in body:
-            answer += f"{goal} c =\n    " + body
+            answer += f"{stem}{goal} {params} =\n    " + body
         else:
-            answer += f"{goal} c = {body}"
+            answer += f"{stem}{goal} {params} = {body}"
         answers.append(answer)
-    rest, placed = at_places(rest, names, left)
-    if placed:
-        answers = [cited_at(a, placed) for a in answers]
-        used = used + [f"use Rattle.{crate}.proofs.{function}.Goals.{{{', '.join(sorted(set(placed.values())))}}}"]
-    helpers = [i for i in rest if not any(i is defs[t][0] for t in defs if t in taken)]
-    helpers = [i for i in helpers if not re.match(r"^(?:--[^\n]*\n)*(?:pub |abbrev |unfoldable )*\S+ : tie\.(invariant|decreases)", i)]
-    write(root, crate, path, function, head, used, helpers, invariants, answers)
-    return ("left: " + "; ".join(left)) if left else None
+    return invariants, answers, [defs[t][0] for t in taken]
 
 
 def at_places(items, names, left):
@@ -552,6 +666,12 @@ def main(argv):
             function = ".".join(os.path.relpath(folder, base).split(os.sep))
             key = f"Rattle-{crate}-proofs.{function}.Lts"
             path = os.path.join(folder, "Proof.antt")
+            ours = {k: n for k, n in names.items() if k.startswith(f"Rattle-{crate}-proofs.{function}.Lts-")}
+            if ours:
+                said = turn_cycle(root, crate, path, function, ours)
+                if said:
+                    print(f"{crate}: {function}: {said}")
+                continue
             if key not in names:
                 print(f"{crate}: {function}: by hand: not listed")
                 continue
