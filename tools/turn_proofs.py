@@ -623,7 +623,10 @@ def negated(text):
 
 
 def published(item):
-    return re.sub(r"(?m)^(record|data) ", r"pub \1 ", re.sub(r"(?m)^(abbrev|unfoldable) (?!pub)", r"\1 pub ", item))
+    item = re.sub(r"(?m)^(record|data) ", r"pub \1 ", re.sub(r"(?m)^(abbrev|unfoldable) (?!pub)", r"\1 pub ", item))
+    if re.search(r"(?m)^pub record ", item):
+        item = re.sub(rf"(?m)^  (?!pub )({NAME}(?: {NAME})* : )", r"  pub \1", item)
+    return item
 
 
 def pruned(text):
