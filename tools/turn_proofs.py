@@ -441,7 +441,8 @@ def aligned(given, names, defs):
     """One answer for each goal of today, in order: those that only searched may stand for goals that are settled by themselves now."""
     needs = names.needs
     n, m = len(given), len(needs)
-    if n == m:
+    shaped = [j for j in range(m) if norm(needs[j][1]).startswith("shape_of")]
+    if n == m and all(SEARCH.match(given[j]) for j in shaped):
         return given
 
     def cost(i, j):
@@ -454,6 +455,9 @@ def aligned(given, names, defs):
             return 1000
         if SEARCH.match(arg):
             return 0
+        if j in shaped:
+            # what a lent value is made of settles itself
+            return 60
         if arg in defs:
             need = re.match(r"tie\.Need-(\S+)", defs[arg][1])
             if need and norm(need[1]) not in (norm(goal), norm(needs[j][1])):

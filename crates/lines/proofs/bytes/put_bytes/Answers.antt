@@ -1,7 +1,6 @@
 -- `lines::bytes::put_bytes` meets its contract: what is appended and what is left make the whole.
 -- Assumes nothing.
 use borrow.Author.Rules.{rules}
-use Prim.Native.Nat.{◌-◌}
 use Rattle.lines.specs.Laws.Appended.{all_left}
 use Rattle.lines.proofs.Runs.{room_left, byte_less, bytes_done}
 use Rattle.lines.proofs.bytes.put_bytes.Goals as goal
@@ -16,4 +15,4 @@ pub loop-k-preserved : goal.loop-k-preserved
 loop-k-preserved c = search (rules, byte_less)
 
 pub returns : goal.returns
-returns c = search (rules, bytes_done)
+returns c = bytes_done _ _ c.loop-k.invariant (search rules)
