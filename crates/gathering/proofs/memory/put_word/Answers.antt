@@ -7,16 +7,10 @@ use lib.ListN.{length}
 use Rattle.cells.specs.Cells.{put_cell}
 use Rattle.gathering.specs.Memory.{Put}
 use Rattle.gathering.specs.Laws.Memory.{put_cell_lem}
-use Rattle.gathering.proofs.memory.put_word.Statement.{statement}
-use Rattle.gathering.proofs.memory.put_word.Tie as tie
+use Rattle.gathering.proofs.memory.put_word.Goals as goal
 
 put : {b d : List ℕ} {i v : ℕ} → 8 * i + 8 ≤ length b → v < 2 ^ 64 → d ≡ put_cell 8 b i v → Put b d i v
 put {b} {d} {i} {v} h l e = subst (λ (x : List ℕ). Put b x i v) (sym e) (put_cell_lem b i v h l)
 
-pub put_word_spec : {M : Type 1} → statement M
-put_word_spec =
-    tie.close
-    (tie.spec
-    (λ c κs. search rules)
-    (λ c. search rules)
-    (λ c. search (rules, put)))
+pub returns : goal.returns
+returns c = search (rules, put)

@@ -1,0 +1,16 @@
+-- `gathering::gathering::gather` and `descend` meet their contracts: the remaining length of the chain falls at each body.
+use Prim.Native.Nat.{◌+◌, ◌-◌, ◌*◌}
+use Rattle.gathering.specs.Laws.Filling.{Descending}
+use Rattle.gathering.proofs.gathering.+descend_gather.Given as goal
+
+abbrev pub decreases-descend : goal.decreases-descend
+decreases-descend l = 2 * l.left + 1
+
+abbrev pub decreases-gather : goal.decreases-gather
+decreases-gather l = 2 * l.left
+
+abbrev pub invariant-descend-loop-call : goal.invariant-descend-loop-call
+invariant-descend-loop-call l = Descending l.records l.decls l.initial.memo l.memo l.m l.n l.from l.left l.at l.depth l.mode
+
+abbrev pub decreases-descend-loop-call : goal.decreases-descend-loop-call
+decreases-descend-loop-call l = l.n - l.at
