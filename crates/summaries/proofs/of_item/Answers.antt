@@ -10,8 +10,7 @@ use Rattle.patterns.specs.declared.items.Item.TheVariants.{Pattern, Between}
 use Rattle.patterns.specs.Items.{meant}
 use Rattle.summaries.specs.Summaries.{Bounded, Tells}
 use Rattle.summaries.specs.Laws.Summaries.{tells_pattern, tells_value, tells_range, tells_nothing}
-use Rattle.summaries.proofs.of_item.Statement.{statement}
-use Rattle.summaries.proofs.of_item.Tie as tie
+use Rattle.summaries.proofs.of_item.Goals as goal
 
 module _ (i : Item) (bounded : Bounded (meant i)) where
   fits : (v f : ℕ) → i ≡ Pattern v f → v + f < 2 ^ 64
@@ -26,15 +25,17 @@ module _ (i : Item) (bounded : Bounded (meant i)) where
   by_range : (l h : ℕ) → i ≡ Between l h → Tells (meant i ∷ []) (record { low = l; high = h; value = 0; free = 2 ^ 64 - 1 })
   by_range l h e = rw e (tells_range l h (rw e at bounded) 0)
 
-pub of_item_spec : {M : Type 1} → statement M
-of_item_spec =
-    tie.close
-    (tie.spec
-    (λ c. search rules)
-    (λ c κs. search rules)
-    (λ c. search (rules, tells_nothing))
-    (λ c. search (rules, fits))
-    (λ c. search rules)
-    (λ c. search (rules, by_value))
-    (λ c. search (rules, by_pattern))
-    (λ c. search (rules, by_range)))
+pub returns-then-value-free-ne0 : goal.returns-then-value-free-ne0
+returns-then-value-free-ne0 c = search (rules, tells_nothing)
+
+pub overflow_add-result : goal.overflow_add-result
+overflow_add-result c = search (rules, fits)
+
+pub returns-then-low-high : goal.returns-then-low-high
+returns-then-low-high c = search (rules, by_value)
+
+pub returns-else-value-free-ne0 : goal.returns-else-value-free-ne0
+returns-else-value-free-ne0 c = search (rules, by_pattern)
+
+pub returns-else-low-high : goal.returns-else-low-high
+returns-else-low-high c = search (rules, by_range)
