@@ -1,0 +1,8 @@
+-- `reports::put_short` meets its contract: one follows the other.
+-- Assumes nothing.
+use borrow.Author.Rules.{rules}
+use Rattle.lines.specs.Laws.Appended.{and_then}
+use Rattle.reports.proofs.put_short.Goals as goal
+
+pub returns : goal.returns
+returns c = search (rules, and_then)
