@@ -12,6 +12,7 @@ import sys
 import tempfile
 
 SEARCH = re.compile(r"^\(?\s*λ c( κs)?\. search rules\s*\)?$")
+NO_ANSWER = "(λ c. search rules )"
 NAME = r"[^\s(){}\[\];,.@:]+"
 
 
@@ -376,7 +377,7 @@ def converted(given, rest, names, unfolding, left, stem, params):
         if at != len(leading):
             return f"{len(leading)} invariants and measures for {n_loops} loops"
     for number, arg in enumerate(given):
-        if SEARCH.match(arg):
+        if arg == NO_ANSWER or SEARCH.match(arg) and not unfolding:
             continue
         goal = names.needs[number][1]
         place = names.asked[number]
@@ -503,7 +504,7 @@ def aligned(given, names, defs):
         if was == (at[0] - 1, at[1] - 1):
             out.append(given[was[0]])
         elif was == (at[0], at[1] - 1):
-            out.append("(λ c. search rules)")
+            out.append(NO_ANSWER)
         elif not SEARCH.match(given[was[0]]):
             print(f"    an answer finds no goal: {given[was[0]][:100]}")
         at = was
