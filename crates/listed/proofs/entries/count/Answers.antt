@@ -2,11 +2,7 @@
 -- Assumes nothing.
 use mathlib.Core.Path.{sym}
 use Rattle.listed.specs.Laws.Entries.{length_entries}
-use Rattle.listed.proofs.entries.count.Statement.{statement}
-use Rattle.listed.proofs.entries.count.Tie as tie
+use Rattle.listed.proofs.entries.count.Goals as goal
 
-returns : tie.Need-returns
+pub returns : goal.returns
 returns c = sym (length_entries _ _)
-
-pub count_spec : {M : Type 1} → statement M
-count_spec = tie.close (tie.spec returns)
