@@ -94,6 +94,8 @@ class Names:
         self.changed = it["changed"]
         self.new = {p[0]: n for p, n in zip(it["places"], it["places_by_name"])}
         self.arms = {p[0]: a for p, a in zip(it["places"], it["arms"]) if a}
+        self.clauses = {p[0]: c["fields"] for p, c in zip(it["places"], it.get("clauses") or []) if c and c.get("fields")}
+        self.required = (it.get("pre") or {}).get("fields") or []
         self.recursive = False
         self.it = it
 
@@ -108,8 +110,10 @@ class Names:
             if fields[1:2] == ["0"]:
                 return ".".join(["c", "decreases"] + fields[2:])
             if fields[1:2] == ["1"]:
-                return ".".join(["c", "requires"] + fields[2:])
+                return part_of("c.requires", self.required, fields[2:])
             return None
+        if fields[0] == "requires":
+            return part_of("c.requires", self.required, fields[1:])
         if fields[0] in AT_START:
             return ".".join(["c"] + fields)
         # the older form had steps that are gone: the nearest place that has a step of this name
@@ -138,6 +142,8 @@ class Names:
                 if norm(old) == norm(first) and fields[1:1 + len(further)] == further:
                     return ".".join(["c", arm[0], new] + fields[1 + len(further):])
         if here is not None and here[2][0] and norm(first) in (norm(here[2][0]), norm(here[2][1])):
+            if fields[1:2] == ["ensures"] and at in self.clauses:
+                return part_of(f"c.{here[2][1]}.ensures", self.clauses[at], fields[2:])
             return ".".join(["c", here[2][1]] + self.auto(here[3], fields[1:]))
         return None
 
@@ -157,6 +163,80 @@ class Names:
 AT_START = ("args", "requires", "ranges")
 
 TODAY = {"type-inv": "type_inv", "well-formed": "well_formed"}
+
+
+def part_of(whole, names, digits):
+    """A part of a product that has a name for each part today; the whole of it as a tuple."""
+    if len(names) < 2 or digits and digits[0] in names:
+        return ".".join([whole] + digits)
+    at, digits = 0, list(digits)
+    while at < len(names) - 1:
+        if not digits or digits[0] not in ("0", "1"):
+            left = [f"{whole}.{n}" for n in names[at:]]
+            out = left.pop()
+            while left:
+                out = f"({left.pop()}, {out})"
+            return out
+        taken = digits.pop(0)
+        if taken == "0":
+            break
+        at += 1
+    return ".".join([f"{whole}.{names[at]}"] + digits)
+
+
+def top_level(text, mark):
+    """The parts of a text between marks that no bracket holds."""
+    parts, depth, now = [], 0, ""
+    for ch in text:
+        if ch in "([{":
+            depth += 1
+        elif ch in ")]}":
+            depth -= 1
+        if ch == mark and depth == 0:
+            parts.append(now)
+            now = ""
+        else:
+            now += ch
+    return parts + [now]
+
+
+def named(body, names):
+    """An answer to a goal that has a name for each of its clauses today."""
+    if len(names) < 2 or re.match(r"(search|grind|omega|record|λ|elim|absurd)\b", body.strip()):
+        return body
+    leading = ""
+    m = re.match(r"(?s)(.*\bin\s+)(\(.*\))\s*$", body)
+    last = body.strip()
+    if m and m[1].lstrip().startswith("let ") and balanced(m[2]):
+        leading, last = m[1], m[2]
+    if last.startswith("(") and balanced(last):
+        parts = top_level(last[1:-1], ",")
+        while 1 < len(parts) < len(names) and parts[-1].strip().startswith("(") and balanced(parts[-1].strip()):
+            more = top_level(parts[-1].strip()[1:-1], ",")
+            if len(more) < 2:
+                break
+            parts[-1:] = more
+        if len(parts) == len(names):
+            return leading + "record { " + "; ".join(f"{n} = {p.strip()}" for n, p in zip(names, parts)) + " }"
+    if leading or last.startswith("let "):
+        return body
+    paths = ["r" + ".1" * i + (".0" if i < len(names) - 1 else "") for i in range(len(names))]
+    return f"let r = {last} in record {{ " + "; ".join(f"{n} = {p}" for n, p in zip(names, paths)) + " }"
+
+
+def balanced(text):
+    """Whether the bracket that begins a text is closed by the one that ends it."""
+    depth = 0
+    for i, ch in enumerate(text):
+        if ch in "([{":
+            depth += 1
+        elif ch in ")]}":
+            depth -= 1
+            if depth == 0:
+                return i == len(text) - 1
+    return False
+
+
 CITED = re.compile(r"(?<![\w'-])c((?:\.before)*)((?:\.[\w'₀-₉-]+)*)(?![\w'-])")
 
 
@@ -385,7 +465,7 @@ def converted(given, rest, names, unfolding, left, stem, params):
         if arg in defs:
             item, _ = defs[arg]
             taken.add(arg)
-            answers.append(renamed(item, arg, stem + goal, names, place, left, unfolding))
+            answers.append(renamed(item, arg, stem + goal, names, place, left, unfolding, names.it["asked"].get(names.needs[number][0], [])))
             continue
         m = re.match(r"\(\s*λ c((?: [^\s.]+)*)\.\s*", arg)
         if m and m[1].strip() in ("", "κs"):
@@ -396,7 +476,7 @@ def converted(given, rest, names, unfolding, left, stem, params):
             body = f"{arg[1:-1]} c"
         else:
             body = f"{arg} c"
-        body = turned(body, names, place, left)
+        body = named(turned(body, names, place, left), names.it["asked"].get(names.needs[number][0], []))
         answer = f"pub {stem}{goal} : goal.{stem}{goal}\n" + "".join(u + "\n" for u in unfolding)
         if "\n" in body:
             answer += f"{stem}{goal} {params} =\n    " + body
@@ -549,7 +629,7 @@ def invariant_of(kind, new, arg, variables, changed, defs):
     return f"{out}abbrev pub {goal} : goal.{goal}\n" + "".join(u + "\n" for u in unfolding) + f"{goal} l ={sep}{value.strip()}"
 
 
-def renamed(item, old, goal, names, place, left, unfolding):
+def renamed(item, old, goal, names, place, left, unfolding, fields):
     out = []
     has_unfolding = any(l.startswith("unfolding") for l in item.split("\n"))
     for line in item.split("\n"):
@@ -563,7 +643,11 @@ def renamed(item, old, goal, names, place, left, unfolding):
         if m:
             line = f"{goal} c =" + line[m.end():]
         out.append(line)
-    return turned("\n".join(out), names, place, left)
+    text = turned("\n".join(out), names, place, left)
+    m = re.search(rf"(?m)^{re.escape(goal)} c =\s*", text)
+    if m and text[m.end():].strip():
+        text = text[:m.end()] + named(text[m.end():].rstrip(), fields)
+    return text
 
 
 def words(text):
