@@ -4,20 +4,15 @@ use borrow.Author.Rules.{rules}
 use native.Mathlib.Omega.{arith}
 use mathlib.Core.Path.{◌≡◌, refl, ◌∙◌}
 use mathlib.Core.List.{List}
-use Prim.Native.Nat.{ℕ, ◌+◌, ◌-◌, ◌<◌, ◌≤◌}
+use Prim.Native.Nat.{ℕ, ◌+◌, ◌<◌, ◌≤◌}
 use lib.ListN.{length}
 use Rattle.cells.specs.Cells.{put_cell}
 use Rattle.spelling.specs.Trees.{no_node}
 use Rattle.room.specs.Spelling.{heads, room_size}
 use Rattle.spelling.specs.Spelling.{Cleared}
 use Rattle.spelling.specs.Laws.Cells.{none_cleared, cleared_more}
-use Rattle.spelling.proofs.nodes.clear_heads.Statement.{statement}
-use Rattle.spelling.proofs.nodes.clear_heads.Tie as tie
-
-record Inv (room₀ room : List ℕ) (h : ℕ) : Type 0 where
-  pub within : h ≤ heads
-  pub long : length room ≡ length room₀
-  pub cleared : Cleared room 0 h
+use Rattle.spelling.proofs.nodes.clear_heads.Invariants.{Inv}
+use Rattle.spelling.proofs.nodes.clear_heads.Goals as goal
 
 start : (room : List ℕ) → Inv room room 0
 start room = record { within = omega arith; long = refl; cleared = none_cleared room 0 }
@@ -32,22 +27,11 @@ passed inv long l same e = record {
 ended : {room₀ room : List ℕ} {h : ℕ} → Inv room₀ room h → heads ≤ h → Cleared room 0 heads
 ended {h = h} inv l = let e : h ≡ heads = omega (arith, inv.within) in rw e at inv.cleared
 
-abbrev invariant-loop : tie.invariant-loop
-invariant-loop room₀ h₀ room h = Inv room₀ room h
+pub loop-h-init : goal.loop-h-init
+loop-h-init c = search (rules, start)
 
-abbrev decreases-loop : tie.decreases-loop
-decreases-loop room₀ h₀ room h = heads - h
+pub loop-h-preserved : goal.loop-h-preserved
+loop-h-preserved c = search (rules, passed)
 
-pub clear_heads_spec : {M : Type 1} → statement M
-clear_heads_spec =
-    tie.close
-    (tie.spec
-    invariant-loop
-    decreases-loop
-    (λ c. search (rules, start))
-    (λ c κs. search rules)
-    (λ c. search rules)
-    (λ c. search rules)
-    (λ c. search (rules, passed))
-    (λ c. search rules)
-    (λ c. search (rules, ended)))
+pub returns : goal.returns
+returns c = search (rules, ended)

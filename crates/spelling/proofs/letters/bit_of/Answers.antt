@@ -1,6 +1,5 @@
 -- `spelling::letters::bit_of` meets its contract: a bit of the letter that has it.
 -- Assumes nothing.
-use borrow.Author.Rules.{rules}
 use native.Mathlib.Omega.{arith}
 use mathlib.Core.Path.{◌≡◌, sym, ap, ◌∙◌}
 use mathlib.Core.List.{List}
@@ -9,8 +8,7 @@ use lib.ListN.{length, get_or}
 use Rattle.records.specs.Holds.{folded_at}
 use Rattle.spelling.specs.Trees.{bit_of}
 use Rattle.spelling.specs.Laws.Letters.{letters}
-use Rattle.spelling.proofs.letters.bit_of.Statement.{statement}
-use Rattle.spelling.proofs.letters.bit_of.Tie as tie
+use Rattle.spelling.proofs.letters.bit_of.Goals as goal
 
 bit : (text : List ℕ) (p n d : ℕ) {k x : ℕ} → p + n ≤ length text → k ≡ n - (d / 6 + 1) → x ≡ get_or (folded_at text p n) k 0
     → (x / 2 ^ (d % 6) % 2 ≡ bit_of (folded_at text p n) d) × (x / 2 ^ (d % 6) % 2 < 2)
@@ -18,5 +16,5 @@ bit text p n d inside e f =
     let there = f ∙ ap (λ (j : ℕ). get_or (folded_at text p n) j 0) (e ∙ sym (ap (λ (l : ℕ). l - (d / 6 + 1)) (letters text p n inside))) in
     (rw there, omega arith)
 
-pub bit_of_spec : {M : Type 1} → statement M
-bit_of_spec = tie.close (tie.spec (λ c. search rules) (λ c κs. search rules) (λ c. search rules) (λ c. search rules) (λ c. bit _ _ _ _ c.before.before.before.requires c.before.letter-with.ensures c.letter.ensures))
+pub returns : goal.returns
+returns c = bit _ _ _ _ c.requires c.letter_with.ensures c.letter.ensures
