@@ -11,14 +11,7 @@ ghost use Rattle.rules.specs.Calls.Bound.{BoundCall};
 ghost use Rattle.rules.specs.Calls.Trace.{TraceCall};
 
 // Check: judges a text. Returns the number of the answer, which stands in `answer` unless it is 1 or 2.
-#[unsafe(no_mangle)]
-pub extern "C" fn isps_check(
-    text: &[u8],
-    a: &mut [u8],
-    b: &mut [u8],
-    c: &mut [u8],
-    answer: &mut [u8],
-) -> u32
+pub fn isps_check(text: &[u8], a: &mut [u8], b: &mut [u8], c: &mut [u8], answer: &mut [u8]) -> u32
     ensures { CheckCall text.now (memory a.old b.old c.old answer.old)
         (memory a.new b.new c.new answer.new) result }
 {
@@ -26,8 +19,7 @@ pub extern "C" fn isps_check(
 }
 
 // Why: judges a text as Check does, and says why it is refused. The reason stands in front of `reason` unless the number is 1 or 2.
-#[unsafe(no_mangle)]
-pub extern "C" fn isps_why(
+pub fn isps_why(
     text: &[u8],
     a: &mut [u8],
     b: &mut [u8],
@@ -42,8 +34,7 @@ pub extern "C" fn isps_why(
 }
 
 // Run: reads a text afresh and runs it from the carriers, left to right, with a budget of steps.
-#[unsafe(no_mangle)]
-pub extern "C" fn isps_run(
+pub fn isps_run(
     text: &[u8],
     carriers: &mut [u8],
     budget: u32,
@@ -59,8 +50,7 @@ pub extern "C" fn isps_run(
 }
 
 // The resume profile: whether some path of a text writes the output before one activation of the test has ended, by the names of both.
-#[unsafe(no_mangle)]
-pub extern "C" fn isps_profile(
+pub fn isps_profile(
     text: &[u8],
     test: &[u8],
     output: &[u8],
@@ -76,8 +66,7 @@ pub extern "C" fn isps_profile(
 }
 
 // Store: writes the image of the carriers of a text.
-#[unsafe(no_mangle)]
-pub extern "C" fn isps_store(
+pub fn isps_store(
     text: &[u8],
     carriers: &[u8],
     image: &mut [u8],
@@ -93,8 +82,7 @@ pub extern "C" fn isps_store(
 }
 
 // Load: takes the carriers of a text from their image.
-#[unsafe(no_mangle)]
-pub extern "C" fn isps_load(
+pub fn isps_load(
     text: &[u8],
     image: &[u8],
     carriers: &mut [u8],
@@ -110,14 +98,7 @@ pub extern "C" fn isps_load(
 }
 
 // Bound: how many steps a run of a text can take at most, from any carriers.
-#[unsafe(no_mangle)]
-pub extern "C" fn isps_bound(
-    text: &[u8],
-    a: &mut [u8],
-    b: &mut [u8],
-    c: &mut [u8],
-    answer: &mut [u8],
-) -> u32
+pub fn isps_bound(text: &[u8], a: &mut [u8], b: &mut [u8], c: &mut [u8], answer: &mut [u8]) -> u32
     ensures { BoundCall text.now (memory a.old b.old c.old answer.old)
         (memory a.new b.new c.new answer.new) result }
 {
@@ -125,8 +106,7 @@ pub extern "C" fn isps_bound(
 }
 
 // Trace: compares a designer's list of stores with the runs of a text.
-#[unsafe(no_mangle)]
-pub extern "C" fn isps_trace(
+pub fn isps_trace(
     text: &[u8],
     carriers: &[u8],
     budget: u32,
