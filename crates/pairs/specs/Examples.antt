@@ -15,7 +15,7 @@ use Rattle.rules.specs.Faults.Declared.{is_known, twice, large, too_many, among,
 use Rattle.rules.specs.Faults.Fault.{least_from, least}
 use Rattle.rules.specs.Faults.Whole.{mains, main_name, chains, races_any, group_faults, members_of, alternatives_groups, counted_groups, selected_groups}
 use Rattle.rules.specs.Faults.Whole.{more_groups, groups_faults, faults50}
-use Rattle.rules.specs.Grammar.Precedence.{insert_by, insert, inserts, arrange, factor_of, links_of, index_of, amount_of, expr_of}
+use Rattle.rules.specs.Grammar.Precedence.{insert_by, insert, inserts, arrange, factor_of, links_of, index_of, expr_of}
 use Rattle.rules.specs.Grammar.Verdict.{opens, closes, counted_by, count, opened}
 use Rattle.rules.specs.Selectors.{item_of, agree, matches, highest, items_of, selector_items, any_matches, takes}
 use Rattle.rules.specs.Steps.Actions.{access, joined_accesses, act_of, groups, alts_of, counted_alts, selected_alts, more_alts}
@@ -27,7 +27,7 @@ use Rattle.rules.specs.Text.Bytes.{class_in, class_of, in_name, in_constant, in_
 use Rattle.rules.specs.Text.Constants.{digit_bits, digit_value, is_digit_of, is_based_digit, all, any, value_from, free_digit, free_from, bits_from}
 use Rattle.rules.specs.Text.Constants.{decimal_bits, decimal, based}
 use Rattle.rules.specs.Text.Scan.{same_bytes, word_kind, mark_at, word_lexeme, constant_lexeme, mark_lexeme, lexeme_by, lexeme, scan_from, scan}
-use Rattle.rules.specs.Values.{op_bits, bitwise, op_number, operate, not_number, fn_bits, ones, count_leading_zeros, count_trailing_zeros, fn_number, apply, field, with_field, total, cut}
+use Rattle.rules.specs.Values.{op_bits, bitwise, op_number, operate, not_number, field, with_field, total, cut}
 use Rattle.rules.specs.Whole.Sets.{owner, reads_of, factor_reads, index_reads_of, subscript_reads, stores, sets_of, sets_i, sets_alts, body_sets, touched, member}
 use Rattle.rules.specs.Whole.Sets.{member, meet, race, stops_in, stops_i, stops_alts, body_stops, may_stop, calls_in, calls_i, calls_alts, any_name}
 use Rattle.rules.specs.Whole.Sets.{chain_over}
@@ -123,12 +123,12 @@ unfolding judgement place_of little_endian words_from bytes_of buffer_of word_le
     selected_labels more_labels label_faults action_faults members_faults inside_faults inside_counted inside_selected inside_more declared_names faults40
     is_known twice large too_many among inside bad_mapping mappings faults30 least_from least mains main_name chains races_any group_faults members_of
     alternatives_groups counted_groups selected_groups more_groups groups_faults faults50 insert_by insert inserts arrange factor_of
-    links_of index_of amount_of expr_of opens closes counted_by count opened item_of agree matches highest items_of selector_items any_matches takes access
+    links_of index_of expr_of opens closes counted_by count opened item_of agree matches highest items_of selector_items any_matches takes access
     joined_accesses act_of groups alts_of counted_alts selected_alts more_alts start leftmost work_i choose next_i then word_or70 word_of field_in field_of
     evaluate evaluate_factor evaluate_index evaluate_access evaluate_accesses store_all transferred body_act begin run_from run class_in class_of in_name
     in_constant in_comment fold run_Bytes digit_bits digit_value is_digit_of is_based_digit all any value_from free_digit free_from bits_from decimal_bits decimal
     based same_bytes word_kind mark_at word_lexeme constant_lexeme mark_lexeme lexeme_by lexeme scan_from scan op_bits bitwise op_number operate not_number
-    fn_bits ones count_leading_zeros count_trailing_zeros fn_number apply field with_field total cut owner reads_of factor_reads index_reads_of subscript_reads stores sets_of sets_i sets_alts body_sets touched member meet
+    field with_field total cut owner reads_of factor_reads index_reads_of subscript_reads stores sets_of sets_i sets_alts body_sets touched member meet
     race stops_in stops_i stops_alts body_stops may_stop calls_in calls_i calls_alts any_name chain_over description_of check
     lookup too_deep judge_Rows run_Rows recognise find split put act read dec_lt
     pairing pair_on shared_from clashes faults80 fault81 unshared fault32 up_from first_words words_at seen put_back own_run turn_run turns_taken total_of fault60 fault61
