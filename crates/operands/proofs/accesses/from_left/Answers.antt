@@ -7,8 +7,7 @@ use Prim.Native.Nat.{ℕ, ◌-◌, ◌<◌, ◌≤◌, min, max}
 use Rattle.rules.specs.Declarations.{names, from_left}
 use Rattle.operands.specs.declared.accesses.Word.TheVariants.{Number, Outside}
 use Rattle.operands.specs.Cells.{shown_word}
-use Rattle.operands.proofs.accesses.from_left.Statement.{statement}
-use Rattle.operands.proofs.accesses.from_left.Tie as tie
+use Rattle.operands.proofs.accesses.from_left.Goals as goal
 
 module _ (l r n : ℕ) where
   below : n < min l r → Outside ≡ shown_word (from_left (names l r) n)
@@ -27,13 +26,20 @@ module _ (l r n : ℕ) where
   unfolding from_left
   down w h g = rw (from_left, le-leb (min l r) n (omega arith), le-leb n (max l r) (omega arith), lt-leb l r w) refl
 
-pub from_left_spec : {M : Type 1} → statement M
-from_left_spec =
-    tie.close
-    (tie.spec
-    (λ c. below _ _ _ (omega arith))
-    (λ c. above _ _ _ (omega arith) (omega arith))
-    (λ c. search up)
-    (λ c. below _ _ _ (omega arith))
-    (λ c. above _ _ _ (omega arith) (omega arith))
-    (λ c. search down))
+pub returns-then-n-left : goal.returns-then-n-left
+returns-then-n-left c = below _ _ _ (omega arith)
+
+pub returns-then-right-n : goal.returns-then-right-n
+returns-then-right-n c = above _ _ _ (omega arith) (omega arith)
+
+pub returns-then-left-right : goal.returns-then-left-right
+returns-then-left-right c = search up
+
+pub returns-then-n-right : goal.returns-then-n-right
+returns-then-n-right c = below _ _ _ (omega arith)
+
+pub returns-then-left-n : goal.returns-then-left-n
+returns-then-left-n c = above _ _ _ (omega arith) (omega arith)
+
+pub returns : goal.returns
+returns c = search down

@@ -1,0 +1,36 @@
+-- The cycle of calls {access, chain, expression, indexed, nested, operand, pair}. A subscript or a parenthesis is one level deeper. At a level each calls
+-- one below it: an expression a pair, a pair a chain, these an operand, an operand an access or what is nested; and NOTs the operand behind them.
+-- Assumes nothing.
+use Prim.Native.Nat.{◌+◌, ◌-◌, ◌*◌}
+use lib.ListN.{length}
+use Rattle.operands.specs.Laws.Operands.{not_first}
+use Rattle.operands.specs.Expressions.{ChainAt}
+use Rattle.operands.specs.Laws.Going.{Going}
+use Rattle.operands.proofs.expressions.+access_chain_expression_indexed_nested_operand_pair.Given as goal
+
+abbrev pub decreases-access : goal.decreases-access
+decreases-access l = l.depth * 16 + 1
+
+abbrev pub decreases-chain : goal.decreases-chain
+decreases-chain l = l.depth * 16 + 6
+
+abbrev pub decreases-expression : goal.decreases-expression
+decreases-expression l = l.depth * 16 + 8
+
+abbrev pub decreases-indexed : goal.decreases-indexed
+decreases-indexed l = l.depth * 16
+
+abbrev pub decreases-nested : goal.decreases-nested
+decreases-nested l = l.depth * 16 + 2 + 2 * not_first l.records.now l.i
+
+abbrev pub decreases-operand : goal.decreases-operand
+decreases-operand l = l.depth * 16 + 3 + 2 * not_first l.records.now l.i
+
+abbrev pub decreases-pair : goal.decreases-pair
+decreases-pair l = l.depth * 16 + 7
+
+abbrev pub invariant-chain-loop-ops : goal.invariant-chain-loop-ops
+invariant-chain-loop-ops l = (v : ChainAt l.records l.values l.carriers l.op l.a l.m l.initial.last.number l.initial.last.bits l.p l.depth) → Going v l.ops l.numbers l.lengths l.last.count l.last.number l.last.bits l.at
+
+abbrev pub decreases-chain-loop-ops : goal.decreases-chain-loop-ops
+decreases-chain-loop-ops l = length l.records - l.at
