@@ -70,8 +70,8 @@ shared_word first second i j k d e q h =
     word_at_lem second (first_words first (total_words first) second) j k d e (firsts_length first (total_words first) second) h
     ∙ ap (λ z. z + k) (first_shared first (total_words first) second j i d e q)
 
-pub first_word : (first : Table) (w : ℕ) → w < total_words first → get_or (first_side first).view w 0 ≡ w
-first_word first w h = up_at (total_words first) 0 w h ∙ (let e : 0 + w ≡ w = omega arith in e)
+pub first_word_lem : (first : Table) (w : ℕ) → w < total_words first → get_or (first_side first).view w 0 ≡ w
+first_word_lem first w h = up_at (total_words first) 0 w h ∙ (let e : 0 + w ≡ w = omega arith in e)
 
 pub shared_alike : (first second : Table) (i j k : ℕ) (d : Declared) → get_elem? second j ≡ some d → shared_with first d ≡ some i → k < words_of d
     → get_or (first_side first).view (first_word first i + k) 0 ≡ get_or (second_side first second).view (first_word second j + k) 0
@@ -79,7 +79,7 @@ shared_alike first second i j k d e q h =
     let f = found first d i q in
     let n : words_of f.carrier ≡ words_of d = same_count f.carrier d f.same in
     let l = first_fits first i f.carrier f.declared in
-    first_word first (first_word first i + k) (omega (arith, n, l, h)) ∙ sym (shared_word first second i j k d e q h)
+    first_word_lem first (first_word first i + k) (omega (arith, n, l, h)) ∙ sym (shared_word first second i j k d e q h)
 
 -- as long on both sides
 same_bits : (a b : BitNames) → same_bits_of a b ≡ true → bit_count a ≡ bit_count b
