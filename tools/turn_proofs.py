@@ -522,7 +522,7 @@ def aligned(given, names, defs):
     """One answer for each goal of today, in order: those that only searched may stand for goals that are settled by themselves now."""
     needs = names.needs
     n, m = len(given), len(needs)
-    shaped = [j for j in range(m) if norm(needs[j][1]).startswith("shape_of")]
+    shaped = [j for j in range(m) if re.match(r"shape_of|enum_known", norm(needs[j][1]))]
     if n == m and all(SEARCH.match(given[j]) for j in shaped):
         return given
 
@@ -538,6 +538,9 @@ def aligned(given, names, defs):
             return 0
         if j in shaped:
             # what a lent value is made of settles itself
+            return 60
+        if not asks and re.match(r"\(\s*λ c [^.]", arg) and re.match(r"(?:overflow|nonzero|bounds|slice_bounds)_|.*_smaller$", norm(needs[j][1])):
+            # an order is no function
             return 60
         if arg in defs:
             need = re.match(r"tie\.Need-(\S+)", defs[arg][1])
