@@ -28,8 +28,7 @@ use Rattle.accesses.specs.Laws.Lengths.{shown_short}
 use Rattle.accesses.specs.Laws.Lookups.{Found, view_of, short_bits}
 use Rattle.accesses.specs.Names.{NamedAt, NamedAnswer, Shows, has_index}
 use Rattle.accesses.specs.Laws.Names.{bits_view, name_room, name_place, place_fits, named_answer, named_unknown, named_outer, name_found, found_judged}
-use Rattle.accesses.proofs.names.named.Statement.{statement}
-use Rattle.accesses.proofs.names.named.Tie as tie
+use Rattle.accesses.proofs.names.named.Goals as goal
 
 -- whatever stands there, the answer is that of the name
 abbrev All : List ℕ → List ℕ → List ℕ → ℕ → ℕ → Bool → ℕ → ℕ → ℕ → Type 0
@@ -94,23 +93,44 @@ module _ {records values decls : List ℕ} {i p : ℕ} where
       declared v =
           named_answer v (λ x h. rw (found_judged v meaning em nu no x) (rw (place_known ep v) at (by_declaration v x h))) (es values (bits_view v))
 
-pub named_spec : {M : Type 1} → statement M
-named_spec =
-    tie.close
-    (tie.spec
-    (λ c κs. search (rules, bits_at))
-    (λ c. record { fits = omega (arith, next_fits c.bits-size.ensures c.before.before.before.before.requires) })
-    (λ c κs. search (rules, name_room))
-    (λ c κs. search (rules, name_room))
-    (λ c κs. search (rules, place_small))
-    (λ c. search (rules, unknown))
-    (λ c κs. search (rules, place_small))
-    (λ c. search (rules, outer))
-    (λ c. search rules)
-    (λ c κs. search (rules, cell_room))
-    (λ c. search rules)
-    (λ c κs. view c.before.before.before.inside16-at.ensures c.before.before.if1.false c.before.if2.false c.get16.ensures c.before.before.before.before.before.before.before.before.before.requires)
-    (λ c κs. view c.before.before.before.before.inside16-at.ensures c.before.before.before.if1.false c.before.before.if2.false c.before.get16.ensures c.before.before.before.before.before.before.before.before.before.before.requires)
-    (λ c κs. search (rules, bits_view))
-    (λ c κs. search (rules, short, place_small))
-    (λ c. declared _ _ c.before.before.before.before.before.before.before.before.before.bits-size.ensures _ c.before.before.before.before.before.before.before.before.place_at.ensures _ c.before.before.before.before.before.before.before.inside16-at.ensures c.before.before.before.before.before.before.if1.false c.before.before.before.before.before.if2.false _ c.before.before.before.before.get16.ensures _ _ _ c.before.before.before.words_of.ensures c.before.before.bits_of.ensures c.before.names_at.ensures _ _ c.declared-weight.ensures))
+pub bits_size-requires : goal.bits_size-requires
+bits_size-requires c = search (rules, bits_at)
+
+pub overflow_add-next : goal.overflow_add-next
+overflow_add-next c = record { fits = omega (arith, next_fits c.bits_size.ensures c.requires) }
+
+pub place_at-place-requires : goal.place_at-place-requires
+place_at-place-requires c = search (rules, name_room)
+
+pub inside16_at-meaning-requires : goal.inside16_at-meaning-requires
+inside16_at-meaning-requires c = search (rules, name_room)
+
+pub fault_key-requires : goal.fault_key-requires
+fault_key-requires c = search (rules, place_small)
+
+pub returns-then-meaning : goal.returns-then-meaning
+returns-then-meaning c = search (rules, unknown)
+
+pub fault_key-requires-then-meaning-2 : goal.fault_key-requires-then-meaning-2
+fault_key-requires-then-meaning-2 c = search (rules, place_small)
+
+pub returns-then-meaning-2 : goal.returns-then-meaning-2
+returns-then-meaning-2 c = search (rules, outer)
+
+pub get16-d-requires : goal.get16-d-requires
+get16-d-requires c = search (rules, cell_room)
+
+pub words_of-words-requires : goal.words_of-words-requires
+words_of-words-requires c = view c.inside16_at-meaning.ensures c.if-meaning.false c.if-meaning-2.false c.get16-d.ensures c.requires
+
+pub bits_of-own-requires : goal.bits_of-own-requires
+bits_of-own-requires c = view c.inside16_at-meaning.ensures c.if-meaning.false c.if-meaning-2.false c.get16-d.ensures c.requires
+
+pub names_at-given-requires : goal.names_at-given-requires
+names_at-given-requires c = search (rules, bits_view)
+
+pub declared_weight-weight-requires : goal.declared_weight-weight-requires
+declared_weight-weight-requires c = search (rules, short, place_small)
+
+pub returns : goal.returns
+returns c = declared _ _ c.bits_size.ensures _ c.place_at-place.ensures _ c.inside16_at-meaning.ensures c.if-meaning.false c.if-meaning-2.false _ c.get16-d.ensures _ _ _ c.words_of-words.ensures c.bits_of-own.ensures c.names_at-given.ensures _ _ c.declared_weight-weight.ensures

@@ -12,8 +12,7 @@ use Rattle.table.specs.declared.views.Names.{Names}
 use Rattle.table.specs.declared.views.Names.TheVariants.{Span}
 use Rattle.accesses.specs.Lengths.{Short, part_length}
 use Rattle.accesses.specs.Laws.Lengths.{inside_fewer}
-use Rattle.accesses.proofs.lengths.part_length.Statement.{statement}
-use Rattle.accesses.proofs.lengths.part_length.Tie as tie
+use Rattle.accesses.proofs.lengths.part_length.Goals as goal
 
 module _ {own : Names} (left right l r : ℕ) (told : own ≡ Span left right) {t : Bool} (e : t ≡ inside (these (names left right)) (names l r)) where
   outside : not t ≡ true → 0 ≡ part_length own l r
@@ -26,16 +25,11 @@ module _ {own : Names} (left right l r : ℕ) (told : own ≡ Span left right) {
     part : (n : ℕ) → n ≡ how_many (names l r) → n ≡ part_length own l r
     part n q = rw (told, sym e ∙ not-false t h) q
 
-pub part_length_spec : {M : Type 1} → statement M
-part_length_spec =
-    tie.close
-    (tie.spec
-    (λ c. search rules)
-    (λ c. search rules)
-    (λ c. search rules)
-    (λ c κs. search rules)
-    (λ c. search (rules, outside))
-    (λ c κs. search (rules, counted))
-    (λ c. search rules)
-    (λ c. search rules)
-    (λ c. search (rules, part)))
+pub returns-then-not-inside : goal.returns-then-not-inside
+returns-then-not-inside c = search (rules, outside)
+
+pub how_many-requires : goal.how_many-requires
+how_many-requires c = search (rules, counted)
+
+pub returns-else-not-inside : goal.returns-else-not-inside
+returns-else-not-inside c = search (rules, part)

@@ -18,8 +18,7 @@ use Rattle.weighing.specs.Weights.{Weighs}
 use Rattle.accesses.specs.Lengths.{Short, access_length}
 use Rattle.accesses.specs.Names.{Shows, is_missing, fits_words}
 use Rattle.accesses.specs.Laws.Names.{access_bitless, access_unfit, access_outside, access_sound}
-use Rattle.accesses.proofs.names.declared_weight.Statement.{statement}
-use Rattle.accesses.proofs.names.declared_weight.Tie as tie
+use Rattle.accesses.proofs.names.declared_weight.Goals as goal
 
 -- whatever is shown, the weight is that of the access
 abbrev All : ℕ → Names → Names → Names → Bool → ℕ → ℕ → Type 0
@@ -41,17 +40,14 @@ module _ (p : ℕ) (words own given : Names) (t : Bool) (l : p ≤ longest_text)
       sound : (n ≡ 0 → ⊥) → Short own → All p words own given t no_key n
       sound nz h w b x g s = rw en (access_sound p s (sym em ∙ hm) (sym ef ∙ not-false f hf) (λ z. nz (en ∙ z)) h)
 
-pub declared_weight_spec : {M : Type 1} → statement M
-declared_weight_spec =
-    tie.close
-    (tie.spec
-    (λ c κs. search rules)
-    (λ c κs. search rules)
-    (λ c. search (rules, bitless))
-    (λ c κs. search rules)
-    (λ c κs. search rules)
-    (λ c. search (rules, unfit))
-    (λ c κs. search rules)
-    (λ c κs. search rules)
-    (λ c. search (rules, outside))
-    (λ c. search (rules, sound)))
+pub returns-then-is_missing : goal.returns-then-is_missing
+returns-then-is_missing c = search (rules, bitless)
+
+pub returns-then-not-fits_words : goal.returns-then-not-fits_words
+returns-then-not-fits_words c = search (rules, unfit)
+
+pub returns-then-bits-eq0 : goal.returns-then-bits-eq0
+returns-then-bits-eq0 c = search (rules, outside)
+
+pub returns : goal.returns
+returns c = search (rules, sound)

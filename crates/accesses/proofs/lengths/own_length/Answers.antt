@@ -7,8 +7,7 @@ use Rattle.rules.specs.Declarations.{names, how_many}
 use Rattle.table.specs.declared.views.Names.{Names}
 use Rattle.table.specs.declared.views.Names.TheVariants.{Span}
 use Rattle.accesses.specs.Lengths.{Short, own_length}
-use Rattle.accesses.proofs.lengths.own_length.Statement.{statement}
-use Rattle.accesses.proofs.lengths.own_length.Tie as tie
+use Rattle.accesses.proofs.lengths.own_length.Goals as goal
 
 module _ {own : Names} (l r : ℕ) (told : own ≡ Span l r) where
   counted : Short own → how_many (names l r) ≤ 64
@@ -17,14 +16,8 @@ module _ {own : Names} (l r : ℕ) (told : own ≡ Span l r) where
   all : (n : ℕ) → n ≡ how_many (names l r) → n ≡ own_length own
   all n q = rw told q
 
-pub own_length_spec : {M : Type 1} → statement M
-own_length_spec =
-    tie.close
-    (tie.spec
-    (λ c. search rules)
-    (λ c. search rules)
-    (λ c. search rules)
-    (λ c κs. search (rules, counted))
-    (λ c. search rules)
-    (λ c. search rules)
-    (λ c. search (rules, all)))
+pub how_many-requires : goal.how_many-requires
+how_many-requires c = search (rules, counted)
+
+pub returns-in-Span : goal.returns-in-Span
+returns-in-Span c = search (rules, all)
