@@ -1,9 +1,2 @@
 pub mod Cited
-pub mod Closing
-pub mod Owed
-pub mod Counted
-pub mod Reaching
-pub mod Longest
 pub mod Walk
-pub mod WalkLaws
-pub mod Answers

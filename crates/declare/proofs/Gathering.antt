@@ -9,7 +9,7 @@ use native.Mathlib.Decide.{dec_lt}
 use lib.ListN.{length, drop, length-drop, length-append, get_elem?}
 use lib.Seq.{drop-drop, drop-set-lt}
 use Rattle.cells.specs.Cells.{put_at, cell, put_cell}
-use Rattle.cells.specs.Laws.{length_put, le_put_same, le_put_below}
+use Rattle.cells.proofs.Laws.{length_put, le_put_same, le_put_below}
 use Rattle.rules.specs.Text.Tokens.{kind_no, Token, tk, Name, Becomes, BEGIN, Comma, END}
 use Rattle.rules.specs.Limits.{most_tokens}
 use Rattle.rules.specs.Grammar.Trees.{Tokens, Heading, no_heading, heading, heading_tokens, Declaration, plain, main, declaration_tokens}

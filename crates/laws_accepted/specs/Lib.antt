@@ -1,3 +1,1 @@
-pub mod Accepted
 pub mod Cited
-pub mod Demand3

@@ -1,2 +1,1 @@
 pub mod Cited
-pub mod Orders

@@ -18,7 +18,7 @@ use Rattle.records.specs.Laws.Words.{word_folded, word_inside}
 use Rattle.spelling.specs.Trees.{no_node, hash_of, bit_of, cell_behind, node_behind, Passes}
 use Rattle.room.specs.Spelling.{heads, room_size}
 use Rattle.spelling.specs.Spelling.{Seeking, Ends}
-use Rattle.laws_accepted.specs.Accepted.Named.{same_equal, same_itself}
+use Rattle.laws_accepted.proofs.Accepted.Named.{same_equal, same_itself}
 
 -- the search for the name i has come to the cell c behind d nodes
 pub record Comes (room : List ℕ) (ts : Tokens) (i c d : ℕ) : Type 0 where

@@ -12,15 +12,15 @@ use Rattle.rules.specs.Steps.Runs.{run}
 use Rattle.rules.specs.Faults.Whole.{main_name}
 use Rattle.rules.specs.Stores.{Entry, TraceAnswer}
 use Rattle.rules.specs.Answers.{accepted, Checks}
-use Rattle.laws_orders.specs.Orders.Ends.{EndsWell}
+use Rattle.laws_orders.proofs.Orders.Ends.{EndsWell}
 use Rattle.laws_code.specs.Cited.Placed.{description_code}
 use Rattle.traces.specs.Cited.Events.{Event, stores, opens, turns, closes}
 use Rattle.telling.specs.Cited.Cells.{Cells, cell_grouping, AllMarked}
 use Rattle.telling.specs.Cited.Passing.{Grouping, Passing, opened, turned, closed, times, pair_opens, pair_events, group_event}
 use Rattle.telling.specs.Cited.Tracing.{Report, stored, passes, pairs_of, groups_of, trace_run}
-use Rattle.telling.specs.Moves.{Follows}
-use Rattle.telling.specs.Running.{FollowsAll}
-use Rattle.telling.specs.Decides.{main_traces, marked_held, marked_decides}
+use Rattle.telling.proofs.Moves.{Follows}
+use Rattle.telling.proofs.Running.{FollowsAll}
+use Rattle.telling.proofs.Decides.{main_traces, marked_held, marked_decides}
 use Rattle.matching.specs.Matching.{untold, told_all, answer_in}
 use Rattle.matching.specs.Laws.Groups.{Frame, amid, last, closings, Tracks, tracks_answer, at_start, more_stores, more_opens, more_turns, last_turns, more_closes}
 

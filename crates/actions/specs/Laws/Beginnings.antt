@@ -4,7 +4,7 @@ use Rattle.std.specs.Prelude.{ℕ, ◌+◌, ◌*◌, ◌<◌, ◌≤◌, ◌≡�
 use Rattle.std.proofs.Common.{arith, lt-ltb, le-ltb}
 use Rattle.std.proofs.Math.Decide.{dec_lt}
 use Rattle.cells.specs.Cells.{cell, put_cell}
-use Rattle.cells.specs.Laws.{le_put_same, le_put_below}
+use Rattle.cells.proofs.Laws.{le_put_same, le_put_below}
 use Rattle.rules.specs.Limits.{longest_text, deepest}
 use Rattle.rules.specs.Grammar.Trees.{Tokens}
 use Rattle.records.specs.Holds.{token_at}

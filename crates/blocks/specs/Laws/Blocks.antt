@@ -11,7 +11,7 @@ use Rattle.std.proofs.Math.ListN.{length, get_or, drop, length-append, length-ta
 use Rattle.std.proofs.lemmas.List.{length-replicate, take-append-le, drop-append-le, take-set-le}
 use Rattle.std.proofs.Math.Seq.{take_at, drop_at, take-set-lt, drop-set-lt, drop-set-add, get_or-drop, get_or-take}
 use Rattle.rules.specs.Answers.{little_endian, bytes_of}
-use Rattle.laws_accepted.specs.Accepted.Named.{and_both}
+use Rattle.laws_accepted.proofs.Accepted.Named.{and_both}
 use Rattle.buffers.specs.Laws.Buffers.{bytes_back}
 use Rattle.rules.specs.Images.{payload_size, head_size, checked_size, block_size, edition, check_of, front_of, block_of, is_checked, all_zero, is_formed, fault_by, block_fault}
 use Rattle.blocks.specs.Laws.Sums.{Bytes, length_bytes, number_front, check_bounded, check_changed, number_changed}

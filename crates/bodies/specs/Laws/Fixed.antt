@@ -4,7 +4,7 @@ use Rattle.std.specs.Prelude.{ℕ, ◌*◌, ◌≤◌, refl, List, length}
 use Rattle.rules.specs.Text.Tokens.{Name, tk}
 use Rattle.rules.specs.Text.Scan.{plain_info, scan}
 use Rattle.rules.specs.Grammar.Trees.{Description}
-use Rattle.laws_accepted.specs.Accepted.Scanned.{scanned_each}
+use Rattle.laws_accepted.proofs.Accepted.Scanned.{scanned_each}
 use Rattle.table.specs.Ready.{Ready}
 use Rattle.spelling.specs.Spelled.{Spelled}
 use Rattle.room.specs.Bodies.{index_end}

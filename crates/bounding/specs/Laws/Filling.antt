@@ -11,7 +11,7 @@ use Rattle.std.proofs.Math.Decide.{dec_lt}
 use borrow.Author.Tests.{ne_eqb}
 use Rattle.std.proofs.Math.ListN.{get_elem?}
 use Rattle.cells.specs.Cells.{cell, put_cell}
-use Rattle.cells.specs.Laws.{put_size, put_same}
+use Rattle.cells.proofs.Laws.{put_size, put_same}
 use Rattle.rules.specs.Text.Tokens.{kind_no, Name}
 use Rattle.rules.specs.Grammar.Trees.{Action, Declaration, action_tokens}
 use Rattle.rules.specs.Limits.{deepest, longest_chain}
@@ -19,10 +19,10 @@ use Rattle.rules.specs.Declarations.{Word, Table, Declared, declared_of, number_
 use Rattle.rules.specs.Steps.Runs.{body_act, act_or}
 use Rattle.rules.specs.Whole.Sets.{calls_in, any_name, chain_over}
 use Rattle.laws_grammar.specs.Cited.Nesting.{action_nest}
-use Rattle.laws_orders.specs.Orders.Tests.{or_neither}
+use Rattle.laws_orders.proofs.Orders.Tests.{or_neither}
 use Rattle.bounds.specs.Cited.Counts.{endless, count_down}
 use Rattle.bounds.specs.Walk.{walk}
-use Rattle.bounds.specs.WalkLaws.{count_none}
+use Rattle.bounds.proofs.WalkLaws.{count_none}
 use Rattle.records.specs.Holds.{kind_byte}
 use Rattle.records.specs.Words.{word_at}
 use Rattle.table.specs.Declarations.{declaration_list, all_declared}

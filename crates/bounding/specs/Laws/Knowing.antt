@@ -14,13 +14,13 @@ use Rattle.rules.specs.Steps.Control.{start}
 use Rattle.rules.specs.Steps.Runs.{body_act}
 use Rattle.rules.specs.Whole.Sets.{calls_in, any_name, chain_over}
 use Rattle.rules.specs.Bound.{cost_down, cost_of, turns_down, turns_from}
-use Rattle.laws_accepted.specs.Accepted.Faultless.{both_empty, when_empty, each_empty}
-use Rattle.laws_accepted.specs.Accepted.Named.{found_body}
+use Rattle.laws_accepted.proofs.Accepted.Faultless.{both_empty, when_empty, each_empty}
+use Rattle.laws_accepted.proofs.Accepted.Named.{found_body}
 use Rattle.bounds.specs.Cited.Counts.{endless, cut, count_down}
 use Rattle.bounds.specs.Walk.{walk}
-use Rattle.bounds.specs.WalkLaws.{cut_low, walked_body}
-use Rattle.bounds.specs.Closing.{cost_same, turns_same, cost_closed, turns_closed}
-use Rattle.bounds.specs.Owed.{start_owes, owes_one}
+use Rattle.bounds.proofs.WalkLaws.{cut_low, walked_body}
+use Rattle.bounds.proofs.Closing.{cost_same, turns_same, cost_closed, turns_closed}
+use Rattle.bounds.proofs.Owed.{start_owes, owes_one}
 
 -- no chain is too long where the whole has no faults
 pub no_chains : (ds : Table) → faults50 ds ≡ [] → (w : Word) → chain_over ds longest_chain w ≡ false

@@ -10,7 +10,7 @@ use Rattle.rules.specs.Limits.{longest_chain}
 use Rattle.rules.specs.Declarations.{Word, declared_of, number_of, body_of, body_number}
 use Rattle.rules.specs.Faults.Whole.{main_name}
 use Rattle.bounds.specs.Cited.Counts.{endless, count_down}
-use Rattle.bounds.specs.WalkLaws.{cut_low, count_none}
+use Rattle.bounds.proofs.WalkLaws.{cut_low, count_none}
 use Rattle.records.specs.Holds.{kind_byte}
 use Rattle.records.specs.Words.{word_at}
 use Rattle.table.specs.Declarations.{declaration_list, all_declared}

@@ -11,7 +11,7 @@ use Rattle.rules.specs.Declarations.{Word, Declared, Table, declared_of}
 use Rattle.rules.specs.Whole.Sets.{member, calls_in}
 use Rattle.rules.specs.Reasons.{no_reason, chained, first_over, body_of_number, chain_behind, refused_body, place_in, places_in, chain_of, chain_from, reason51}
 use Rattle.rules.specs.Calls.Why.{reason_numbers}
-use Rattle.laws_orders.specs.Orders.Tests.{impossible}
+use Rattle.laws_orders.proofs.Orders.Tests.{impossible}
 use Rattle.reading.specs.Reading.{Reading, table_of}
 use Rattle.reading.specs.Meanings.{declares}
 use Rattle.reading.specs.Bodies.{act_at}

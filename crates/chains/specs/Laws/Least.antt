@@ -19,9 +19,9 @@ use Rattle.records.specs.Holds.{token_at, place_cell}
 use Rattle.keys.specs.Keys.{no_key, number_key, least_number_key}
 use Rattle.keys.specs.Laws.Keys.{by_number, least_one, least_none, least_bounded, least_append}
 use Rattle.table.specs.Laws.Views.{name_token}
-use Rattle.laws_accepted.specs.Accepted.Faultless.{both_empty, when_empty}
-use Rattle.laws_accepted.specs.Accepted.Named.{same_itself}
-use Rattle.laws_orders.specs.Orders.Tests.{impossible, or_neither}
+use Rattle.laws_accepted.proofs.Accepted.Faultless.{both_empty, when_empty}
+use Rattle.laws_accepted.proofs.Accepted.Named.{same_itself}
+use Rattle.laws_orders.proofs.Orders.Tests.{impossible, or_neither}
 use Rattle.reading.specs.Reading.{Reading, table_of}
 use Rattle.reading.specs.Meanings.{declares}
 use Rattle.reading.specs.Laws.Meanings.{table_size_lem}

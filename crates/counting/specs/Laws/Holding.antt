@@ -2,10 +2,10 @@
 use Rattle.std.specs.Prelude.{ℕ, suc, ◌+◌, ◌*◌, ◌-◌, ◌<◌, ◌≤◌, max, ◌≡◌, refl, List, [], ◌∷◌, ltb, length}
 use Rattle.std.proofs.Common.{sym, ap, ◌∙◌, subst, arith, lt-ltb, le-ltb}
 use Rattle.cells.specs.Cells.{cell, put_cell}
-use Rattle.cells.specs.Laws.{put_size, put_same, put_here}
+use Rattle.cells.proofs.Laws.{put_size, put_same, put_here}
 use Rattle.rules.specs.Limits.{deepest}
 use Rattle.bounds.specs.Cited.Counts.{endless, up}
-use Rattle.bounds.specs.WalkLaws.{up_low}
+use Rattle.bounds.proofs.WalkLaws.{up_low}
 use Rattle.counting.specs.Machine.{Frame, State, opened, closed, another, counted, turned}
 use Rattle.counting.specs.Holding.{FrameAt, Frames, no_frames, frames, Shows, Does}
 use Rattle.counting.specs.declared.counts.Nest.{Nest}

@@ -3,7 +3,7 @@
 use Rattle.std.specs.Prelude.{ℕ, ◌+◌, ◌*◌, ◌<◌, ◌≤◌, ◌^◌, ◌≡◌, List, length, get_or}
 use Rattle.std.proofs.Common.{sym, ◌∙◌, arith}
 use Rattle.cells.specs.Cells.{cell, put_cell}
-use Rattle.cells.specs.Laws.{length_put, le_put_same, le_put_below}
+use Rattle.cells.proofs.Laws.{length_put, le_put_same, le_put_below}
 use Rattle.rules.specs.Stores.{entry}
 use Rattle.rules.specs.Entries.{entries_from}
 use Rattle.listed.specs.declared.entries.Entry.{Entry}

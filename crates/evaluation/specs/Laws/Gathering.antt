@@ -15,7 +15,7 @@ use Rattle.rules.specs.Declarations.{Table}
 use Rattle.rules.specs.Steps.Actions.{Access, access, joined_accesses}
 use Rattle.rules.specs.Steps.Evaluation.{Outcome, gives, faulty, then, Field, evaluate_accesses}
 use Rattle.laws_grammar.specs.Cited.Nesting.{joined_nest}
-use Rattle.laws_accepted.specs.Accepted.Declared.{few_words}
+use Rattle.laws_accepted.proofs.Accepted.Declared.{few_words}
 use Rattle.laws_accepted.specs.Cited.Destinations.{SizedAccesses, all_bits}
 use Rattle.table.specs.Laws.Positions.{here, record_within}
 use Rattle.operands.specs.declared.accesses.Located.{Located}

@@ -10,10 +10,10 @@ use Rattle.rules.specs.Limits.{deepest, most_tokens}
 use Rattle.rules.specs.Steps.Evaluation.{evaluate}
 use Rattle.rules.specs.Faults.Bodies.{judge_destination, judge_joined}
 use Rattle.rules.specs.Steps.Actions.{access, joined_accesses}
-use Rattle.laws_accepted.specs.Accepted.Constants.{ConstantOk, ConstantsOk, BitsOk, expression_ok}
+use Rattle.laws_accepted.proofs.Accepted.Constants.{ConstantOk, ConstantsOk, BitsOk, expression_ok}
 use Rattle.laws_accepted.specs.Cited.Lengths.{Sized}
-use Rattle.laws_accepted.specs.Accepted.Lengths.{sized}
-use Rattle.laws_accepted.specs.Accepted.Destinations.{subscripts_ok, destination_sized}
+use Rattle.laws_accepted.proofs.Accepted.Lengths.{sized}
+use Rattle.laws_accepted.proofs.Accepted.Destinations.{subscripts_ok, destination_sized}
 use Rattle.laws_accepted.specs.Cited.Destinations.{SizedDestination}
 use Rattle.records.specs.Holds.{token_at}
 use Rattle.table.specs.Laws.Positions.{here}

@@ -8,7 +8,7 @@ use Rattle.std.proofs.Math.Nat.{mod-mod}
 use Rattle.std.proofs.Math.ListN.{length}
 use Rattle.cells.specs.Cells as bytes
 use Rattle.cells.specs.Cells.{cells, put_cell}
-use Rattle.cells.specs.Laws.{le_put_same, le_put_below, length_put, cells_get, cells_put}
+use Rattle.cells.proofs.Laws.{le_put_same, le_put_below, length_put, cells_get, cells_put}
 use Rattle.rules.specs.Values.{field, with_field, total, cut}
 use Rattle.rules.specs.Limits.{most_bits}
 use Rattle.rules.specs.Declarations.{total_words}

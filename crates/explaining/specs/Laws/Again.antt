@@ -14,7 +14,7 @@ use Rattle.rules.specs.Answers.{refused, Checks}
 use Rattle.laws_grammar.specs.Cited.Nesting.{nest}
 use Rattle.laws_grammar.specs.Grammar.Exact.{unique}
 use Rattle.laws_grammar.specs.Grammar.Nesting.{shallow_nest}
-use Rattle.laws_orders.specs.Orders.Tests.{impossible}
+use Rattle.laws_orders.proofs.Orders.Tests.{impossible}
 use Rattle.text.specs.Table.{record_cells, value_cells, write_cells, ended_at, scanned_of}
 use Rattle.text.specs.declared.Scanned.{Scanned}
 use Rattle.text.specs.declared.Scanned.TheVariants.{Fine as ScannedFine, Refused as ScannedRefused}

@@ -16,8 +16,8 @@ use Rattle.rules.specs.Limits.{longest_chain}
 use Rattle.rules.specs.Whole.Sets.{Sets, owner, owner_in, sets_of, body_sets, stops_in, body_stops, calls_in, any_name, chain_over, member}
 use Rattle.records.specs.Holds.{kind_byte, token_at, inside_cell}
 use Rattle.records.specs.Words.{word_at}
-use Rattle.laws_orders.specs.Orders.Chains.{sets_closed, stops_closed}
-use Rattle.laws_orders.specs.Orders.Tests.{or_neither}
+use Rattle.laws_orders.proofs.Orders.Chains.{sets_closed, stops_closed}
+use Rattle.laws_orders.proofs.Orders.Tests.{or_neither}
 use Rattle.reading.specs.Reading.{Reading, table_of}
 use Rattle.reading.specs.Laws.Reading.{kinded}
 use Rattle.reading.specs.Laws.Names.{number_bound}

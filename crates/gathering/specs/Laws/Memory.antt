@@ -2,7 +2,7 @@
 use Rattle.std.specs.Prelude.{ℕ, ◌+◌, ◌*◌, ◌/◌, ◌%◌, ◌^◌, ◌<◌, ◌≤◌, ◌≡◌, Bool, true, false, List, eqb, length, get_or}
 use Rattle.std.proofs.Common.{sym, ap, ◌∙◌, arith}
 use Rattle.cells.specs.Cells.{cell, put_cell}
-use Rattle.cells.specs.Laws.{cell_same, cell_other}
+use Rattle.cells.proofs.Laws.{cell_same, cell_other}
 use Rattle.rules.specs.Whole.Sets.{Sets}
 use Rattle.reading.specs.Bits.{holds}
 use Rattle.reading.specs.Laws.Bits.{same_words_lem}

@@ -14,7 +14,7 @@ use Rattle.rules.specs.Answers.{accepted, refused, Checks}
 use Rattle.rules.specs.Images.{block_size, blocks_for, image_size_of, image_of, image_fault, held_in}
 use Rattle.rules.specs.Keeping.{Kept, declined, kept, refused_or, fault_unless, carriers_size, fault60, fault61, fault62, storing, loading, Keeps, not_accepted, kept_by}
 use Rattle.laws_grammar.specs.Answers.{one_verdict, accepted_iff_lawful, description_of, description_of_lem}
-use Rattle.laws_accepted.specs.Accepted.Declared.{accepted_declares, few_words}
+use Rattle.laws_accepted.proofs.Accepted.Declared.{accepted_declares, few_words}
 use Rattle.blocks.specs.Laws.Sums.{Bytes}
 use Rattle.images.specs.Laws.Images.{length_image, image_sound, image_holds, length_held_in, image_of_held, image_changed}
 

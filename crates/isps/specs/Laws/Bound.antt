@@ -15,8 +15,8 @@ use Rattle.rules.specs.Calls.Memory.{Memory, Enough, number_bytes, answered, set
 use Rattle.rules.specs.Calls.Run.{RunCall}
 use Rattle.rules.specs.Calls.Bound.{BoundCall, bound_number, bound_numbers, short_memory, long_text, answer}
 use Rattle.laws_grammar.specs.Grammar.Exact.{unique}
-use Rattle.bounds.specs.Longest as longest
-use Rattle.bounds.specs.Longest.{bounding, one_bound}
+use Rattle.bounds.proofs.Longest as longest
+use Rattle.bounds.proofs.Longest.{bounding, one_bound}
 use Rattle.isps.specs.Laws.Calls.{ran_steps, result_code}
 use Rattle.isps.specs.Laws.Orders.{Answers, answers, run_of, ran_by}
 

@@ -15,8 +15,8 @@ use Rattle.rules.specs.Faults.Whole.{main_name}
 use Rattle.rules.specs.Answers.{accepted, Checks, Result, refusal, ended, result_of, Runs, not_accepted, ran, run_on, long_word, word_lengths, words_from, buffer_of, result_numbers}
 use Rattle.rules.specs.Agreement.{ending_code, ending_in, steps_in, Agrees, code_at, carriers_at, SameEnd}
 use Rattle.laws_grammar.specs.Grammar.Exact.{unique}
-use Rattle.laws_orders.specs.Orders.Budget.{run_bounded}
-use Rattle.laws_accepted.specs.Demand3.{accepted_order_free, accepted_none_ends}
+use Rattle.laws_orders.proofs.Orders.Budget.{run_bounded}
+use Rattle.laws_accepted.proofs.Demand3.{accepted_order_free, accepted_none_ends}
 use Rattle.rules.specs.Calls.Memory.{Memory, Enough, answered}
 use Rattle.rules.specs.Calls.Run.{RunCall, carriers_left, short_memory, long_text, answer}
 use Rattle.isps.specs.Laws.Calls.{result_code_lem, ran_steps, result_code}

@@ -23,15 +23,15 @@ use Rattle.rules.specs.Calls.Memory.{Memory, Enough, number_bytes, answered, set
 use Rattle.rules.specs.Calls.Profile.{ProfileCall, profile_number, profile_numbers, short_memory, long_text, answer}
 use Rattle.laws_grammar.specs.Grammar.Exact.{unique}
 use Rattle.laws_grammar.specs.Answers.{one_verdict, accepted_iff_lawful}
-use Rattle.laws_orders.specs.Orders.Tests.{or_either}
-use Rattle.laws_orders.specs.Orders.Owners.{owner_at}
+use Rattle.laws_orders.proofs.Orders.Tests.{or_either}
+use Rattle.laws_orders.proofs.Orders.Owners.{owner_at}
 use Rattle.laws.specs.Refusals.Numbered.{checks_numbered}
 use Rattle.text.specs.Laws.Callers.{token_stands}
 use Rattle.paths.specs.Cited.Early.{early_places}
-use Rattle.paths.specs.Least.{Under}
-use Rattle.paths.specs.Verdict.{accepted_none}
-use Rattle.paths.specs.Kept.{carriers_in, output_kept}
-use Rattle.paths.specs.Profile.{listed_exactly, accepted_is_orderly, only_answer, no_store_before}
+use Rattle.paths.proofs.Least.{Under}
+use Rattle.paths.proofs.Verdict.{accepted_none}
+use Rattle.paths.proofs.Kept.{carriers_in, output_kept}
+use Rattle.paths.proofs.Profile.{listed_exactly, accepted_is_orderly, only_answer, no_store_before}
 use Rattle.nesting.specs.Holding.{unseen}
 use Rattle.resuming.specs.Laws.Near.{Near, all_near, places_under}
 use Rattle.isps.specs.Laws.Calls.{four_bytes}

@@ -14,7 +14,7 @@ use Rattle.rules.specs.Answers.{refusal as not_run}
 use Rattle.rules.specs.Images.{image_size_of, image_of, blocks_for, image_fault, held_in}
 use Rattle.rules.specs.Keeping.{Kept, declined, kept, refused_or, fault_unless, at61, carriers_size, fault60, fault61, fault62, storing, loading, kept_in}
 use Rattle.starts.specs.Starts.{Starts, Begins, Declines}
-use Rattle.laws_accepted.specs.Accepted.Declared.{declares, few_words}
+use Rattle.laws_accepted.proofs.Accepted.Declared.{declares, few_words}
 use Rattle.table.specs.Ready.{Scene, table_of}
 use Rattle.starts.specs.declared.Started.{Started}
 use Rattle.images.specs.Judged.{fault_of}

@@ -9,7 +9,7 @@ use Rattle.rules.specs.Calls.Memory.{Memory, Enough, settled}
 use Rattle.rules.specs.Calls.Bound.{BoundCall, answer, bound_number, bound_numbers}
 use Rattle.rules.specs.Calls.Bound as call
 use Rattle.bounds.specs.Cited.Counts.{endless, bound_when, bound_by_of}
-use Rattle.bounds.specs.Answers.{bound_counted}
+use Rattle.bounds.proofs.Answers.{bound_counted}
 use Rattle.bounding.specs.Filling.{Ready}
 use Rattle.bounding.specs.Mains.{Longest}
 use Rattle.lent.specs.Numbers.{numbers_of}

@@ -8,7 +8,7 @@ use Rattle.std.proofs.Math.Option.{none}
 use Rattle.std.proofs.Math.Decide.{dec_lt}
 use Rattle.std.proofs.Math.Numerals.{add-one}
 use Rattle.cells.specs.Cells.{cell, put_cell}
-use Rattle.cells.specs.Laws.{cell_same, cell_other, long_put}
+use Rattle.cells.proofs.Laws.{cell_same, cell_other, long_put}
 use Rattle.rules.specs.Stores.{Entry}
 use Rattle.traces.specs.Cited.Marking.{Pos, Cells}
 use Rattle.rules.specs.Entries.{most_entries}

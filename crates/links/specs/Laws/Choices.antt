@@ -11,7 +11,7 @@ use Rattle.laws_grammar.specs.Grammar.Positions.{Writes, selector_writes, action
 use Rattle.laws_grammar.specs.Cited.Heads.{head_kind}
 use Rattle.laws_grammar.specs.Cited.Nesting.{action_nest}
 use Rattle.laws_code.specs.Cited.Code.{action_size, first_of, behind_test}
-use Rattle.laws_code.specs.Links.Numbers.{size_before}
+use Rattle.laws_code.proofs.Links.Numbers.{size_before}
 use Rattle.records.specs.Holds.{kind_byte}
 use Rattle.table.specs.Laws.Positions.{here, kind_here}
 use Rattle.table.specs.Scans.{no, scan, halts, stops}

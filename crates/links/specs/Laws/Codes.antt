@@ -6,10 +6,10 @@ use Rattle.std.proofs.Math.Option.{Option, none, some}
 use Rattle.std.proofs.Math.ListN.{get_elem?}
 use Rattle.rules.specs.Grammar.Trees.{Tokens, Action, Declaration}
 use Rattle.rules.specs.Declarations.{Word, Declared, Table, declared_of}
-use Rattle.laws_orders.specs.Orders.Tests.{impossible}
+use Rattle.laws_orders.proofs.Orders.Tests.{impossible}
 use Rattle.laws_orders.specs.Cited.Flat.{exit, outer, bind}
 use Rattle.laws_code.specs.Cited.Code.{Numbered, first_of}
-use Rattle.laws_code.specs.Links.Numbers.{Ascends, ascends_none, ascends_within, ascends_join, code_ascends}
+use Rattle.laws_code.proofs.Links.Numbers.{Ascends, ascends_none, ascends_within, ascends_join, code_ascends}
 use Rattle.laws_code.specs.Cited.Bodies.{body_code, table_code}
 use Rattle.links.specs.Laws.Layout.{BodyLaid}
 use Rattle.links.specs.Laws.Sound.{Each, each_left, each_right, each_join}

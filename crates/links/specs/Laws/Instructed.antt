@@ -14,11 +14,11 @@ use Rattle.rules.specs.Declarations.{Word, Declared, Table, declared_of, declara
 use Rattle.rules.specs.Limits.{most_declarations, deepest}
 use Rattle.rules.specs.Faults.Bodies.{labels, label_faults, action_faults, declared_names, body_faults, faults40}
 use Rattle.laws_grammar.specs.Cited.Nesting.{action_nest}
-use Rattle.laws_orders.specs.Orders.Tests.{impossible}
+use Rattle.laws_orders.proofs.Orders.Tests.{impossible}
 use Rattle.laws_orders.specs.Cited.Flat.{Code, exit, outer, bind}
-use Rattle.laws_accepted.specs.Accepted.Faultless.{both_empty, each_empty}
+use Rattle.laws_accepted.proofs.Accepted.Faultless.{both_empty, each_empty}
 use Rattle.laws_code.specs.Cited.Code.{Numbered, first_of, code_at}
-use Rattle.laws_code.specs.Links.Numbers.{Ascends, Has, fetched}
+use Rattle.laws_code.proofs.Links.Numbers.{Ascends, Has, fetched}
 use Rattle.laws_code.specs.Cited.Bodies.{body_code, table_code, first_in, first_at, first_number}
 use Rattle.laws_code.specs.Cited.Placed.{body_starts, description_code}
 use Rattle.records.specs.Holds.{Holds, link_cell}

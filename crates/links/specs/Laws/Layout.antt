@@ -13,9 +13,9 @@ use Rattle.rules.specs.Declarations.{declared_of}
 use Rattle.rules.specs.Whole.Sets.{member}
 use Rattle.laws_grammar.specs.Grammar.Positions.{Writes, own_bits_writes, main_bits_writes, heading_writes, declaration_writes}
 use Rattle.laws_grammar.specs.Cited.Nesting.{action_nest, declaration_nest, declarations_nest, nest}
-use Rattle.laws_orders.specs.Orders.Tests.{impossible}
+use Rattle.laws_orders.proofs.Orders.Tests.{impossible}
 use Rattle.laws_code.specs.Cited.Code.{size, action_size}
-use Rattle.laws_code.specs.Links.Numbers.{size_before}
+use Rattle.laws_code.proofs.Links.Numbers.{size_before}
 use Rattle.laws_code.specs.Cited.Placed.{body_start, rest_starts, body_starts}
 use Rattle.records.specs.Holds.{token_at, Holds}
 use Rattle.table.specs.Laws.Positions.{here, behind_far}

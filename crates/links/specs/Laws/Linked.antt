@@ -8,7 +8,7 @@ use Rattle.rules.specs.Declarations.{Word, Table}
 use Rattle.laws_grammar.specs.Grammar.Positions.{operand_writes, tail_writes, selector_writes, action_writes}
 use Rattle.laws_orders.specs.Cited.Flat.{Link, at, Labels}
 use Rattle.laws_code.specs.Cited.Code.{size, action_size, expr_size, selector_size, behind_test}
-use Rattle.laws_code.specs.Links.Numbers.{size_before}
+use Rattle.laws_code.proofs.Links.Numbers.{size_before}
 use Rattle.ways.specs.Linked.{Same, Separates, Linked, MembersLinked, AlternativesLinked, CountedLinked, SelectedLinked, MoreLinked}
 
 same_part : {old now : List ℕ} {i j : ℕ} (x y : ℕ) → Same old now i j → i ≤ x → y ≤ j → Same old now x y

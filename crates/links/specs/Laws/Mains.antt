@@ -12,8 +12,8 @@ use Rattle.rules.specs.Grammar.Trees.{Action, body, mapped, carrier, given, word
 use Rattle.rules.specs.Declarations.{declared_of, declarations}
 use Rattle.rules.specs.Faults.Fault.{Fault, when}
 use Rattle.rules.specs.Faults.Whole.{mains, main_name, chains, groups_faults, faults50}
-use Rattle.laws_orders.specs.Orders.Tests.{impossible}
-use Rattle.laws_accepted.specs.Accepted.Faultless.{both_empty}
+use Rattle.laws_orders.proofs.Orders.Tests.{impossible}
+use Rattle.laws_accepted.proofs.Accepted.Faultless.{both_empty}
 use Rattle.records.specs.Holds.{link_cell}
 use Rattle.table.specs.Laws.Positions.{record_within}
 use Rattle.table.specs.Declarations.{DeclaredAt, declaration_list, all_declared}

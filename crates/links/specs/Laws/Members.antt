@@ -15,7 +15,7 @@ use Rattle.laws_grammar.specs.Cited.Heads.{head_kind}
 use Rattle.laws_grammar.specs.Cited.Nesting.{action_nest, members_nest}
 use Rattle.laws_orders.specs.Cited.Flat.{Link, at, Labels}
 use Rattle.laws_code.specs.Cited.Code.{action_size, first_of, behind}
-use Rattle.laws_code.specs.Links.Numbers.{size_before}
+use Rattle.laws_code.proofs.Links.Numbers.{size_before}
 use Rattle.laws_grammar.specs.Grammar.Positions.{members_writes}
 use Rattle.records.specs.Holds.{kind_byte}
 use Rattle.table.specs.Laws.Positions.{here, kind_here}

@@ -8,9 +8,9 @@ use Rattle.rules.specs.Text.Scan.{same_bytes}
 use Rattle.rules.specs.Declarations.{Word, Declared, Table, number_from, number_of}
 use Rattle.rules.specs.Faults.Fault.{when}
 use Rattle.rules.specs.Faults.Declared.{is_known, twice, large, too_many, mappings, faults30}
-use Rattle.laws_orders.specs.Orders.Tests.{impossible, or_neither}
-use Rattle.laws_accepted.specs.Accepted.Faultless.{both_empty, when_empty}
-use Rattle.laws_accepted.specs.Accepted.Named.{same_itself}
+use Rattle.laws_orders.proofs.Orders.Tests.{impossible, or_neither}
+use Rattle.laws_accepted.proofs.Accepted.Faultless.{both_empty, when_empty}
+use Rattle.laws_accepted.proofs.Accepted.Named.{same_itself}
 
 not_known : (known : List Word) (ds : Table) (k : ℕ) (e : Declared) → twice known ds ≡ [] → get_elem? ds k ≡ some e → is_known e.name.word known ≡ false
 unfolding twice is_known

@@ -14,11 +14,11 @@ use Rattle.rules.specs.Limits.{most_declarations}
 use Rattle.rules.specs.Faults.Bodies.{faults40}
 use Rattle.rules.specs.Faults.Whole.{main_name, faults50}
 use Rattle.rules.specs.Answers.{accepted, judgement, or_else}
-use Rattle.laws_accepted.specs.Accepted.Declared.{declares, few_words}
-use Rattle.laws_accepted.specs.Accepted.Orderly.{orderly}
-use Rattle.laws_accepted.specs.Accepted.Scanned.{TokenOk, scanned_each}
+use Rattle.laws_accepted.proofs.Accepted.Declared.{declares, few_words}
+use Rattle.laws_accepted.proofs.Accepted.Orderly.{orderly}
+use Rattle.laws_accepted.proofs.Accepted.Scanned.{TokenOk, scanned_each}
 use Rattle.laws_code.specs.Cited.Placed.{description_code}
-use Rattle.laws_code.specs.Links.Placed.{accepted_assembled}
+use Rattle.laws_code.proofs.Links.Placed.{accepted_assembled}
 use Rattle.records.specs.Holds.{token_at}
 use Rattle.table.specs.Ready.{Ready}
 use Rattle.promise.specs.Accesses.{AccessesHold}

@@ -24,11 +24,11 @@ use Rattle.laws_grammar.specs.Grammar.Positions.{action_writes, selector_writes}
 use Rattle.laws_grammar.specs.Cited.Heads.{head_kind}
 use Rattle.laws_grammar.specs.Grammar.Heads.{action_head}
 use Rattle.laws_grammar.specs.Cited.Nesting.{operand_nest, tail_nest, action_nest, members_nest, alternatives_nest, counted_nest, selected_nest, selected_more_nest}
-use Rattle.laws_orders.specs.Orders.Tests.{impossible}
+use Rattle.laws_orders.proofs.Orders.Tests.{impossible}
 use Rattle.laws_orders.specs.Cited.Flat.{Link, at, exit, Entries, no_entry, entry, Instr, go_i, Code, Labels, outer, bind, leave_to, restart_to}
-use Rattle.laws_accepted.specs.Accepted.Faultless.{both_empty}
+use Rattle.laws_accepted.proofs.Accepted.Faultless.{both_empty}
 use Rattle.laws_code.specs.Cited.Code.{Numbered, action_size, expr_size, selector_size, first_of, behind, target, behind_test, entries, counted_entries, selected_entries, more_entries, code_at, members_code, alternatives_code, counted_code, selected_code, more_code}
-use Rattle.laws_code.specs.Links.Held.{label_names}
+use Rattle.laws_code.proofs.Links.Held.{label_names}
 use Rattle.records.specs.Holds.{token_at, Holds, inside_cell, link_cell}
 use Rattle.table.specs.Laws.Positions.{here}
 use Rattle.table.specs.Meaning.{meaning_by, meaning_of}

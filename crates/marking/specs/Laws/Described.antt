@@ -12,10 +12,10 @@ use Rattle.rules.specs.Declarations.{Declared, declared_of, rest_of, declaration
 use Rattle.rules.specs.Limits.{deepest}
 use Rattle.laws_grammar.specs.Cited.Nesting.{declaration_nest, declarations_nest, nest}
 use Rattle.laws_grammar.specs.Grammar.Positions.{own_bits_writes, main_bits_writes, heading_writes, declaration_writes}
-use Rattle.laws_orders.specs.Orders.Tests.{impossible}
+use Rattle.laws_orders.proofs.Orders.Tests.{impossible}
 use Rattle.laws_code.specs.Cited.Code.{size}
 use Rattle.laws_code.specs.Cited.Placed.{body_start, rest_starts, body_starts}
-use Rattle.laws_code.specs.Links.Numbers.{size_before}
+use Rattle.laws_code.proofs.Links.Numbers.{size_before}
 use Rattle.telling.specs.Cited.Cells.{Cells, BodyMarked}
 use Rattle.marking.specs.Machine.{outset, acted, Follows}
 use Rattle.marking.specs.Laws.Passed.{bits_end_passed, own_bits_passed, main_bits_passed, heading_passed}

@@ -2,7 +2,7 @@
 use Rattle.std.specs.Prelude.{ℕ, zero, suc, ◌+◌, ◌*◌, ◌-◌, ◌<◌, ◌≤◌, ◌≡◌, refl, Bool, true, false, List, [], ◌∷◌, ltb, length}
 use Rattle.std.proofs.Common.{sym, ap, ◌∙◌, subst, arith, lt-ltb, le-ltb}
 use Rattle.cells.specs.Cells.{cell, put_cell}
-use Rattle.cells.specs.Laws.{length_put, le_put_same, le_put_below}
+use Rattle.cells.proofs.Laws.{length_put, le_put_same, le_put_below}
 use Rattle.rules.specs.Limits.{deepest, most_tokens}
 use Rattle.telling.specs.Cited.Cells.{inner}
 use Rattle.marking.specs.Machine.{Frame, frame, State, inside, ranked, begun, opened, closed, also, next}

@@ -14,7 +14,7 @@ use Rattle.rules.specs.Limits.{deepest}
 use Rattle.laws_grammar.specs.Cited.Nesting.{action_nest, members_nest, alternatives_nest, counted_nest, selected_nest, selected_more_nest}
 use Rattle.laws_grammar.specs.Grammar.Positions.{operand_writes, tail_writes, selector_writes, action_writes}
 use Rattle.laws_code.specs.Cited.Code.{action_size, expr_size, selector_size, behind_test}
-use Rattle.laws_code.specs.Links.Numbers.{size_before}
+use Rattle.laws_code.proofs.Links.Numbers.{size_before}
 use Rattle.reading.specs.Groups.{more}
 use Rattle.reading.specs.Laws.Groups.{more_members, lone_alternatives}
 use Rattle.telling.specs.Cited.Grouped.{followed}

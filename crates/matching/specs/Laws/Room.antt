@@ -7,7 +7,7 @@ use Rattle.std.proofs.Math.Bool.{cond}
 use Rattle.std.proofs.Math.Option.{none, some}
 use Rattle.std.proofs.Math.Decide.{dec_lt}
 use Rattle.cells.specs.Cells.{cell, put_cell}
-use Rattle.cells.specs.Laws.{cell_same, cell_other}
+use Rattle.cells.proofs.Laws.{cell_same, cell_other}
 use Rattle.rules.specs.Stores.{Entry, entry}
 use Rattle.traces.specs.Cited.Marking.{at, never, lesser_n, lesser, greater_n, greater, Cells}
 use Rattle.matching.specs.Matching.{Group, group}

@@ -3,7 +3,7 @@ use Rattle.std.specs.Prelude.{ℕ, suc, ◌+◌, ◌*◌, ◌-◌, ◌<◌, ◌�
 use Rattle.std.proofs.Common.{sym, ap, ap₂, ◌∙◌, subst, inl, inr, arith, add-one, lt-ltb, le-ltb}
 use Rattle.std.proofs.lemmas.Bool.{false≢true}
 use Rattle.cells.specs.Cells.{cell, put_cell}
-use Rattle.cells.specs.Laws.{put_size, put_same, put_here}
+use Rattle.cells.proofs.Laws.{put_size, put_same, put_here}
 use Rattle.rules.specs.Limits.{deepest}
 use Rattle.paths.specs.Cited.Least.{least}
 use Rattle.paths.specs.Cited.Marks.{Marks, marked, cleared}

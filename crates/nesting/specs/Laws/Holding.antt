@@ -5,12 +5,12 @@ use Rattle.std.proofs.lemmas.Bool.{false≢true}
 use Rattle.std.proofs.Math.Bool.{and-false}
 use Rattle.std.proofs.Math.Decide.{ℕ_discrete}
 use Rattle.cells.specs.Cells.{cell, put_cell}
-use Rattle.cells.specs.Laws.{put_size, put_same, put_here}
+use Rattle.cells.proofs.Laws.{put_size, put_same, put_here}
 use Rattle.rules.specs.Limits.{most_tokens}
 use Rattle.records.specs.Holds.{link_cell}
 use Rattle.paths.specs.Cited.Marks.{Marks, Slot, marked, cleared, added}
 use Rattle.paths.specs.Cited.Least.{least}
-use Rattle.paths.specs.Least.{least_append}
+use Rattle.paths.proofs.Least.{least_append}
 use Rattle.nesting.specs.Machine.{Frame, State, reached, transferred, destined, looped, chosen}
 use Rattle.nesting.specs.Holding.{unseen, bit, Book, Linked, unlinked, linked, Still, LabelPut, FrameAt, Frames, no_frames, frames, Flagged, Shows, Does, Set}
 use Rattle.room.specs.Profile.{frame_cell, label_cell, hints_from, hint_cell, most_flags, labels_from, room_size}

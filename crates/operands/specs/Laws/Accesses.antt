@@ -18,7 +18,7 @@ use Rattle.rules.specs.Faults.Fault.{Fault, when}
 use Rattle.rules.specs.Faults.Declared.{declared_at}
 use Rattle.rules.specs.Faults.Bodies.{sound_bits, subscripted, bits_judged, access_judged, judge_name, judge_access}
 use Rattle.laws_grammar.specs.Cited.Nesting.{subscript_nest}
-use Rattle.laws_orders.specs.Orders.Tests.{impossible}
+use Rattle.laws_orders.proofs.Orders.Tests.{impossible}
 use Rattle.laws_accepted.specs.Cited.Lengths.{Reaches, SizedIndex}
 use Rattle.records.specs.Holds.{kind_byte, value_cell_of}
 use Rattle.table.specs.Laws.Positions.{Here, here, behind_far, kind_here, record_within, value_within}

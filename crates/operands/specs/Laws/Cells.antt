@@ -14,10 +14,10 @@ use Rattle.rules.specs.Grammar.Trees.{Bits}
 use Rattle.rules.specs.Declarations.{Word, Names, from_left, BitNames, Target, Declared, Table, number_of, Reach, reach_storage, reach_of, reach_number, reach, access_low, access_bits}
 use Rattle.rules.specs.Limits.{largest_name, most_bits}
 use Rattle.rules.specs.Steps.Evaluation.{word_or70, word_of}
-use Rattle.laws_orders.specs.Orders.Tests.{impossible}
+use Rattle.laws_orders.proofs.Orders.Tests.{impossible}
 use Rattle.laws_accepted.specs.Cited.Declared.{Declares}
-use Rattle.laws_accepted.specs.Accepted.Declared.{near_words, few_words}
-use Rattle.laws_accepted.specs.Accepted.Reached.{declared_carried, reach_inside}
+use Rattle.laws_accepted.proofs.Accepted.Declared.{near_words, few_words}
+use Rattle.laws_accepted.proofs.Accepted.Reached.{declared_carried, reach_inside}
 use Rattle.promise.specs.Accesses.{left_name, right_name, access_cell}
 use Rattle.operands.specs.Cells.{cell_first, cell_low, cell_bits, cell_left, cell_right, Parts}
 

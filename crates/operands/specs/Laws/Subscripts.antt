@@ -9,8 +9,8 @@ use Rattle.rules.specs.Limits.{most_tokens}
 use Rattle.rules.specs.Grammar.Trees.{Tokens, bit, upto, Bits, all_bits, bits, bits_tokens}
 use Rattle.rules.specs.Declarations.{Names, names, from_left, access_low, access_bits}
 use Rattle.rules.specs.Steps.Evaluation.{Outcome, gives, faulty, then, Field, word_or70, word_of, field_in}
-use Rattle.laws_orders.specs.Orders.Tests.{impossible}
-use Rattle.laws_accepted.specs.Accepted.Named.{and_both}
+use Rattle.laws_orders.proofs.Orders.Tests.{impossible}
+use Rattle.laws_accepted.proofs.Accepted.Named.{and_both}
 use Rattle.records.specs.Holds.{place_cell, value_cell_of}
 use Rattle.table.specs.Laws.Positions.{behind_far, record_within}
 use Rattle.table.specs.Bits as table

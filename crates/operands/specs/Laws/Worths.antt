@@ -4,7 +4,7 @@ use Rattle.std.specs.Prelude.{ℕ, ◌<◌, ◌≡◌, refl, List}
 use Rattle.std.proofs.Math.Path.{sym, ap}
 use Rattle.std.proofs.Common.{ap₂, ◌∙◌, subst, arith}
 use Rattle.cells.specs.Cells as bytes
-use Rattle.cells.specs.Laws.{cells_get}
+use Rattle.cells.proofs.Laws.{cells_get}
 use Rattle.rules.specs.Text.Tokens.{Info, Op}
 use Rattle.rules.specs.Grammar.Trees.{Bits, Subscript}
 use Rattle.rules.specs.Grammar.Precedence.{Expr, node, Factor, cell, index_of}
@@ -16,8 +16,8 @@ use Rattle.rules.specs.Faults.Bodies.{judge, judge_factor, judge_access}
 use Rattle.laws_accepted.specs.Cited.Declared.{Declares, Length}
 use Rattle.laws_accepted.specs.Cited.Constants.{InBits}
 use Rattle.laws_accepted.specs.Cited.Lengths.{Sized, SizedFactor}
-use Rattle.laws_accepted.specs.Accepted.Lengths.{sized_length, factor_length}
-use Rattle.laws_accepted.specs.Accepted.Evaluated.{then_gives, ResultsFit, Inside, field_inside, evaluated, factor_evaluated}
+use Rattle.laws_accepted.proofs.Accepted.Lengths.{sized_length, factor_length}
+use Rattle.laws_accepted.proofs.Accepted.Evaluated.{then_gives, ResultsFit, Inside, field_inside, evaluated, factor_evaluated}
 use Rattle.values.specs.Operands.{Operands}
 use Rattle.values.specs.Laws.Results.{result_fits}
 use Rattle.operands.specs.Worths.{Within}

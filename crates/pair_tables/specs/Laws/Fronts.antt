@@ -5,7 +5,7 @@ use Rattle.std.proofs.Common.{sym, ap, ap₂, ◌∙◌, subst, arith, length-ta
 use Rattle.std.proofs.Math.Option.{Option, none, some}
 use borrow.Author.Tests.{eq-eqb}
 use Rattle.cells.specs.Cells.{le_at, cells_from, cells}
-use Rattle.cells.specs.Laws.{length_cells}
+use Rattle.cells.proofs.Laws.{length_cells}
 use Rattle.rules.specs.Declarations.{Table, total_words}
 use Rattle.rules.specs.Steps.Runs.{run}
 use Rattle.rules.specs.Limits.{most_words}

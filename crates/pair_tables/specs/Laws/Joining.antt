@@ -7,7 +7,7 @@ use Rattle.std.proofs.Math.Option.{Option, none, some}
 use native.Mathlib.Omega.{arith}
 use Rattle.std.proofs.Math.Decide.{dec_lt}
 use Rattle.cells.specs.Cells.{cell, put_cell}
-use Rattle.cells.specs.Laws.{cell_same, cell_other}
+use Rattle.cells.proofs.Laws.{cell_same, cell_other}
 use Rattle.rules.specs.Declarations.{Declared, Table, words_of, total_words}
 use Rattle.rules.specs.Limits.{longest_text}
 use Rattle.rules.specs.Faults.Fault.{fault, when}

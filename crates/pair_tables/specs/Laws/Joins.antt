@@ -5,7 +5,7 @@ use Rattle.std.proofs.Common.{sym, ap, ◌∙◌, subst, arith, add-one}
 use Rattle.std.proofs.Math.Option.{some}
 use Rattle.std.proofs.Math.ListN.{get_elem?}
 use Rattle.cells.specs.Cells.{cell, put_cell}
-use Rattle.cells.specs.Laws.{long_put}
+use Rattle.cells.proofs.Laws.{long_put}
 use Rattle.rules.specs.Declarations.{Declared, Table, declared_of, outer_name, words_of, total_words}
 use Rattle.rules.specs.Limits.{longest_text, most_words}
 use Rattle.rules.specs.Pair.{shared_with, clashes, faults80}

@@ -9,8 +9,8 @@ use Rattle.cells.specs.Cells.{cell}
 use Rattle.rules.specs.Declarations.{Names as Span-of, BitNames, Target, how_many, storage_words, Declared, Table, declared_of, words_of, total_words, first_word}
 use Rattle.rules.specs.Answers.{word_lengths, long_word}
 use Rattle.rules.specs.Pair.{has_storage, is_storage_of, same_shape, same_storage, shared_with, unshared, joint, first_words}
-use Rattle.laws_orders.specs.Orders.Tests.{impossible}
-use Rattle.laws_accepted.specs.Accepted.Named.{and_both}
+use Rattle.laws_orders.proofs.Orders.Tests.{impossible}
+use Rattle.laws_accepted.proofs.Accepted.Named.{and_both}
 use Rattle.pairs.specs.Laws.Sharing.{found, first_fits}
 use Rattle.table.specs.Shown.{shown_bits}
 use Rattle.table.specs.Views.{View}

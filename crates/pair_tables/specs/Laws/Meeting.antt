@@ -13,9 +13,9 @@ use Rattle.rules.specs.Declarations.{Word, Declared, Table}
 use Rattle.rules.specs.Faults.Fault.{when}
 use Rattle.rules.specs.Faults.Declared.{is_known, twice}
 use Rattle.rules.specs.Pair.{same_shape, same_storage, shared_from, shared_with, clashes}
-use Rattle.laws_orders.specs.Orders.Tests.{impossible, or_left, or_right}
-use Rattle.laws_accepted.specs.Accepted.Faultless.{both_empty, when_empty}
-use Rattle.laws_accepted.specs.Accepted.Named.{same_itself}
+use Rattle.laws_orders.proofs.Orders.Tests.{impossible, or_left, or_right}
+use Rattle.laws_accepted.proofs.Accepted.Faultless.{both_empty, when_empty}
+use Rattle.laws_accepted.proofs.Accepted.Named.{same_itself}
 use Rattle.pairs.specs.Laws.Exact.{storage_exactly}
 use Rattle.cells.specs.Cells.{cell}
 use Rattle.rules.specs.Declarations.{declared_of, outer_name}

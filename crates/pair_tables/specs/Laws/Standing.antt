@@ -7,7 +7,7 @@ use Rattle.rules.specs.Text.Tokens.{Token}
 use Rattle.rules.specs.Limits.{longest_text}
 use Rattle.rules.specs.Declarations.{Word, Table, declared_of, outer_name}
 use Rattle.rules.specs.Faults.Declared.{twice, large, too_many, mappings, faults30}
-use Rattle.laws_accepted.specs.Accepted.Faultless.{both_empty}
+use Rattle.laws_accepted.proofs.Accepted.Faultless.{both_empty}
 use Rattle.records.specs.Holds.{place_cell}
 use Rattle.table.specs.Kth.{kth}
 use Rattle.table.specs.Laws.Views.{name_token}

@@ -4,7 +4,7 @@ use Rattle.std.specs.Prelude.{ℕ, zero, suc, ◌+◌, ◌-◌, ◌*◌, ◌/◌
 use Rattle.std.proofs.Common.{sym, ap, ap₂, ◌∙◌, subst, arith, take-append-drop, drop-drop, length-take-le, drop_at}
 use Rattle.std.proofs.Math.ListN.{get_or-append}
 use Rattle.cells.specs.Cells.{le_at, cells, cells_from}
-use Rattle.cells.specs.Laws.{length_cells}
+use Rattle.cells.proofs.Laws.{length_cells}
 use Rattle.buffers.specs.Laws.Buffers.{number_at}
 use Rattle.rules.specs.Declarations.{Table, total_words}
 use Rattle.rules.specs.Answers.{little_endian}

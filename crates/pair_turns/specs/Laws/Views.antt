@@ -8,7 +8,7 @@ use native.Mathlib.Omega.{arith}
 use Rattle.std.proofs.Math.Decide.{dec_lt}
 use Rattle.std.proofs.Math.ListN.{drop, drop_of_length-le, get_or-append}
 use Rattle.cells.specs.Cells.{cell, cells, cells_from, put_cell}
-use Rattle.cells.specs.Laws.{length_cells, cells_get, put_same, put_here}
+use Rattle.cells.proofs.Laws.{length_cells, cells_get, put_same, put_here}
 use Rattle.rules.specs.Limits.{most_words}
 use Rattle.rules.specs.Grammar.Trees.{Tokens, Description}
 use Rattle.rules.specs.Declarations.{declared_of, words_of, Table, declarations, outer_name, total_words, Declared}

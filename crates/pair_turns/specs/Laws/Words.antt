@@ -4,7 +4,7 @@ use Rattle.std.specs.Prelude.{ℕ, zero, suc, ◌+◌, ◌*◌, ◌/◌, ◌^◌
 use Rattle.std.proofs.Common.{sym, ap, ap₂, ◌∙◌, arith, add-one, drop_of_length-le, drop-cons, ext_get_or}
 use Rattle.std.proofs.Math.Decide.{dec_lt}
 use Rattle.cells.specs.Cells.{cell, cells, put_cell}
-use Rattle.cells.specs.Laws.{length_cells, cells_get, cells_put, put_same, put_here, put_size}
+use Rattle.cells.proofs.Laws.{length_cells, cells_get, cells_put, put_same, put_here, put_size}
 use Rattle.rules.specs.Pair.{seen, put_back}
 use Rattle.pairs.specs.Laws.Views.{seen_length}
 use Rattle.pair_turns.specs.Words.{table_words, Sees}

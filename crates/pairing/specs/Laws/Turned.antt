@@ -9,7 +9,7 @@ use Rattle.std.proofs.Math.Option.{Option, none, some}
 use native.Mathlib.Omega.{arith}
 use Rattle.std.proofs.Math.ListN.{length, get_or}
 use Rattle.cells.specs.Cells.{cell, cells}
-use Rattle.cells.specs.Laws.{length_cells, cells_get}
+use Rattle.cells.proofs.Laws.{length_cells, cells_get}
 use Rattle.rules.specs.Text.Scan.{scan}
 use Rattle.rules.specs.Limits.{most_words}
 use Rattle.rules.specs.Declarations.{Table, outer_name, words_of, total_words, first_word}

@@ -9,8 +9,8 @@ use Rattle.std.proofs.lemmas.List.{length-replicate, get_or-replicate}
 use Rattle.rules.specs.Declarations.{BitNames, one_unnamed, these, bit_count, Declared, Table, words_of, total_words, first_word}
 use Rattle.rules.specs.Answers.{length_of, word_lengths}
 use Rattle.rules.specs.Pair.{same_words, same_bits_of, same_own_bits, same_shape, same_storage, shared_with, unshared, joint, up_from, first_words, words_at, first_side, second_side, side_of, seen}
-use Rattle.laws_orders.specs.Orders.Tests.{impossible}
-use Rattle.laws_accepted.specs.Accepted.Named.{and_both}
+use Rattle.laws_orders.proofs.Orders.Tests.{impossible}
+use Rattle.laws_accepted.proofs.Accepted.Named.{and_both}
 use Rattle.pairs.specs.Laws.Views.{up_length, up_at, seen_front}
 use Rattle.pairs.specs.Laws.Sharing.{Found, found, same_names, same_count, first_fits}
 

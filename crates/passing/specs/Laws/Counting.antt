@@ -6,7 +6,7 @@ use Rattle.std.proofs.Common.{sym}
 use native.Mathlib.Omega.{arith}
 use Rattle.std.proofs.Math.ListN.{length}
 use Rattle.rules.specs.Limits.{deepest}
-use Rattle.laws_orders.specs.Orders.Tests.{impossible}
+use Rattle.laws_orders.proofs.Orders.Tests.{impossible}
 use Rattle.telling.specs.Cited.Cells.{Cells, up_from}
 use Rattle.passing.specs.Climbing.{up_by}
 

@@ -6,11 +6,11 @@ use Rattle.std.proofs.Math.Path.{ap}
 use native.Mathlib.Omega.{arith}
 use Rattle.rules.specs.Limits.{deepest}
 use Rattle.rules.specs.Stores.{Entry}
-use Rattle.laws_orders.specs.Orders.Tests.{impossible}
+use Rattle.laws_orders.proofs.Orders.Tests.{impossible}
 use Rattle.traces.specs.Cited.Events.{Event, opens, turns, closes}
 use Rattle.telling.specs.Cited.Passing.{Passing, closed, group_event, times, passage}
 use Rattle.telling.specs.Cited.Cells.{Cells, member_of, up_from, cell_grouping}
-use Rattle.telling.specs.Marked.{from_few}
+use Rattle.telling.proofs.Marked.{from_few}
 use Rattle.matching.specs.Room.{matching_in, Sound}
 use Rattle.room.specs.Trace.{most_groups}
 use Rattle.passing.specs.Climbing.{meeting_told, up_by, meet_told}

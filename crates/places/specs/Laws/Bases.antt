@@ -8,7 +8,7 @@ use Rattle.std.proofs.Math.ListN.{get_elem?}
 use Rattle.rules.specs.Grammar.Trees.{all_bits, bits}
 use Rattle.rules.specs.Declarations.{BitNames, bit_count, low_bit, how_many, names_of, Target, Declared, Table, number_of, first_word, Reach, reach_storage, reach_on, reach_under, reach_of, reach_number, access_low, access_bits}
 use Rattle.rules.specs.Limits.{most_words}
-use Rattle.laws_orders.specs.Orders.Tests.{impossible}
+use Rattle.laws_orders.proofs.Orders.Tests.{impossible}
 use Rattle.table.specs.declared.views.Names.{Names}
 use Rattle.table.specs.declared.views.Names.TheVariants.{Missing, Unnamed, Span}
 use Rattle.promise.specs.Accesses.{access_cell}

@@ -7,11 +7,11 @@ use Rattle.std.proofs.Math.Option.{Option, none, some}
 use Rattle.std.proofs.Math.Decide.{dec_lt}
 use Rattle.std.proofs.Math.ListN.{get_elem?}
 use Rattle.cells.specs.Cells.{cell, put_cell}
-use Rattle.cells.specs.Laws.{length_put, le_put_same, le_put_below}
+use Rattle.cells.proofs.Laws.{length_put, le_put_same, le_put_below}
 use Rattle.rules.specs.Declarations.{names, how_many, one_unnamed, these, Target, Declared, Table, declared_of, storage_words, words_of, total_words, first_word}
 use Rattle.rules.specs.Limits.{most_words}
-use Rattle.laws_orders.specs.Orders.Tests.{impossible}
-use Rattle.laws_accepted.specs.Accepted.Declared.{few_words}
+use Rattle.laws_orders.proofs.Orders.Tests.{impossible}
+use Rattle.laws_accepted.proofs.Accepted.Declared.{few_words}
 use Rattle.table.specs.Ready.{Scene, table_of}
 use Rattle.table.specs.Shown.{shown_words, shown_bits}
 use Rattle.table.specs.Views.{View, TargetAt}

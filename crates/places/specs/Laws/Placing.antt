@@ -6,7 +6,7 @@ use Rattle.std.proofs.Math.Option.{Option, none, some}
 use Rattle.std.proofs.Math.Decide.{dec_lt}
 use Rattle.std.proofs.Math.ListN.{get_elem?}
 use Rattle.cells.specs.Cells.{put_cell}
-use Rattle.cells.specs.Laws.{length_put, le_put_same, le_put_below, le_put_above}
+use Rattle.cells.proofs.Laws.{length_put, le_put_same, le_put_below, le_put_above}
 use Rattle.rules.specs.Text.Tokens.{Name, LBra, kind_no, Info, Token, tk}
 use Rattle.rules.specs.Grammar.Trees.{Tokens, upto, Bits, all_bits, bits, bits_tokens, Subscript, no_subscript, subscript, subscript_tokens, Description, flatten}
 use Rattle.rules.specs.Grammar.Precedence.{index_of}
@@ -15,10 +15,10 @@ use Rattle.rules.specs.Limits.{largest_name}
 use Rattle.rules.specs.Faults.Bodies.{judge_access}
 use Rattle.laws_grammar.specs.Cited.Kinds.{kind_at}
 use Rattle.laws_grammar.specs.Grammar.Kinds.{kind_at_kind_no}
-use Rattle.laws_orders.specs.Orders.Tests.{impossible}
-use Rattle.laws_accepted.specs.Accepted.Named.{found}
-use Rattle.laws_accepted.specs.Accepted.Declared.{near_words}
-use Rattle.laws_accepted.specs.Accepted.Lengths.{access_reaches}
+use Rattle.laws_orders.proofs.Orders.Tests.{impossible}
+use Rattle.laws_accepted.proofs.Accepted.Named.{found}
+use Rattle.laws_accepted.proofs.Accepted.Declared.{near_words}
+use Rattle.laws_accepted.proofs.Accepted.Lengths.{access_reaches}
 use Rattle.records.specs.Holds.{kind_byte, value_cell_of, token_at, ValueHolds, Entry, Holds, inside_cell}
 use Rattle.table.specs.Laws.Positions.{here, kind_far}
 use Rattle.table.specs.Ready.{Ready, Scene, outer_of, table_of}

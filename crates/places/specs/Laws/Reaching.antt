@@ -7,7 +7,7 @@ use Rattle.std.proofs.Math.ListN.{get_elem?}
 use Rattle.cells.specs.Cells.{cell}
 use Rattle.rules.specs.Grammar.Trees.{Tokens}
 use Rattle.rules.specs.Declarations.{Names as Span-of, BitNames, Target, Declared, declared_of, number_of, first_word, Reach, reach_number}
-use Rattle.laws_orders.specs.Orders.Tests.{impossible}
+use Rattle.laws_orders.proofs.Orders.Tests.{impossible}
 use Rattle.records.specs.Holds.{inside_cell}
 use Rattle.table.specs.Ready.{table_of}
 use Rattle.table.specs.Shown.{shown_words, shown_bits, shown_target}

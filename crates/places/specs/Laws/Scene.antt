@@ -9,9 +9,9 @@ use Rattle.cells.specs.Cells.{cell}
 use Rattle.rules.specs.Text.Tokens.{Name, Info, Token, tk}
 use Rattle.rules.specs.Text.Scan.{same_bytes}
 use Rattle.rules.specs.Declarations.{Declared, Table, declared_of, number_of}
-use Rattle.laws_accepted.specs.Accepted.Named.{found}
+use Rattle.laws_accepted.proofs.Accepted.Named.{found}
 use Rattle.laws_accepted.specs.Cited.Declared.{Declares}
-use Rattle.laws_accepted.specs.Accepted.Declared.{declares}
+use Rattle.laws_accepted.proofs.Accepted.Declared.{declares}
 use Rattle.records.specs.Holds.{token_at, inside_cell}
 use Rattle.table.specs.Ready.{outer_of, table_of, Scene}
 use Rattle.table.specs.Views.{View}

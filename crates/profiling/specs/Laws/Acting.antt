@@ -12,7 +12,7 @@ use Rattle.rules.specs.Limits.{deepest}
 use Rattle.rules.specs.Whole.Sets.{member, owner}
 use Rattle.paths.specs.Cited.Marks.{marked, added}
 use Rattle.paths.specs.Cited.Least.{least}
-use Rattle.paths.specs.Least.{least_append}
+use Rattle.paths.proofs.Least.{least_append}
 use Rattle.records.specs.Holds.{kind_byte, place_cell, token_at}
 use Rattle.records.specs.Words.{word_at}
 use Rattle.reading.specs.Kinds.{next_no, stores}

@@ -7,7 +7,7 @@ use Rattle.cells.specs.Cells.{cell}
 use Rattle.rules.specs.Text.Scan.{same_bytes}
 use Rattle.rules.specs.Declarations.{Word, number_of}
 use Rattle.rules.specs.Faults.Whole.{main_name}
-use Rattle.laws_accepted.specs.Accepted.Named.{same_equal, same_itself, found}
+use Rattle.laws_accepted.proofs.Accepted.Named.{same_equal, same_itself, found}
 use Rattle.paths.specs.Cited.Early.{early_places}
 use Rattle.paths.specs.Cited.Least.{least}
 use Rattle.reading.specs.Laws.Names.{number_bound}

@@ -6,13 +6,13 @@ use Rattle.std.proofs.Math.Bool.{true, false}
 use Rattle.std.proofs.Math.Decide.{dec_lt}
 use Rattle.std.proofs.Math.ListN.{drop}
 use Rattle.cells.specs.Cells.{cell, put_cell}
-use Rattle.cells.specs.Laws.{put_size, put_same, put_here}
+use Rattle.cells.proofs.Laws.{put_size, put_same, put_here}
 use Rattle.rules.specs.Grammar.Trees.{Tokens}
 use Rattle.records.specs.Holds.{kind_byte, token_at}
 use Rattle.records.specs.Words.{word_at}
 use Rattle.paths.specs.Cited.Marks.{Marks}
 use Rattle.paths.specs.Cited.Least.{least}
-use Rattle.paths.specs.Least.{least_under}
+use Rattle.paths.proofs.Least.{least_under}
 use Rattle.reading.specs.Kinds.{mode as mode_of}
 use Rattle.table.specs.Scans.{no as kind_of}
 use Rattle.reading.specs.Laws.Reading.{kinded, next_token, no_more}

@@ -9,22 +9,22 @@ use Rattle.std.proofs.Math.Dec.{eqb}
 use Rattle.std.proofs.Math.ListN.{drop, get_elem?}
 use borrow.Author.Tests.{eq-eqb, ne_eqb}
 use Rattle.cells.specs.Cells.{cell, put_cell}
-use Rattle.cells.specs.Laws.{put_size, put_same, put_here}
+use Rattle.cells.proofs.Laws.{put_size, put_same, put_here}
 use Rattle.rules.specs.Text.Tokens.{Token, kind_no, BEGIN}
 use Rattle.rules.specs.Grammar.Trees.{Tokens, Action, block, action_tokens, unnamed, named, bit as one_bit, upto, bitless, main_bits}
 use Rattle.rules.specs.Grammar.Trees.{Declaration, plain, main, words, with_bits, bare_body, carrier, given, body, mapped, declarations_tokens}
 use Rattle.rules.specs.Limits.{deepest, longest_chain}
 use Rattle.rules.specs.Declarations.{Word, Table, Declared, declared_of, number_of, body_of, body_number}
 use Rattle.rules.specs.Steps.Runs.{body_act}
-use Rattle.laws_accepted.specs.Accepted.Named.{found}
+use Rattle.laws_accepted.proofs.Accepted.Named.{found}
 use Rattle.laws_grammar.specs.Cited.Nesting.{action_nest}
-use Rattle.laws_orders.specs.Orders.Tests.{impossible}
+use Rattle.laws_orders.proofs.Orders.Tests.{impossible}
 use Rattle.records.specs.Holds.{kind_byte, token_at}
 use Rattle.records.specs.Words.{word_at}
 use Rattle.table.specs.Declarations.{name_tokens, declaration_list, all_declared}
 use Rattle.paths.specs.Cited.Early.{Report, inside, passed, early, early_i, body_early}
 use Rattle.paths.specs.Walk.{walk_body}
-use Rattle.paths.specs.WalkLaws.{body_level}
+use Rattle.paths.proofs.WalkLaws.{body_level}
 use Rattle.paths.specs.Cited.Least.{least}
 use Rattle.links.specs.Laws.Layout.{body_shallow}
 use Rattle.table.specs.Scans.{no as kind_of}

@@ -19,7 +19,7 @@ use Rattle.trees.specs.Written.{level}
 use Rattle.trees.specs.Expressions.{Expressed, passes, access_written, expression_written}
 use Rattle.trees.specs.Selectors.{settles, selector_written}
 use Rattle.laws_grammar.specs.Cited.Nesting.{action_nest, members_nest, alternatives_nest, counted_nest, selected_nest, selected_more_nest}
-use Rattle.laws_orders.specs.Orders.Tests.{member_append}
+use Rattle.laws_orders.proofs.Orders.Tests.{member_append}
 use Rattle.paths.specs.Cited.Early.{Report}
 use Rattle.paths.specs.Cited.Marks.{Marks, Slot, slot, marked, cleared, added, unmarked}
 use Rattle.paths.specs.Walk.{walk, walk_members, walk_alternatives, walk_counted, walk_selected, walk_more, walk_body}

@@ -5,7 +5,7 @@ use Rattle.std.proofs.Common.{inl, inr}
 use Rattle.std.proofs.Math.Option.{some}
 use Rattle.rules.specs.Selectors.{takes}
 use Rattle.rules.specs.Declarations.{Table}
-use Rattle.laws_orders.specs.Orders.Tests.{impossible}
+use Rattle.laws_orders.proofs.Orders.Tests.{impossible}
 use Rattle.laws_orders.specs.Cited.Flat.{Link, at, exit, Entries, no_entry, entry, Instr, if_i, decode_i, go_i, call_i, stop_i, move_i, Code, At, pc, return, go, push, find, picked, next_m}
 use Rattle.promise.specs.Reached.{Reached, EntryAt, onward, Leads}
 

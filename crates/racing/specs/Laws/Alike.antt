@@ -5,7 +5,7 @@ use mathlib.Core.Bool.{Bool, true, false, ◌&&◌, ◌||◌, or_comm}
 use Rattle.std.proofs.Math.Option.{Option, none, some}
 use Rattle.rules.specs.Declarations.{Table}
 use Rattle.rules.specs.Whole.Sets.{Sets, race, member, meet}
-use Rattle.laws_orders.specs.Orders.Tests.{member_append}
+use Rattle.laws_orders.proofs.Orders.Tests.{member_append}
 use Rattle.reading.specs.Laws.Races.{AlikeSets, race_alike}
 use Rattle.rules.specs.Reasons.{Member, earliest, Race, race_with, race_at, first_race, race_from, race_among, conflict, Carrier, first_conflict, writers, writers_by, racing, race_on, race_reason}
 

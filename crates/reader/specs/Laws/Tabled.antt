@@ -6,7 +6,7 @@ use mathlib.Core.List.{List, [], ◌∷◌, map}
 use native.Mathlib.Omega.{arith}
 use Rattle.std.proofs.lemmas.List.{length-map}
 use Rattle.cells.specs.Cells.{le_at, put_at, put_cell}
-use Rattle.cells.specs.Laws.{length_put, get_or_put_below, cells_get}
+use Rattle.cells.proofs.Laws.{length_put, get_or_put_below, cells_get}
 use Rattle.laws_grammar.specs.Grammar.Kinds.{kind_at_kind_no}
 use Rattle.rules.specs.Text.Tokens.{Kind, kind_no, Name, Const, Masked, Token, tk}
 use Rattle.rules.specs.Text.Scan.{scan, plain_info}

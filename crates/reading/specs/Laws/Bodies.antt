@@ -12,7 +12,7 @@ use Rattle.rules.specs.Steps.Actions.{act_of}
 use Rattle.rules.specs.Steps.Runs.{act_or}
 use Rattle.rules.specs.Whole.Sets.{calls_in, any_name}
 use Rattle.table.specs.Views.{View, BodyAt}
-use Rattle.laws_orders.specs.Orders.Tests.{impossible}
+use Rattle.laws_orders.proofs.Orders.Tests.{impossible}
 use Rattle.reading.specs.Reading.{Reading, table_of}
 use Rattle.reading.specs.Meanings.{declares}
 use Rattle.reading.specs.Laws.Meanings.{view}

@@ -6,7 +6,7 @@ use Rattle.rules.specs.Text.Tokens.{END, kind_no}
 use Rattle.records.specs.Holds.{kind_byte}
 use Rattle.table.specs.Scans.{deeper, down, halts, outermost, stops}
 use Rattle.table.specs.Laws.Scans.{scan_found, scan_on, scan_end}
-use Rattle.laws_accepted.specs.Accepted.Named.{and_both}
+use Rattle.laws_accepted.proofs.Accepted.Named.{and_both}
 use Rattle.reading.specs.Kinds.{ends, closes}
 use Rattle.reading.specs.Reading.{Kinded}
 use Rattle.reading.specs.Behind.{behind, ComesTo}

@@ -9,7 +9,7 @@ use Rattle.rules.specs.Grammar.Trees.{Tokens, Declaration, plain, main, words, w
 use Rattle.rules.specs.Declarations.{Word, Target, BitNames, declared_of, number_of, outer_name, own_names}
 use Rattle.rules.specs.Limits.{most_declarations}
 use Rattle.rules.specs.Whole.Sets.{owner}
-use Rattle.laws_accepted.specs.Accepted.Declared.{declares as lawful_table}
+use Rattle.laws_accepted.proofs.Accepted.Declared.{declares as lawful_table}
 use Rattle.records.specs.Holds.{kind_byte, inside_cell}
 use Rattle.records.specs.Words.{word_at}
 use Rattle.table.specs.Laws.Positions.{far, kind_far}

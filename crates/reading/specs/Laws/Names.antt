@@ -10,7 +10,7 @@ use Rattle.rules.specs.Declarations.{Word, Names, BitNames, Target, Declared, Ta
 use Rattle.rules.specs.Whole.Sets.{owner, owner_in}
 use Rattle.rules.specs.Faults.Declared.{fits, good_target, declared_at}
 use Rattle.laws_accepted.specs.Cited.Declared.{Declares}
-use Rattle.laws_accepted.specs.Accepted.Declared.{good_target_lem}
+use Rattle.laws_accepted.proofs.Accepted.Declared.{good_target_lem}
 
 -- a number of a name is that of a declaration
 number_from_lem : (ds : Table) (i k : ℕ) (n : Word) → number_from i n ds ≡ some k → k < i + length ds

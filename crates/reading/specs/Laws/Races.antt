@@ -8,7 +8,7 @@ use Rattle.std.proofs.lemmas.Bool.{eqb-false}
 use Rattle.rules.specs.Declarations.{Word, Table}
 use Rattle.rules.specs.Whole.Sets.{Sets, sets, union, member, meet, race}
 use Rattle.rules.specs.Faults.Whole.{races_any}
-use Rattle.laws_orders.specs.Orders.Tests.{member_append}
+use Rattle.laws_orders.proofs.Orders.Tests.{member_append}
 use Rattle.reading.specs.Events.{Event, reads, writes, activates, halts}
 use Rattle.reading.specs.Touches.{any_event, read_hit, write_hit}
 use Rattle.reading.specs.Races.{event_sets, touch}

@@ -11,7 +11,7 @@ use Rattle.std.proofs.Math.Decide.{dec_lt}
 use Rattle.rules.specs.Declarations.{Word, Table}
 use Rattle.rules.specs.Steps.Actions.{Access, access, joined_accesses, Act, seq, par, label, ins, Ins, iff, decode, repeat, leave, restart, call, stop, noop, transfer, Alts, no_alts, alt, in_turn, whole, act_of, groups, alts_of, counted_alts, selected_alts, more_alts}
 use Rattle.rules.specs.Whole.Sets.{Sets, sets, union, owner, reads_of, factor_reads, index_reads_of, subscript_reads, stores, sets_of, sets_i, sets_alts, member, stops_in, stops_i, stops_alts, calls_in, calls_i, calls_alts, any_name}
-use Rattle.laws_orders.specs.Orders.Tests.{member_append}
+use Rattle.laws_orders.proofs.Orders.Tests.{member_append}
 use Rattle.reading.specs.Events.{Event, reads, writes, activates, halts}
 use Rattle.reading.specs.Laws.Events.{operand_events, tail_events, subscript_events, joined_events, action_events, members_events, alternatives_events, counted_events, selected_events, selected_more_events}
 use Rattle.reading.specs.Touches.{any_event, read_hit, write_hit, stop_hit}

@@ -16,8 +16,8 @@ use Rattle.rules.specs.Whole.Sets.{calls_in, calls_i, calls_alts}
 use Rattle.rules.specs.Faults.Fault.{when}
 use Rattle.rules.specs.Faults.Declared.{declared_at}
 use Rattle.rules.specs.Faults.Bodies.{activated, judge, faults_in, alternatives_faults, action_faults, members_faults, inside_faults, inside_counted, inside_selected, inside_more, labels, label_faults, declared_names, body_faults, faults40}
-use Rattle.laws_orders.specs.Orders.Tests.{impossible}
-use Rattle.laws_accepted.specs.Accepted.Faultless.{both_empty, each_empty}
+use Rattle.laws_orders.proofs.Orders.Tests.{impossible}
+use Rattle.laws_accepted.proofs.Accepted.Faultless.{both_empty, each_empty}
 use Rattle.rules.specs.Reasons.{body_of_number}
 
 module _ (ds : Table) where

@@ -19,7 +19,7 @@ use Rattle.rules.specs.Faults.Fault.{Fault, fault, when}
 use Rattle.rules.specs.Faults.Bodies.{faults40}
 use Rattle.rules.specs.Faults.Whole.{mains, begins_chain, chains, groups_faults, faults50}
 use Rattle.rules.specs.Truth.{Activates, Activating, Closing, ChainTrue}
-use Rattle.laws_accepted.specs.Accepted.Named.{and_both}
+use Rattle.laws_accepted.proofs.Accepted.Named.{and_both}
 use Rattle.rules.specs.Reasons.{chained, first_over, body_of_number, chain_behind, refused_body, places_in, chain_of, chain_from, reason51}
 use Rattle.reasons.specs.Laws.Refused.{Among, among_either, among_when}
 use Rattle.reasons.specs.Laws.Fifties.{mains_50, from_52}

@@ -9,7 +9,7 @@ use Rattle.std.proofs.Math.ListN.{get_elem?}
 use Rattle.rules.specs.Declarations.{Declared, Table}
 use Rattle.rules.specs.Whole.Sets.{Sets, race}
 use Rattle.rules.specs.Truth.{RaceStands, RaceAmong, FirstConflict, RaceTrue}
-use Rattle.laws_orders.specs.Orders.Tests.{impossible}
+use Rattle.laws_orders.proofs.Orders.Tests.{impossible}
 use Rattle.rules.specs.Reasons.{Member, earliest, Race, race_with, race_at, first_race, race_from, race_among, conflict, Carrier, first_conflict, writers, no_reason, racing, race_on, race_reason, reason53, groups_of}
 
 -- the earliest member of a list that races with one

@@ -22,7 +22,7 @@ use Rattle.rules.specs.Whole.Sets.{Sets, touched, race, member, meet, may_stop, 
 use Rattle.rules.specs.Faults.Fault.{Fault, fault, when, least_from, least}
 use Rattle.rules.specs.Faults.Bodies.{first_place}
 use Rattle.rules.specs.Faults.Whole.{Scope, labelled_in, aims_out, has_more, races_any, member_faults, member_scope, group_faults, members_of, alternatives_groups, counted_groups, selected_groups, more_groups, mains, begins_chain, chains, body_groups, groups_faults, faults50}
-use Rattle.laws_orders.specs.Orders.Tests.{or_either, or_left, or_right, member_either}
+use Rattle.laws_orders.proofs.Orders.Tests.{or_either, or_left, or_right, member_either}
 use Rattle.reasons.specs.Laws.Races.{race_among_lem}
 use Rattle.rules.specs.Reasons.{Member, member_of, others, group_of, groups_in, groups_behind, groups_alternatives, groups_counted, groups_selected, groups_more, groups_of_body, groups_of, earliest, Race, race_at, first_race, race_from, race_among, conflict, Carrier, first_conflict, writers, racing, race_on, race_reason, reason53}
 

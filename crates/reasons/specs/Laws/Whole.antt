@@ -12,7 +12,7 @@ use Rattle.rules.specs.Faults.Bodies.{faults40}
 use Rattle.rules.specs.Faults.Whole.{faults50}
 use Rattle.rules.specs.Answers.{Verdict, accepted, refused, or_else, judgement, Checks, too_long, unreadable, no_description, too_deep, judged}
 use Rattle.rules.specs.Calls.Check.{verdict_number}
-use Rattle.laws_orders.specs.Orders.Tests.{impossible}
+use Rattle.laws_orders.proofs.Orders.Tests.{impossible}
 use Rattle.reasons.specs.Laws.Refused.{Among, least_among}
 use Rattle.reasons.specs.Laws.Below.{under, under_30, under_40}
 use Rattle.reasons.specs.Laws.Scanned.{Below20, scanned_below}

@@ -4,7 +4,7 @@ use Rattle.std.specs.Prelude.{ℕ, ◌+◌, ◌*◌, ◌<◌, ◌≤◌, ◌≡�
 use Rattle.std.proofs.Common.{ap, ◌∙◌, arith}
 use Rattle.std.proofs.Math.Decide.{dec_lt}
 use Rattle.cells.specs.Cells.{put_at, put_cell}
-use Rattle.cells.specs.Laws.{length_put, get_or_put_below, get_or_put_above, le_put_same, le_put_below, le_put_above}
+use Rattle.cells.proofs.Laws.{length_put, get_or_put_below, get_or_put_above, le_put_same, le_put_below, le_put_above}
 use Rattle.rules.specs.Grammar.Trees.{Tokens}
 use Rattle.records.specs.Holds.{place_cell, inside_cell, link_cell, Entry, Holds}
 use Rattle.records.specs.Kept.{Kept, LinkPut, InsidePut}

@@ -14,9 +14,9 @@ use Rattle.rules.specs.Text.Tokens.{Info, Token, Name, kind_no}
 use Rattle.rules.specs.Text.Scan.{same_bytes}
 use Rattle.rules.specs.Declarations.{Declared, declared_of, Table, number_from, number_of}
 use Rattle.rules.specs.Faults.Whole.{mains, main_name, chains, groups_faults, faults50}
-use Rattle.laws_orders.specs.Orders.Tests.{impossible}
-use Rattle.laws_accepted.specs.Accepted.Faultless.{both_empty}
-use Rattle.laws_accepted.specs.Accepted.Named.{same_itself}
+use Rattle.laws_orders.proofs.Orders.Tests.{impossible}
+use Rattle.laws_accepted.proofs.Accepted.Faultless.{both_empty}
+use Rattle.laws_accepted.proofs.Accepted.Named.{same_itself}
 use Rattle.records.specs.Holds.{kind_byte, inside_cell}
 use Rattle.records.specs.Words.{word_at}
 use Rattle.table.specs.Views.{View, MainAt}

@@ -14,9 +14,9 @@ use Rattle.rules.specs.Steps.Actions.{access, joined_accesses, Act, in_turn, act
 use Rattle.rules.specs.Steps.Runs.{body_act}
 use Rattle.rules.specs.Whole.Sets.{member, stores}
 use Rattle.rules.specs.Faults.Whole.{main_name}
-use Rattle.laws_accepted.specs.Accepted.Named.{found_body}
+use Rattle.laws_accepted.proofs.Accepted.Named.{found_body}
 use Rattle.paths.specs.Cited.Early.{Report, nowhere, early, early_i, early_alts, body_early, early_places}
-use Rattle.paths.specs.Least.{Under}
+use Rattle.paths.proofs.Least.{Under}
 use Rattle.records.specs.Holds.{token_at}
 use Rattle.scopes.specs.Laws.Behind.{Made, expression_made, transfer_made, selector_made}
 use Rattle.whole.specs.Written.{Written}

@@ -13,8 +13,8 @@ use Rattle.rules.specs.Calls.Memory.{Memory, Enough, settled}
 use Rattle.rules.specs.Calls.Profile.{ProfileCall, answer, profile_number, profile_numbers}
 use Rattle.rules.specs.Calls.Profile as call
 use Rattle.paths.specs.Cited.Early.{early_places, verdict, on_storage, on_body, profile}
-use Rattle.paths.specs.Least.{verdict_is}
-use Rattle.paths.specs.Profile.{profile_right, accepted_is_orderly}
+use Rattle.paths.proofs.Least.{verdict_is}
+use Rattle.paths.proofs.Profile.{profile_right, accepted_is_orderly}
 use Rattle.lent.specs.Numbers.{numbers_of}
 use Rattle.lent.specs.Measured.{Unread, short_memory, long_text, none as enough_and_short}
 use Rattle.lent.specs.Settled.{Settled}

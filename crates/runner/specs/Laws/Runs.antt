@@ -8,9 +8,9 @@ use Rattle.rules.specs.Declarations.{Table, total_words}
 use Rattle.rules.specs.Steps.Evaluation.{Carriers, Outcome, gives, faulty}
 use Rattle.rules.specs.Steps.Runs.{Worked, perform, Run, run_with, done, halted, faulted, run}
 use Rattle.laws_orders.specs.Cited.Flat.{Code, At as Control, pc, over, halt, broken, return, next_m, work_m, Machine, runs, ended, stood, broke, put, put_after, step_m}
-use Rattle.laws_orders.specs.Orders.Flat.{run_m}
-use Rattle.laws_orders.specs.Orders.Simulate.{machine_agrees}
-use Rattle.laws_orders.specs.Orders.Places.{Place, place_first, place_next, place_stack}
+use Rattle.laws_orders.proofs.Orders.Flat.{run_m}
+use Rattle.laws_orders.proofs.Orders.Simulate.{machine_agrees}
+use Rattle.laws_orders.proofs.Orders.Places.{Place, place_first, place_next, place_stack}
 use Rattle.promise.specs.Reached.{Reached, first, onward}
 use Rattle.promise.specs.Laws.Reached.{AllReached, reached_next}
 use Rattle.operands.specs.Scene.{carrier_words}

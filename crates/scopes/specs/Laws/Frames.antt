@@ -3,7 +3,7 @@ use Rattle.std.specs.Prelude.{ℕ, suc, ◌+◌, ◌-◌, ◌*◌, ◌<◌, ◌�
 use Rattle.std.proofs.Common.{sym, ap, ◌∙◌, subst, add-one, arith}
 use Rattle.std.proofs.Math.Option.{none, some}
 use Rattle.cells.specs.Cells.{cell, put_cell}
-use Rattle.cells.specs.Laws.{length_put, le_put_same, cell_other}
+use Rattle.cells.proofs.Laws.{length_put, le_put_same, cell_other}
 use Rattle.rules.specs.Text.Tokens.{kind_no, Comma, Semi, Becomes, BEGIN, END, NEXT}
 use Rattle.rules.specs.Grammar.Trees.{Tokens}
 use Rattle.rules.specs.Declarations.{Table}

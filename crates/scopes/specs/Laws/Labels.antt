@@ -12,7 +12,7 @@ use borrow.Author.Tests.{eq-eqb, ne_eqb}
 use Rattle.std.proofs.Math.Dec.{eqb}
 use Rattle.std.proofs.Math.ListN.{length}
 use Rattle.cells.specs.Cells.{cell, put_cell}
-use Rattle.cells.specs.Laws.{length_put, le_put_same, cell_other}
+use Rattle.cells.proofs.Laws.{length_put, le_put_same, cell_other}
 use Rattle.rules.specs.Text.Tokens.{Name, kind_no}
 use Rattle.rules.specs.Text.Scan.{same_bytes}
 use Rattle.rules.specs.Grammar.Trees.{Tokens}

@@ -8,7 +8,7 @@ use Rattle.std.proofs.Math.Decide.{dec_lt}
 use Rattle.std.proofs.Math.ListN.{get_elem?}
 use Rattle.rules.specs.Declarations.{Declared, Table}
 use Rattle.rules.specs.Whole.Sets.{Sets}
-use Rattle.laws_orders.specs.Orders.Tests.{member_append}
+use Rattle.laws_orders.proofs.Orders.Tests.{member_append}
 use Rattle.reading.specs.Bits.{holds}
 use Rattle.whole.specs.GroupKeys.{Holding}
 use Rattle.rules.specs.Reasons.{conflict, first_conflict, writers, writers_by}

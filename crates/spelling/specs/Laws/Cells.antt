@@ -4,7 +4,7 @@ use Rattle.std.specs.Prelude.{ℕ, ◌+◌, ◌*◌, ◌<◌, ◌≤◌, ◌≡�
 use Rattle.std.proofs.Common.{◌∙◌, arith}
 use Rattle.std.proofs.Math.Decide.{dec_lt}
 use Rattle.cells.specs.Cells.{cell, put_cell}
-use Rattle.cells.specs.Laws.{cell_same, cell_other}
+use Rattle.cells.proofs.Laws.{cell_same, cell_other}
 use Rattle.spelling.specs.Trees.{no_node}
 use Rattle.room.specs.Spelling.{heads}
 use Rattle.spelling.specs.Spelling.{Cleared, Opened}

@@ -5,7 +5,7 @@ use Rattle.std.proofs.Common.{sym, ap, ◌∙◌, arith, eq-eqb, ne_eqb}
 use Rattle.std.proofs.lemmas.Bool.{false≢true}
 use Rattle.std.proofs.Math.Decide.{dec_lt, ℕ_discrete}
 use Rattle.cells.specs.Cells.{cell, put_cell}
-use Rattle.cells.specs.Laws.{cell_same, cell_other}
+use Rattle.cells.proofs.Laws.{cell_same, cell_other}
 use Rattle.rules.specs.Limits.{most_tokens}
 use Rattle.rules.specs.Text.Scan.{same_bytes}
 use Rattle.rules.specs.Grammar.Trees.{Tokens}
@@ -16,7 +16,7 @@ use Rattle.spelling.specs.Spelled.{Spelled}
 use Rattle.spelling.specs.Trees.{no_node, Node, Grown}
 use Rattle.room.specs.Spelling.{heads, room_size}
 use Rattle.spelling.specs.Spelling.{Spells, SpelledTo, Ends, Cleared, Opened}
-use Rattle.laws_accepted.specs.Accepted.Named.{same_equal, same_itself}
+use Rattle.laws_accepted.proofs.Accepted.Named.{same_equal, same_itself}
 use Rattle.spelling.specs.Laws.Trees.{Keeps, cell_kept, passes_kept, finds_kept, found_once}
 
 keeps_itself : (room : List ℕ) (i : ℕ) → Keeps room room i

@@ -5,7 +5,7 @@ use Rattle.std.proofs.Common.{sym, ap, ap₂, ◌∙◌, arith}
 use Rattle.std.proofs.Math.Numerals.{add-one}
 use Rattle.std.proofs.Math.Decide.{dec_lt, ℕ_discrete}
 use Rattle.cells.specs.Cells.{cell, put_cell}
-use Rattle.cells.specs.Laws.{length_put, le_put_same, le_put_below, le_put_above}
+use Rattle.cells.proofs.Laws.{length_put, le_put_same, le_put_below, le_put_above}
 use Rattle.rules.specs.Grammar.Trees.{Tokens}
 use Rattle.records.specs.Holds.{link_cell}
 use Rattle.records.specs.Words.{NameAt, word_at}

@@ -7,7 +7,7 @@ use mathlib.Core.List.{List, [], ◌∷◌, ◌++◌, append_assoc, append-nil}
 use Rattle.std.proofs.Math.ListN.{length}
 use Rattle.cells.specs.Cells as bytes
 use Rattle.cells.specs.Cells.{cells}
-use Rattle.cells.specs.Laws.{cells_get}
+use Rattle.cells.proofs.Laws.{cells_get}
 use Rattle.rules.specs.Values.{cut}
 use Rattle.rules.specs.Limits.{most_words}
 use Rattle.rules.specs.Declarations.{total_words}

@@ -8,7 +8,7 @@ use mathlib.Core.List.{List}
 use Prim.Native.Nat.{ℕ, ◌+◌, ◌-◌, ◌*◌, ◌^◌, ◌<◌, ◌≤◌}
 use lib.ListN.{length, get_or, drop, length-drop}
 use Rattle.cells.specs.Cells.{put_cell}
-use Rattle.cells.specs.Laws.{length_put}
+use Rattle.cells.proofs.Laws.{length_put}
 use Rattle.rules.specs.Text.Bytes.{class_of, class_in}
 use Rattle.rules.specs.Text.Tokens.{Token, kind_no}
 use Rattle.rules.specs.Text.Scan.{Scan, End, fine, refuse, scan_end, followed, lexeme, scan}

@@ -7,7 +7,7 @@ use Rattle.std.proofs.Math.Nat.{mul-le-mul_left}
 use native.Mathlib.Omega.{arith}
 use Rattle.std.proofs.Math.ListN.{length}
 use Rattle.cells.specs.Cells.{le_at, put_cell, cells_from, cells}
-use Rattle.cells.specs.Laws.{length_put, get_or_put_below, le_put_same, le_put_below}
+use Rattle.cells.proofs.Laws.{length_put, get_or_put_below, le_put_same, le_put_below}
 use Rattle.text.specs.Table.{write_cells}
 
 -- numbers that fit cells of w bytes

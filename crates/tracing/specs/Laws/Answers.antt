@@ -6,11 +6,11 @@ use Rattle.rules.specs.Faults.Whole.{main_name}
 use Rattle.rules.specs.Stores.{TraceAnswer}
 use Rattle.rules.specs.Entries.{entries_in}
 use Rattle.rules.specs.Steps.Runs.{run_with, run}
-use Rattle.laws_orders.specs.Orders.Ends.{EndsWell}
+use Rattle.laws_orders.proofs.Orders.Ends.{EndsWell}
 use Rattle.runner.specs.declared.runs.Ended.{Ended}
 use Rattle.runner.specs.Runs.{ending_of, steps_of}
 use Rattle.telling.specs.Cited.Cells.{Cells}
-use Rattle.telling.specs.Decides.{main_traces, marked_held}
+use Rattle.telling.proofs.Decides.{main_traces, marked_held}
 use Rattle.members.specs.Cells.{cells_in}
 use Rattle.matching.specs.Matching.{Matching, answer_in}
 use Rattle.matching.specs.Room.{matching_in}

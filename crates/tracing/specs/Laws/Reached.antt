@@ -9,7 +9,7 @@ use Rattle.std.proofs.Math.Option.{Option, none, some}
 use Rattle.std.proofs.Math.Decide.{dec_lt}
 use Rattle.rules.specs.Declarations.{Table}
 use Rattle.laws_orders.specs.Cited.Flat.{Link, at, exit, Instr, if_i, decode_i, go_i, call_i, stop_i, move_i, Code, At, pc, find}
-use Rattle.laws_orders.specs.Orders.Tests.{impossible}
+use Rattle.laws_orders.proofs.Orders.Tests.{impossible}
 use Rattle.promise.specs.Reached.{Reached, onward, Leads}
 use Rattle.promise.specs.Laws.Reached.{AllReached}
 use Rattle.runner.specs.Runs.{stack_of}

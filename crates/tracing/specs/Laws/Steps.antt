@@ -12,13 +12,13 @@ use Rattle.rules.specs.Steps.Evaluation.{Carriers, Outcome, gives, faulty, then,
 use Rattle.rules.specs.Steps.Runs.{Worked, moved, perform}
 use Rattle.rules.specs.Values.{cut}
 use Rattle.laws_orders.specs.Cited.Flat.{Link, at, exit, Instr, if_i, decode_i, go_i, call_i, stop_i, move_i, Code, At, pc, over, halt, broken, go, find, picked, work_m, next_m, put, put_after, step_m}
-use Rattle.laws_orders.specs.Orders.Tests.{impossible}
+use Rattle.laws_orders.proofs.Orders.Tests.{impossible}
 use Rattle.stepping.specs.declared.steps.Moved.{Moved}
 use Rattle.stepping.specs.declared.steps.Moved.TheVariants.{Go, Call, Stop, Fault}
 use Rattle.stepping.specs.Steps.{onward, returning, control, Activates, Into}
 use Rattle.telling.specs.Cited.Passing.{Grouping, passage}
 use Rattle.telling.specs.Cited.Tracing.{Told, told, follow, picked_t, next_t, put_t, after_t, step_t}
-use Rattle.telling.specs.Taken.{activates, next_stays, next_over}
+use Rattle.telling.proofs.Taken.{activates, next_stays, next_over}
 use Rattle.turning.specs.Ways.{link_to, way_of}
 
 -- A transfer that faults makes no store.

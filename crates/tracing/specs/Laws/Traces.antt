@@ -15,7 +15,7 @@ use Rattle.rules.specs.Limits.{longest_chain}
 use Rattle.rules.specs.Steps.Evaluation.{Carriers, Outcome, gives, faulty}
 use Rattle.rules.specs.Steps.Runs.{Worked, perform, Run, run_with, done, halted, faulted}
 use Rattle.laws_orders.specs.Cited.Flat.{Link, Instr, call_i, Code, pc, work_m, Machine, runs, ended, stood, broke, put}
-use Rattle.laws_orders.specs.Orders.Tests.{impossible}
+use Rattle.laws_orders.proofs.Orders.Tests.{impossible}
 use Rattle.table.specs.Laws.Positions.{record_within}
 use Rattle.promise.specs.Instructions.{link_no, InstructionHolds}
 use Rattle.promise.specs.Reached.{Reached, first, onward, Leads}
@@ -29,9 +29,9 @@ use Rattle.runner.specs.Laws.Runs.{stack_length}
 use Rattle.telling.specs.Cited.Cells.{Cells}
 use Rattle.telling.specs.Cited.Passing.{Grouping, Passing, opened, turned, closed, group_event, passage}
 use Rattle.telling.specs.Cited.Tracing.{link_of, next_t, Report, passes, store_report, groups_of, Stepped, after_t, step_t, Traced, traced, reported, run_t, trace_run}
-use Rattle.telling.specs.Moves.{Follows}
-use Rattle.telling.specs.Standing.{Activations}
-use Rattle.telling.specs.Decides.{MainPlace, main_first, main_next, main_stack, main_active, open_at, main_groups, main_opens, main_moves}
+use Rattle.telling.proofs.Moves.{Follows}
+use Rattle.telling.proofs.Standing.{Activations}
+use Rattle.telling.proofs.Decides.{MainPlace, main_first, main_next, main_stack, main_active, open_at, main_groups, main_opens, main_moves}
 use Rattle.members.specs.Cells.{cells_in}
 use Rattle.matching.specs.Matching.{Matching, untold, told_all}
 use Rattle.matching.specs.Room.{matching_in, Sound, Stands}

@@ -9,7 +9,7 @@ use Rattle.rules.specs.Declarations.{total_words}
 use Rattle.rules.specs.Stores.{made}
 use Rattle.rules.specs.Entries.{entries_in}
 use Rattle.laws_orders.specs.Cited.Flat.{Link, at, exit, Code, work_m, put}
-use Rattle.laws_orders.specs.Orders.Tests.{impossible}
+use Rattle.laws_orders.proofs.Orders.Tests.{impossible}
 use Rattle.operands.specs.Scene.{carrier_words, words_of}
 use Rattle.stepping.specs.declared.steps.Moved.{Moved}
 use Rattle.stepping.specs.declared.steps.Moved.TheVariants.{Go, Call, Stop, Fault}

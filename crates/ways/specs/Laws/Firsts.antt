@@ -12,7 +12,7 @@ use Rattle.rules.specs.Grammar.Trees.{Tokens, Action, block, labelled, if_then, 
 use Rattle.laws_grammar.specs.Grammar.Positions.{action_writes}
 use Rattle.laws_grammar.specs.Cited.Heads.{head_kind}
 use Rattle.laws_code.specs.Cited.Code.{action_size, first_of}
-use Rattle.laws_code.specs.Links.Numbers.{size_before}
+use Rattle.laws_code.proofs.Links.Numbers.{size_before}
 use Rattle.records.specs.Holds.{kind_byte}
 use Rattle.table.specs.Laws.Positions.{here, behind_far}
 use Rattle.ways.specs.Seeking.{Ground, Starts}

@@ -16,7 +16,7 @@ use Rattle.laws_grammar.specs.Grammar.Heads.{second_kind}
 use Rattle.laws_grammar.specs.Cited.Nesting.{action_nest}
 use Rattle.laws_orders.specs.Cited.Flat.{at, bind}
 use Rattle.laws_code.specs.Cited.Code.{action_size, first_of}
-use Rattle.laws_code.specs.Links.Numbers.{size_before}
+use Rattle.laws_code.proofs.Links.Numbers.{size_before}
 use Rattle.records.specs.Holds.{kind_byte}
 use Rattle.table.specs.Laws.Positions.{here, behind_far}
 use Rattle.table.specs.Laws.Scans.{arrow, past_expression}

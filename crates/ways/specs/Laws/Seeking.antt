@@ -6,7 +6,7 @@ use Rattle.rules.specs.Text.Tokens.{Token}
 use Rattle.rules.specs.Grammar.Trees.{Tokens}
 use Rattle.laws_grammar.specs.Grammar.Positions.{Writes}
 use Rattle.laws_code.specs.Cited.Code.{size}
-use Rattle.laws_code.specs.Links.Numbers.{size_before}
+use Rattle.laws_code.proofs.Links.Numbers.{size_before}
 use Rattle.records.specs.Holds.{kind_byte}
 use Rattle.table.specs.Laws.Positions.{here, kind_here}
 use Rattle.table.specs.Scans.{no, halts, deeper, scan}

@@ -9,7 +9,7 @@ use Rattle.std.proofs.Math.Option.{some}
 use native.Mathlib.Omega.{arith}
 use Rattle.std.proofs.Math.Decide.{dec_lt, ℕ_discrete}
 use Rattle.cells.specs.Cells.{cell, put_cell}
-use Rattle.cells.specs.Laws.{length_put, le_put_same, cell_other}
+use Rattle.cells.proofs.Laws.{length_put, le_put_same, cell_other}
 use Rattle.rules.specs.Text.Scan.{same_bytes}
 use Rattle.rules.specs.Declarations.{Word}
 use Rattle.laws_orders.specs.Cited.Flat.{Link, at, Labels, outer, bind, leave_to, restart_to}

@@ -18,7 +18,7 @@ use Rattle.rules.specs.Faults.Whole.{Scope, labelled_in, aims_out, has_more, rac
 use Rattle.records.specs.Holds.{token_at}
 use Rattle.table.specs.Declarations.{LedBy, name_tokens}
 use Rattle.keys.specs.Keys.{no_key, least_by, least_number_key, Smalls, none_small, also_small}
-use Rattle.laws_orders.specs.Orders.Tests.{impossible}
+use Rattle.laws_orders.proofs.Orders.Tests.{impossible}
 use Rattle.reading.specs.Reading.{Reading, table_of}
 use Rattle.reading.specs.Meanings.{declares}
 use Rattle.reading.specs.Laws.Meanings.{table_size_lem}

@@ -15,7 +15,7 @@ use Rattle.rules.specs.Faults.Fault.{fault, when}
 use Rattle.records.specs.Holds.{place_cell, token_at}
 use Rattle.keys.specs.Keys.{no_key, number_key, least_number_key}
 use Rattle.keys.specs.Laws.Keys.{least_append, least_bounded, least_none}
-use Rattle.laws_orders.specs.Orders.Tests.{member_append}
+use Rattle.laws_orders.proofs.Orders.Tests.{member_append}
 use Rattle.reading.specs.Kinds.{next_no}
 use Rattle.reading.specs.Reading.{Reading, table_of, Kinded}
 use Rattle.reading.specs.Laws.Reading.{kinded, next_token, no_more}

@@ -12,7 +12,7 @@ use Rattle.rules.specs.Grammar.Trees.{Tokens, Action, action_tokens}
 use Rattle.rules.specs.Declarations.{Declared, Table, body_number}
 use Rattle.rules.specs.Faults.Fault.{Fault}
 use Rattle.rules.specs.Faults.Whole.{Scope, group_faults, body_groups, groups_faults}
-use Rattle.laws_accepted.specs.Accepted.Named.{and_both}
+use Rattle.laws_accepted.proofs.Accepted.Named.{and_both}
 use Rattle.records.specs.Holds.{kind_byte, token_at}
 use Rattle.keys.specs.Keys.{no_key, number_key, least_number_key}
 use Rattle.keys.specs.Laws.Keys.{least_append, least_bounded, least_none}

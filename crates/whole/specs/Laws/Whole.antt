@@ -15,8 +15,8 @@ use Rattle.rules.specs.Faults.Fault.{when}
 use Rattle.rules.specs.Faults.Whole.{mains, begins_chain, chains, groups_faults, faults50}
 use Rattle.keys.specs.Keys.{no_key, number_key, least_number_key}
 use Rattle.keys.specs.Laws.Keys.{least_append, least_bounded, by_number, no_fault}
-use Rattle.laws_accepted.specs.Accepted.Faultless.{when_empty, each_empty}
-use Rattle.laws_accepted.specs.Accepted.Named.{found_body}
+use Rattle.laws_accepted.proofs.Accepted.Faultless.{when_empty, each_empty}
+use Rattle.laws_accepted.proofs.Accepted.Named.{found_body}
 use Rattle.reading.specs.Reading.{Reading, table_of}
 use Rattle.gathering.specs.Filling.{Complete}
 use Rattle.whole.specs.Written.{Written, whole}

@@ -1,0 +1,7 @@
+pub mod Closing
+pub mod Owed
+pub mod Counted
+pub mod Reaching
+pub mod Longest
+pub mod WalkLaws
+pub mod Answers

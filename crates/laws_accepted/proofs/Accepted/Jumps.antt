@@ -1,0 +1,102 @@
+-- Row 44: where an action has no fault of the 40s, each LEAVE and RESTART that aims outside it aims at one of the labels around it.
+use Rattle.std.specs.Prelude.{◌≡◌, refl, Bool, true, false, not, ◌||◌, List, [], ◌∷◌, ◌++◌, ℕ, suc}
+use Rattle.std.proofs.Common.{sym, ◌∙◌, ap, append_assoc}
+use Rattle.std.proofs.lemmas.Bool.{false≢true, not-false}
+use Rattle.std.proofs.Math.Option.{Option, none, some}
+use Rattle.rules.specs.Text.Scan.{same_bytes}
+use Rattle.rules.specs.Grammar.Trees.{Action, block, labelled, if_then, decode, repeat, leave, restart, activate, stop, no_op, transfer, Members, end, also, next}
+use Rattle.rules.specs.Grammar.Trees.{Alternatives, counted, selected, Counted, counted_end, counted_more, Selected, select, otherwise, SelectedMore, selected_end, selected_more}
+use Rattle.rules.specs.Grammar.Precedence.{expr_of}
+use Rattle.rules.specs.Declarations.{Word, Table}
+use Rattle.rules.specs.Steps.Actions.{Act, par, in_turn, whole, act_of, groups, alts_of, counted_alts, selected_alts, more_alts}
+use Rattle.laws_orders.proofs.Orders.Orderly.{without, jumps_out, jumps_i, jumps_alts}
+use Rattle.rules.specs.Faults.Fault.{when}
+use Rattle.rules.specs.Faults.Declared.{is_known}
+use Rattle.rules.specs.Faults.Bodies.{judge, faults_in, alternatives_faults, action_faults, members_faults, inside_faults, inside_counted, inside_selected, inside_more}
+use Rattle.laws_accepted.proofs.Accepted.Faultless.{both_empty, when_empty}
+use Rattle.laws_accepted.proofs.Accepted.Named.{same_equal, same_itself, AllKnown}
+
+pub all_known_join : (ls xs ys : List Word) → AllKnown ls xs → AllKnown ls ys → AllKnown ls (xs ++ ys)
+all_known_join ls [] ys p q = q
+all_known_join ls (x ∷ xs) ys p q = (p.0, all_known_join ls xs ys p.1 q)
+
+-- outside a label, the jumps to it are no jumps
+pub all_known_without : (l : Word) (ls ks : List Word) → AllKnown (l ∷ ls) ks → AllKnown ls (without l ks)
+unfolding without is_known
+all_known_without l ls [] h = tt
+all_known_without l ls (k ∷ ks) h = by (same_bytes l k) (same_bytes k l) refl refl (all_known_without l ls ks h.1) h.0
+  where
+    by :
+        (a b : Bool) → same_bytes l k ≡ a → same_bytes k l ≡ b → AllKnown ls (without l ks) → (a || is_known k ls) ≡ true
+        → AllKnown ls (elim b [ true ↦ without l ks | false ↦ k ∷ without l ks ])
+    by a true p q ih z = ih
+    by true false p q ih z = absurd (false≢true (sym q ∙ (ap (same_bytes k) (same_equal l k p) ∙ same_itself k)))
+    by false false p q ih z = (z, ih)
+
+-- a target that gives no fault is known
+pub aimed : (n : Word) (ls : List Word) (m p : ℕ) → when (not (is_known n ls)) m p ≡ [] → AllKnown ls (n ∷ [])
+aimed n ls m p e = (not-false (is_known n ls) (when_empty (not (is_known n ls)) m p e), tt)
+
+-- a member in front of the members and groups behind it
+in_front :
+    (ls : List Word) (x y : Act) (o : Option Act) → AllKnown ls (jumps_out x) → AllKnown ls (jumps_out (in_turn y o))
+    → AllKnown ls (jumps_out (in_turn (par x y) o))
+unfolding jumps_out
+in_front ls x y none p q = all_known_join ls (jumps_out x) (jumps_out y) p q
+in_front ls x y (some z) p q = rw append_assoc (all_known_join ls (jumps_out x) (jumps_out y ++ jumps_out z) p q)
+
+module _ (outer : Word) (ds : Table) where
+  mutual
+    unfolding act_of groups alts_of counted_alts selected_alts more_alts jumps_out jumps_i jumps_alts action_faults members_faults inside_faults inside_counted inside_selected inside_more
+
+    pub jumps_aim : (a : Action) (ls : List Word) → action_faults outer ds ls a ≡ [] → AllKnown ls (jumps_out (act_of a))
+    jumps_aim (block b a m) ls e =
+        let h = both_empty (action_faults outer ds ls a) (members_faults outer ds ls m) e in members_aim m ls (act_of a) (jumps_aim a ls h.0) h.1
+    jumps_aim (labelled n b a) ls e = all_known_without n.word ls (jumps_out (act_of a)) (jumps_aim a (n.word ∷ ls) e)
+    jumps_aim (if_then i o t w a) ls e = jumps_aim a ls (both_empty (faults_in outer ds o t) (action_faults outer ds ls a) e).1
+    jumps_aim (decode i o t w b v) ls e =
+        let f = alternatives_faults (judge outer ds (expr_of o t)).bits v in
+        let h = both_empty (faults_in outer ds o t) (f ++ inside_faults outer ds ls v) e in
+        alternatives_aim v ls (both_empty f (inside_faults outer ds ls v) h.1).1
+    jumps_aim (repeat i a) ls e = jumps_aim a ls e
+    jumps_aim (leave i n) ls e = aimed n.word ls 44 i.place e
+    jumps_aim (restart i n) ls e = aimed n.word ls 44 i.place e
+    jumps_aim (activate n l r) ls e = tt
+    jumps_aim (stop i l r) ls e = tt
+    jumps_aim (no_op i l r) ls e = tt
+    jumps_aim (transfer n s b j x o t) ls e = tt
+
+    -- a member x, and what follows it
+    members_aim :
+        (m : Members) (ls : List Word) (x : Act) → AllKnown ls (jumps_out x) → members_faults outer ds ls m ≡ []
+        → AllKnown ls (jumps_out (whole (groups x m)))
+    members_aim (end i) ls x p e = p
+    members_aim (also i a m) ls x p e =
+        let h = both_empty (action_faults outer ds ls a) (members_faults outer ds ls m) e in
+        let g = groups (act_of a) m in
+        in_front ls x g.group g.behind p (members_aim m ls (act_of a) (jumps_aim a ls h.0) h.1)
+    members_aim (next i a m) ls x p e =
+        let h = both_empty (action_faults outer ds ls a) (members_faults outer ds ls m) e in
+        all_known_join ls (jumps_out x) (jumps_out (whole (groups (act_of a) m))) p (members_aim m ls (act_of a) (jumps_aim a ls h.0) h.1)
+
+    alternatives_aim : (v : Alternatives) (ls : List Word) → inside_faults outer ds ls v ≡ [] → AllKnown ls (jumps_alts (alts_of v))
+    alternatives_aim (counted a c) ls e =
+        let h = both_empty (action_faults outer ds ls a) (inside_counted outer ds ls c) e in
+        all_known_join ls (jumps_out (act_of a)) (jumps_alts (counted_alts 1 c)) (jumps_aim a ls h.0) (counted_aim c ls 1 h.1)
+    alternatives_aim (selected s) ls e = selected_aim s ls e
+
+    counted_aim : (c : Counted) (ls : List Word) (n : ℕ) → inside_counted outer ds ls c ≡ [] → AllKnown ls (jumps_alts (counted_alts n c))
+    counted_aim (counted_end i) ls n e = tt
+    counted_aim (counted_more i a c) ls n e =
+        let h = both_empty (action_faults outer ds ls a) (inside_counted outer ds ls c) e in
+        all_known_join ls (jumps_out (act_of a)) (jumps_alts (counted_alts (suc n) c)) (jumps_aim a ls h.0) (counted_aim c ls (suc n) h.1)
+
+    selected_aim : (s : Selected) (ls : List Word) → inside_selected outer ds ls s ≡ [] → AllKnown ls (jumps_alts (selected_alts s))
+    selected_aim (select s b a m) ls e =
+        let h = both_empty (action_faults outer ds ls a) (inside_more outer ds ls m) e in
+        all_known_join ls (jumps_out (act_of a)) (jumps_alts (more_alts m)) (jumps_aim a ls h.0) (more_aim m ls h.1)
+    selected_aim (otherwise i b a f) ls e = all_known_join ls (jumps_out (act_of a)) [] (jumps_aim a ls e) tt
+
+    more_aim : (m : SelectedMore) (ls : List Word) → inside_more outer ds ls m ≡ [] → AllKnown ls (jumps_alts (more_alts m))
+    more_aim (selected_end i) ls e = tt
+    more_aim (selected_more i s) ls e = selected_aim s ls e

@@ -1,0 +1,15 @@
+pub mod Reports
+pub mod Covered
+pub mod Closing
+pub mod Sound
+pub mod Going
+pub mod Exact
+pub mod Runs
+pub mod Kept
+pub mod Verdict
+pub mod Texts
+pub mod Profile
+pub mod Bools
+pub mod WalkLaws
+pub mod Least
+pub mod Examples

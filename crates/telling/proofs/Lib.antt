@@ -1,0 +1,12 @@
+pub mod Assembled
+pub mod Decides
+pub mod Examples
+pub mod Grouped
+pub mod Holding
+pub mod Marked
+pub mod Moves
+pub mod Passages
+pub mod Places
+pub mod Running
+pub mod Standing
+pub mod Taken
