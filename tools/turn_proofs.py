@@ -721,8 +721,22 @@ def published(item):
     return item
 
 
+def moved(text):
+    """With the paths of theorems that have moved from specs/ to proofs/."""
+
+    def put(m):
+        path = m[2].replace(".", "/") + ".antt"
+        here = os.path.join("crates", m[1])
+        if not os.path.exists(os.path.join(here, "specs", path)) and os.path.exists(os.path.join(here, "proofs", path)):
+            return f"Rattle.{m[1]}.proofs.{m[2]}"
+        return m[0]
+
+    return re.sub(r"Rattle\.(\w+)\.specs\.([A-Za-z0-9_]+(?:\.[A-Z][A-Za-z0-9_]*)*)", put, text)
+
+
 def pruned(text):
     """Without the names of `use` lines that nothing in the file cites."""
+    text = moved(text)
     body = "\n".join(l for l in text.split("\n") if not l.startswith("use "))
     cited = words(re.sub(r"--[^\n]*", "", body)) | set(re.findall(r"[^\s(){}\[\];,@:]+", body))
     operators = re.findall(r"◌([^◌\s,{}]+)◌", text)
