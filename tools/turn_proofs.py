@@ -123,6 +123,9 @@ class Names:
                     found = self.step(chain[i], fields)
                     if found is not None:
                         return found
+        numbered = re.fullmatch(r"(.*\D)-?\d+", fields[0])
+        if numbered and any(self.step(at, [numbered[1]] + fields[1:]) for at in chain):
+            return self.path(place, befores, [numbered[1]] + fields[1:])
         return ".".join(["c"] + fields) if befores < len(chain) else None
 
     def above(self, place):
@@ -241,14 +244,16 @@ CITED = re.compile(r"(?<![\w'-])c((?:\.before)*)((?:\.[\w'₀-₉-]+)*)(?![\w'-]
 
 
 def without_aliases(body):
-    """With no `let` that only names an earlier place."""
+    """With no `let` that only names an earlier place, or a field there."""
     while True:
-        m = re.search(r"let ([A-Za-z][\w'-]*) = (c(?:\.before)+) in\s*", body)
+        m = re.search(r"let ([A-Za-z][\w'-]*) = (c(?:\.before)*(?:\.[\w'₀-₉-]+)*) in\s*", body)
         if not m:
             return body
         rest = body[m.end():]
-        rest = re.sub(rf"(?<![\w'.-]){re.escape(m[1])}(?=\.)", m[2], rest)
-        body = body[:m.start()] + rest
+        again = re.search(rf"let {re.escape(m[1])} = ", rest)
+        upto = again.start() if again else len(rest)
+        here = re.sub(rf"(?<![\w'.-]){re.escape(m[1])}(?![\w'-])", m[2], rest[:upto])
+        body = body[:m.start()] + here + rest[upto:]
 
 
 def turned(body, names, place, left):
@@ -490,7 +495,7 @@ def at_places(items, names, left):
     """Lemmas over the record of a place take today's record of that place."""
     out, placed = [], {}
     for item in items:
-        m = re.search(r"\(c : tie\.([^\s()]+)\)", item)
+        m = re.search(r"\(c : (?:tie|lts)\.(After-[^\s()]+|[^\s()]+)(?: (?:[^\s()]+|\([^()]*\)))*\)", item)
         head = re.search(rf"(?m)^(?:pub |abbrev )*({NAME}) : ", item)
         if m and head:
             old = [p for p in names.new if norm(p) == norm(m[1])] or [p for p, n in names.new.items() if norm(n) == norm(m[1])]
