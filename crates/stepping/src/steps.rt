@@ -1,6 +1,6 @@
 // One step: the instruction at n, without the stack of return addresses.
 ghost use Rattle.std.specs.Prelude.{◌≡◌, List, ℕ, ◌+◌, ◌≤◌, length};
-ghost use Rattle.rules.specs.Text.Tokens.{IF, DECODE, Name, LPar, kind_no};
+ghost use Rattle.rules.specs.Text.Tokens.{IF as If, DECODE as Decode, Name, LPar, kind_no};
 ghost use Rattle.records.specs.Holds.{kind_byte};
 ghost use Rattle.stepping.specs.Steps.{StepAt, StepAnswer};
 
@@ -23,9 +23,9 @@ pub enum Moved {
 
 // The IF at n acts when any bit of its test is 1.
 fn if_step(records: &[u8], values: &[u8], carriers: &[u8], n: usize) -> Moved
-    requires { (decls : List ℕ) × (StepAt records.now values.now decls carriers.now n × (kind_byte records.now n ≡ kind_no IF)) }
+    requires { (decls : List ℕ) × (StepAt records.now values.now decls carriers.now n × (kind_byte records.now n ≡ kind_no If)) }
     ensures { (decls : List ℕ) (v : StepAt records.now values.now decls carriers.now n)
-        → kind_byte records.now n ≡ kind_no IF → StepAnswer v carriers.now result }
+        → kind_byte records.now n ≡ kind_no If → StepAnswer v carriers.now result }
 {
     let tested = test(records, values, carriers, n);
     match tested {
@@ -41,9 +41,9 @@ fn if_step(records: &[u8], values: &[u8], carriers: &[u8], n: usize) -> Moved
 
 // The DECODE at n acts by the first alternative that takes its value.
 fn decode_step(records: &[u8], values: &[u8], carriers: &[u8], n: usize) -> Moved
-    requires { (decls : List ℕ) × (StepAt records.now values.now decls carriers.now n × (kind_byte records.now n ≡ kind_no DECODE)) }
+    requires { (decls : List ℕ) × (StepAt records.now values.now decls carriers.now n × (kind_byte records.now n ≡ kind_no Decode)) }
     ensures { (decls : List ℕ) (v : StepAt records.now values.now decls carriers.now n)
-        → kind_byte records.now n ≡ kind_no DECODE → StepAnswer v carriers.now result }
+        → kind_byte records.now n ≡ kind_no Decode → StepAnswer v carriers.now result }
 {
     let tested = test(records, values, carriers, n);
     match tested {
