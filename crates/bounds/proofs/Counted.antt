@@ -12,7 +12,8 @@ use Rattle.rules.specs.Bound.{cost_of, turns_from}
 use Rattle.laws_orders.proofs.Orders.Orderly.{Orderly}
 use Rattle.laws_orders.proofs.Orders.Budget.{onward}
 use Rattle.bounds.proofs.Closing.{cost_of_body, turns_of_body}
-use Rattle.bounds.proofs.Owed.{owed, Straight, Falls, start_owes, start_straight, step_falls, owes_one}
+use Rattle.bounds.proofs.Owed.{owed, Straight, Falls}
+use Rattle.bounds.proofs.Falling.{start_owes, start_straight, step_falls, owes_one}
 
 module _ (ds : Table) (o : Orderly ds) where
   abbrev owes : Live → ℕ

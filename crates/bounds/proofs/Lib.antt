@@ -1,5 +1,6 @@
 pub mod Closing
 pub mod Owed
+pub mod Falling
 pub mod Counted
 pub mod Reaching
 pub mod Longest

@@ -1,9 +1,11 @@
+pub mod Aiming
 pub mod Constants
 pub mod Declared
 pub mod Destinations
 pub mod Evaluated
 pub mod Faultless
 pub mod Grouped
+pub mod Groups
 pub mod Jumps
 pub mod Lengths
 pub mod Named
@@ -11,3 +13,4 @@ pub mod Orderly
 pub mod Races
 pub mod Reached
 pub mod Scanned
+pub mod Within

@@ -11,6 +11,7 @@ pub mod Fields
 pub mod Flat
 pub mod Foot
 pub mod Joins
+pub mod Next
 pub mod Ok
 pub mod Orderly
 pub mod Owners

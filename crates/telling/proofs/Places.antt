@@ -14,7 +14,8 @@ use Rattle.rules.specs.Steps.Runs.{body_act}
 use Rattle.rules.specs.Whole.Sets.{chain_over}
 use Rattle.laws_orders.proofs.Orders.Tests.{impossible}
 use Rattle.laws_orders.proofs.Orders.Foot.{Prints}
-use Rattle.laws_orders.proofs.Orders.Ok.{OkL, OkS, in_body, BodiesOk, start_ok, next_ok}
+use Rattle.laws_orders.proofs.Orders.Ok.{OkL, OkS, in_body, BodiesOk, start_ok}
+use Rattle.laws_orders.proofs.Orders.Next.{next_ok}
 use Rattle.laws_orders.proofs.Orders.Depth.{Chained, ChainedS, call_chained, next_chained}
 use Rattle.laws_orders.specs.Cited.Flat.{Link, at, exit, Code, pc, Labels, bind, leave_to, restart_to, own_label}
 use Rattle.traces.specs.Cited.Events.{Event}

@@ -21,7 +21,8 @@ use Rattle.laws_orders.specs.Cited.Flat.{return as return_m, Machine, runs, ende
 use Rattle.laws_orders.proofs.Orders.Stands as Flat
 use Rattle.laws_orders.proofs.Orders.Stands.{work_says}
 use Rattle.laws_orders.proofs.Orders.Foot.{Prints, Sub-refl}
-use Rattle.laws_orders.proofs.Orders.Ok.{Env, OkL, OkS, BodiesOk, call_ok, next_ok}
+use Rattle.laws_orders.proofs.Orders.Ok.{Env, OkL, OkS, BodiesOk, call_ok}
+use Rattle.laws_orders.proofs.Orders.Next.{next_ok}
 use Rattle.traces.specs.Joining.{step_by}
 use Rattle.traces.specs.Cited.Entries.{Block}
 use Rattle.traces.specs.Cited.Events.{Event}

@@ -15,7 +15,8 @@ use Rattle.rules.specs.Steps.Control.{Live, one, seq_l, both, left, right, lab_l
 use Rattle.rules.specs.Steps.Control.{Sig, ends, goes, leaves, restarts, stops, faults, seq_s, both_l, right_s, lab_s, loop_s, choose, pick_s, lost, call_s, next_i, next}
 use Rattle.laws_orders.specs.Cited.Flat.{Link, at, exit, Entries, Code, pc, over, halt, broken, push, find, Labels, bind, leave_to, restart_to, Jumps, own_label, call_i}
 use Rattle.laws_orders.proofs.Orders.Foot.{Foot, Prints}
-use Rattle.laws_orders.proofs.Orders.Ok.{Env, under, member, OkL, OkS, in_body, BodiesOk, next_ok}
+use Rattle.laws_orders.proofs.Orders.Ok.{Env, under, member, OkL, OkS, in_body, BodiesOk}
+use Rattle.laws_orders.proofs.Orders.Next.{next_ok}
 use Rattle.traces.specs.Cited.Events.{Event, opens, turns, closes}
 use Rattle.traces.specs.Telling.{openings, fresh, at_end, at_restart, step_events}
 use Rattle.telling.specs.Cited.Passing.{Grouping, Passing, opened, turned, closed, times, pair_opens, all_pairs, passage}

@@ -20,7 +20,7 @@ use Rattle.bounds.specs.Cited.Counts.{endless, cut, count_down}
 use Rattle.bounds.specs.Walk.{walk}
 use Rattle.bounds.proofs.WalkLaws.{cut_low, walked_body}
 use Rattle.bounds.proofs.Closing.{cost_same, turns_same, cost_closed, turns_closed}
-use Rattle.bounds.proofs.Owed.{start_owes, owes_one}
+use Rattle.bounds.proofs.Falling.{start_owes, owes_one}
 
 -- no chain is too long where the whole has no faults
 pub no_chains : (ds : Table) → faults50 ds ≡ [] → (w : Word) → chain_over ds longest_chain w ≡ false

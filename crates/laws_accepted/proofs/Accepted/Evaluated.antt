@@ -14,7 +14,7 @@ use Rattle.rules.specs.Steps.Evaluation.{Carriers, Outcome, gives, faulty, then,
 use Rattle.rules.specs.Faults.Bodies.{judge, judge_factor, judge_access}
 use Rattle.laws_orders.proofs.Orders.Tests.{impossible}
 use Rattle.laws_accepted.specs.Cited.Declared.{Declares}
-use Rattle.laws_accepted.proofs.Accepted.Reached.{reach_inside}
+use Rattle.laws_accepted.proofs.Accepted.Within.{reach_inside}
 use Rattle.laws_accepted.specs.Cited.Lengths.{Reaches, Sized, SizedFactor}
 
 -- what follows a step of working out was given what that step gave

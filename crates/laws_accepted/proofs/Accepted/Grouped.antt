@@ -25,11 +25,11 @@ use Rattle.laws_accepted.proofs.Accepted.Jumps.{all_known_join, all_known_withou
 use Rattle.laws_accepted.proofs.Accepted.Races.{no_races_union}
 
 -- jumps that stay in a scope: outside any group of two or more they may go anywhere
-abbrev Stay : Scope → List Word → Type 0
+abbrev pub Stay : Scope → List Word → Type 0
 Stay none ks = Unit {0}
 Stay (some ls) ks = AllKnown ls ks
 
-stay_none : (s : Scope) → Stay s []
+pub stay_none : (s : Scope) → Stay s []
 stay_none none = tt
 stay_none (some ls) = tt
 
@@ -37,11 +37,11 @@ stay_join : (s : Scope) (xs ys : List Word) → Stay s xs → Stay s ys → Stay
 stay_join none xs ys p q = tt
 stay_join (some ls) xs ys p q = all_known_join ls xs ys p q
 
-stay_without : (l : Word) (s : Scope) (ks : List Word) → Stay (labelled_in l s) ks → Stay s (without l ks)
+pub stay_without : (l : Word) (s : Scope) (ks : List Word) → Stay (labelled_in l s) ks → Stay s (without l ks)
 stay_without l none ks h = tt
 stay_without l (some ls) ks h = all_known_without l ls ks h
 
-stay_aim : (s : Scope) (n : Word) (p : ℕ) → when (aims_out s n) 52 p ≡ [] → Stay s (n ∷ [])
+pub stay_aim : (s : Scope) (n : Word) (p : ℕ) → when (aims_out s n) 52 p ≡ [] → Stay s (n ∷ [])
 stay_aim none n p e = tt
 stay_aim (some ls) n p e = aimed n ls 52 p e
 
@@ -52,31 +52,31 @@ module _ (ds : Table) where
   stay_member true s ks h = subst (Stay s) (sym (none_known ks h)) (stay_none s)
 
   -- an action in a scope
-  record Grouped (s : Scope) (x : Act) : Type 0 where
-    groups : AllApart ds x
-    stays : Stay s (jumps_out x)
+  pub record Grouped (s : Scope) (x : Act) : Type 0 where
+    pub groups : AllApart ds x
+    pub stays : Stay s (jumps_out x)
 
   -- a member behind others that touch these sets, in a group of two or more or alone in its group
-  record Member (many : Bool) (s : Scope) (before : List Sets) (x : Act) : Type 0 where
-    groups : AllApart ds x
-    stays : Stay (member_scope ds many s) (jumps_out x)
-    goes_on : many ≡ true → may_stop ds x ≡ false
-    no_race : many ≡ true → races_any (touched ds x) before ≡ false
+  pub record Member (many : Bool) (s : Scope) (before : List Sets) (x : Act) : Type 0 where
+    pub groups : AllApart ds x
+    pub stays : Stay (member_scope ds many s) (jumps_out x)
+    pub goes_on : many ≡ true → may_stop ds x ≡ false
+    pub no_race : many ≡ true → races_any (touched ds x) before ≡ false
 
-  abbrev Behind : Scope → Option Act → Type 0
+  abbrev pub Behind : Scope → Option Act → Type 0
   Behind s none = Unit {0}
   Behind s (some x) = Grouped s x
 
   -- a block while it is read: its first group, and what comes behind NEXT
-  record Blocked (many : Bool) (s : Scope) (before : List Sets) (g : Block) : Type 0 where
-    first : Member many s before g.group
-    behind : Behind s g.behind
+  pub record Blocked (many : Bool) (s : Scope) (before : List Sets) (g : Block) : Type 0 where
+    pub first : Member many s before g.group
+    pub behind : Behind s g.behind
 
-  record Alternatively (s : Scope) (bs : Alts) : Type 0 where
-    groups : AllApartAlts ds bs
-    stays : Stay s (jumps_alts bs)
+  pub record Alternatively (s : Scope) (bs : Alts) : Type 0 where
+    pub groups : AllApartAlts ds bs
+    pub stays : Stay s (jumps_alts bs)
 
-  member : (many : Bool) (s : Scope) (before : List Sets) (a : Action) → member_faults ds many before a ≡ [] → Grouped (member_scope ds many s) (act_of a)
+  pub member : (many : Bool) (s : Scope) (before : List Sets) (a : Action) → member_faults ds many before a ≡ [] → Grouped (member_scope ds many s) (act_of a)
       → Member many s before (act_of a)
   member false s before a e g =
       record { groups = g.groups; stays = g.stays; goes_on = λ p. absurd (false≢true p); no_race = λ p. absurd (false≢true p) }
@@ -92,7 +92,7 @@ module _ (ds : Table) where
       }
 
   -- a member in front of those behind it
-  two_members :
+  pub two_members :
       (s : Scope) (before : List Sets) (x y : Act) → Member true s before x → Member true s (touched ds x ∷ before) y
       → Member true s before (par x y)
   unfolding touched sets_of may_stop stops_in jumps_out races_any
@@ -115,7 +115,7 @@ module _ (ds : Table) where
         no_race = λ z. no_races_union (touched ds x) (touched ds y) before (p.no_race refl) r.1;
       }
 
-  block_grouped : (many : Bool) (s : Scope) (before : List Sets) (g : Block) → Blocked many s before g → Grouped s (whole g)
+  pub block_grouped : (many : Bool) (s : Scope) (before : List Sets) (g : Block) → Blocked many s before g → Grouped s (whole g)
   unfolding jumps_out
   block_grouped many s before g h = by g.group g.behind h.first h.behind
     where
@@ -127,78 +127,7 @@ module _ (ds : Table) where
             stays = stay_join s (jumps_out x) (jumps_out y) (stay_member many s (jumps_out x) p.stays) q.stays;
           }
 
-  alternative : (c : Case) (s : Scope) (x : Act) (bs : Alts) → Grouped s x → Alternatively s bs → Alternatively s (alt c x bs)
+  pub alternative : (c : Case) (s : Scope) (x : Act) (bs : Alts) → Grouped s x → Alternatively s bs → Alternatively s (alt c x bs)
   unfolding jumps_alts
   alternative c s x bs p q =
       record { groups = (p.groups, q.groups); stays = stay_join s (jumps_out x) (jumps_alts bs) p.stays q.stays }
-
-  mutual
-    unfolding act_of groups alts_of counted_alts selected_alts more_alts jumps_out jumps_i jumps_alts group_faults members_of alternatives_groups counted_groups selected_groups more_groups
-
-    grouped : (a : Action) (s : Scope) → group_faults ds s a ≡ [] → Grouped s (act_of a)
-    grouped (block b a m) s e =
-        let rest = group_faults ds (member_scope ds (has_more m) s) a ++ members_of ds s (touched ds (act_of a) ∷ []) m in
-        let h = both_empty (member_faults ds (has_more m) [] a) rest e in
-        let k = both_empty (group_faults ds (member_scope ds (has_more m) s) a) (members_of ds s (touched ds (act_of a) ∷ []) m) h.1 in
-        let x = member (has_more m) s [] a h.0 (grouped a (member_scope ds (has_more m) s) k.0) in
-        block_grouped (has_more m) s [] (groups (act_of a) m) (members_grouped m (has_more m) s [] (act_of a) (λ p. p) x k.1)
-    grouped (labelled n b a) s e =
-        let g = grouped a (labelled_in n.word s) e in
-        record { groups = g.groups; stays = stay_without n.word s (jumps_out (act_of a)) g.stays }
-    grouped (if_then i o t w a) s e = let g = grouped a s e in record { groups = g.groups; stays = g.stays }
-    grouped (decode i o t w b v) s e = let g = alternatives_grouped v s e in record { groups = g.groups; stays = g.stays }
-    grouped (repeat i a) s e = let g = grouped a s e in record { groups = g.groups; stays = g.stays }
-    grouped (leave i n) s e = record { groups = tt; stays = stay_aim s n.word i.place e }
-    grouped (restart i n) s e = record { groups = tt; stays = stay_aim s n.word i.place e }
-    grouped (activate n l r) s e = record { groups = tt; stays = stay_none s }
-    grouped (stop i l r) s e = record { groups = tt; stays = stay_none s }
-    grouped (no_op i l r) s e = record { groups = tt; stays = stay_none s }
-    grouped (transfer n x b j q o t) s e = record { groups = tt; stays = stay_none s }
-
-    -- the member x of a group, and what follows it
-    members_grouped :
-        (m : Members) (many : Bool) (s : Scope) (before : List Sets) (x : Act) → (has_more m ≡ true → many ≡ true) → Member many s before x
-        → members_of ds s (touched ds x ∷ before) m ≡ [] → Blocked many s before (groups x m)
-    members_grouped (end i) many s before x h p e = record { first = p; behind = tt }
-    members_grouped (also i a m) many s before x h p e =
-        let so_far = touched ds x ∷ before in
-        let rest = group_faults ds (some []) a ++ members_of ds s (touched ds (act_of a) ∷ so_far) m in
-        let f = both_empty (member_faults ds true so_far a) rest e in
-        let k = both_empty (group_faults ds (some []) a) (members_of ds s (touched ds (act_of a) ∷ so_far) m) f.1 in
-        let y = member true s so_far a f.0 (grouped a (some []) k.0) in
-        let g = members_grouped m true s so_far (act_of a) (λ q. refl) y k.1 in
-        let z = two_members s before x (groups (act_of a) m).group (subst (λ b. Member b s before x) (h refl) p) g.first in
-        record { first = subst (λ b. Member b s before (par x (groups (act_of a) m).group)) (sym (h refl)) z; behind = g.behind }
-    members_grouped (next i a m) many s before x h p e =
-        let rest = group_faults ds (member_scope ds (has_more m) s) a ++ members_of ds s (touched ds (act_of a) ∷ []) m in
-        let f = both_empty (member_faults ds (has_more m) [] a) rest e in
-        let k = both_empty (group_faults ds (member_scope ds (has_more m) s) a) (members_of ds s (touched ds (act_of a) ∷ []) m) f.1 in
-        let y = member (has_more m) s [] a f.0 (grouped a (member_scope ds (has_more m) s) k.0) in
-        let g = members_grouped m (has_more m) s [] (act_of a) (λ q. q) y k.1 in
-        record { first = p; behind = block_grouped (has_more m) s [] (groups (act_of a) m) g }
-
-    alternatives_grouped : (v : Alternatives) (s : Scope) → alternatives_groups ds s v ≡ [] → Alternatively s (alts_of v)
-    alternatives_grouped (counted a c) s e =
-        let h = both_empty (group_faults ds s a) (counted_groups ds s c) e in
-        alternative (numbered 0) s (act_of a) (counted_alts 1 c) (grouped a s h.0) (counted_grouped c 1 s h.1)
-    alternatives_grouped (selected x) s e = selected_grouped x s e
-
-    counted_grouped : (c : Counted) (n : ℕ) (s : Scope) → counted_groups ds s c ≡ [] → Alternatively s (counted_alts n c)
-    counted_grouped (counted_end i) n s e = record { groups = tt; stays = stay_none s }
-    counted_grouped (counted_more i a c) n s e =
-        let h = both_empty (group_faults ds s a) (counted_groups ds s c) e in
-        alternative (numbered n) s (act_of a) (counted_alts (suc n) c) (grouped a s h.0) (counted_grouped c (suc n) s h.1)
-
-    selected_grouped : (v : Selected) (s : Scope) → selected_groups ds s v ≡ [] → Alternatively s (selected_alts v)
-    selected_grouped (select x b a m) s e =
-        let h = both_empty (group_faults ds s a) (more_groups ds s m) e in
-        alternative (listed (selector_items x)) s (act_of a) (more_alts m) (grouped a s h.0) (more_grouped m s h.1)
-    selected_grouped (otherwise i b a f) s e = alternative any_value s (act_of a) no_alts (grouped a s e) (record { groups = tt; stays = stay_none s })
-
-    more_grouped : (m : SelectedMore) (s : Scope) → more_groups ds s m ≡ [] → Alternatively s (more_alts m)
-    more_grouped (selected_end i) s e = record { groups = tt; stays = stay_none s }
-    more_grouped (selected_more i x) s e = selected_grouped x s e
-
-  -- the groups of a body
-  pub body_groups_lem : (a : Action) → group_faults ds none a ≡ [] → AllApart ds (act_of a)
-  body_groups_lem a e = (grouped a none e).groups

@@ -38,65 +38,9 @@ pub aimed : (n : Word) (ls : List Word) (m p : ℕ) → when (not (is_known n ls
 aimed n ls m p e = (not-false (is_known n ls) (when_empty (not (is_known n ls)) m p e), tt)
 
 -- a member in front of the members and groups behind it
-in_front :
+pub in_front :
     (ls : List Word) (x y : Act) (o : Option Act) → AllKnown ls (jumps_out x) → AllKnown ls (jumps_out (in_turn y o))
     → AllKnown ls (jumps_out (in_turn (par x y) o))
 unfolding jumps_out
 in_front ls x y none p q = all_known_join ls (jumps_out x) (jumps_out y) p q
 in_front ls x y (some z) p q = rw append_assoc (all_known_join ls (jumps_out x) (jumps_out y ++ jumps_out z) p q)
-
-module _ (outer : Word) (ds : Table) where
-  mutual
-    unfolding act_of groups alts_of counted_alts selected_alts more_alts jumps_out jumps_i jumps_alts action_faults members_faults inside_faults inside_counted inside_selected inside_more
-
-    pub jumps_aim : (a : Action) (ls : List Word) → action_faults outer ds ls a ≡ [] → AllKnown ls (jumps_out (act_of a))
-    jumps_aim (block b a m) ls e =
-        let h = both_empty (action_faults outer ds ls a) (members_faults outer ds ls m) e in members_aim m ls (act_of a) (jumps_aim a ls h.0) h.1
-    jumps_aim (labelled n b a) ls e = all_known_without n.word ls (jumps_out (act_of a)) (jumps_aim a (n.word ∷ ls) e)
-    jumps_aim (if_then i o t w a) ls e = jumps_aim a ls (both_empty (faults_in outer ds o t) (action_faults outer ds ls a) e).1
-    jumps_aim (decode i o t w b v) ls e =
-        let f = alternatives_faults (judge outer ds (expr_of o t)).bits v in
-        let h = both_empty (faults_in outer ds o t) (f ++ inside_faults outer ds ls v) e in
-        alternatives_aim v ls (both_empty f (inside_faults outer ds ls v) h.1).1
-    jumps_aim (repeat i a) ls e = jumps_aim a ls e
-    jumps_aim (leave i n) ls e = aimed n.word ls 44 i.place e
-    jumps_aim (restart i n) ls e = aimed n.word ls 44 i.place e
-    jumps_aim (activate n l r) ls e = tt
-    jumps_aim (stop i l r) ls e = tt
-    jumps_aim (no_op i l r) ls e = tt
-    jumps_aim (transfer n s b j x o t) ls e = tt
-
-    -- a member x, and what follows it
-    members_aim :
-        (m : Members) (ls : List Word) (x : Act) → AllKnown ls (jumps_out x) → members_faults outer ds ls m ≡ []
-        → AllKnown ls (jumps_out (whole (groups x m)))
-    members_aim (end i) ls x p e = p
-    members_aim (also i a m) ls x p e =
-        let h = both_empty (action_faults outer ds ls a) (members_faults outer ds ls m) e in
-        let g = groups (act_of a) m in
-        in_front ls x g.group g.behind p (members_aim m ls (act_of a) (jumps_aim a ls h.0) h.1)
-    members_aim (next i a m) ls x p e =
-        let h = both_empty (action_faults outer ds ls a) (members_faults outer ds ls m) e in
-        all_known_join ls (jumps_out x) (jumps_out (whole (groups (act_of a) m))) p (members_aim m ls (act_of a) (jumps_aim a ls h.0) h.1)
-
-    alternatives_aim : (v : Alternatives) (ls : List Word) → inside_faults outer ds ls v ≡ [] → AllKnown ls (jumps_alts (alts_of v))
-    alternatives_aim (counted a c) ls e =
-        let h = both_empty (action_faults outer ds ls a) (inside_counted outer ds ls c) e in
-        all_known_join ls (jumps_out (act_of a)) (jumps_alts (counted_alts 1 c)) (jumps_aim a ls h.0) (counted_aim c ls 1 h.1)
-    alternatives_aim (selected s) ls e = selected_aim s ls e
-
-    counted_aim : (c : Counted) (ls : List Word) (n : ℕ) → inside_counted outer ds ls c ≡ [] → AllKnown ls (jumps_alts (counted_alts n c))
-    counted_aim (counted_end i) ls n e = tt
-    counted_aim (counted_more i a c) ls n e =
-        let h = both_empty (action_faults outer ds ls a) (inside_counted outer ds ls c) e in
-        all_known_join ls (jumps_out (act_of a)) (jumps_alts (counted_alts (suc n) c)) (jumps_aim a ls h.0) (counted_aim c ls (suc n) h.1)
-
-    selected_aim : (s : Selected) (ls : List Word) → inside_selected outer ds ls s ≡ [] → AllKnown ls (jumps_alts (selected_alts s))
-    selected_aim (select s b a m) ls e =
-        let h = both_empty (action_faults outer ds ls a) (inside_more outer ds ls m) e in
-        all_known_join ls (jumps_out (act_of a)) (jumps_alts (more_alts m)) (jumps_aim a ls h.0) (more_aim m ls h.1)
-    selected_aim (otherwise i b a f) ls e = all_known_join ls (jumps_out (act_of a)) [] (jumps_aim a ls e) tt
-
-    more_aim : (m : SelectedMore) (ls : List Word) → inside_more outer ds ls m ≡ [] → AllKnown ls (jumps_alts (more_alts m))
-    more_aim (selected_end i) ls e = tt
-    more_aim (selected_more i s) ls e = selected_aim s ls e

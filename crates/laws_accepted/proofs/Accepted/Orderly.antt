@@ -17,8 +17,9 @@ use Rattle.rules.specs.Faults.Whole.{mains, begins_chain, chains, body_groups, g
 use Rattle.rules.specs.Answers.{accepted, judgement}
 use Rattle.laws_accepted.proofs.Accepted.Faultless.{both_empty, when_empty, each_empty, no_faults}
 use Rattle.laws_accepted.proofs.Accepted.Named.{none_known, FoundBody, found_body}
-use Rattle.laws_accepted.proofs.Accepted.Jumps.{all_known_without, jumps_aim}
-use Rattle.laws_accepted.proofs.Accepted.Grouped.{body_groups_lem}
+use Rattle.laws_accepted.proofs.Accepted.Jumps.{all_known_without}
+use Rattle.laws_accepted.proofs.Accepted.Aiming.{jumps_aim}
+use Rattle.laws_accepted.proofs.Accepted.Groups.{body_groups_lem}
 
 module _ (outer : Word) (ds : Table) (of40 : faults40 outer ds ds ≡ []) (of50 : faults50 ds ≡ []) where
   no_chains_groups : (chains ds ds ≡ []) × (groups_faults ds ds ≡ [])

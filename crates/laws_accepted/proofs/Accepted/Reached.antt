@@ -94,7 +94,7 @@ there_below (x ∷ ds) zero d e = omega arith
 there_below (x ∷ ds) (suc i) d e = omega (arith, there_below ds i d e)
 
 -- past all words is the carrier of no declaration
-owner_past : (ds : Table) (w : ℕ) → total_words ds ≤ w → owner_at ds w ≡ length ds
+pub owner_past : (ds : Table) (w : ℕ) → total_words ds ≤ w → owner_at ds w ≡ length ds
 unfolding owner_at total_words
 owner_past [] w h = refl
 owner_past (d ∷ ds) w h =
@@ -202,12 +202,3 @@ module _ {outer : Word} {ds : Table} (h : Declares outer ds) where
       number : (o : Option ℕ) → reach_number ds o ≡ some r → (d : Declared) × Carried ds d r
       number none z = impossible (cc)
       number (some i) z = at i (get_elem? ds i) refl z
-
-  -- a word that an access comes to is one of the carriers'
-  pub reach_inside : (n : Word) (r : Reach) (p v k : ℕ) → reach ds n ≡ some r → word_of p r.words v ≡ gives k → r.first + k < total_words ds
-  reach_inside n r p v k e w = by (dec_lt (r.first + k) (total_words ds))
-    where
-      by : Dec (r.first + k < total_words ds) → r.first + k < total_words ds
-      by (yes q) = q
-      by (no q) =
-          absurd (omega (arith, (name_carried n r e).1.owner, owned ds n r p v k e w, owner_past ds (r.first + k) (omega arith)))

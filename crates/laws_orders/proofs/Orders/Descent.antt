@@ -6,7 +6,8 @@ use Rattle.rules.specs.Steps.Evaluation.{Carriers, Outcome, gives, faulty}
 use Rattle.rules.specs.Steps.Control.{Live, Sig, ends, goes, leaves, restarts, stops, faults, Mv, leftmost, work, next}
 use Rattle.rules.specs.Steps.Runs.{Conf, running, finished, stopped, failed, Worked, perform, told, after, body_act, step, Steps}
 use Rattle.laws_orders.proofs.Orders.Foot.{Prints}
-use Rattle.laws_orders.proofs.Orders.Ok.{Env, OkL, OkS, BodiesOk, next_ok}
+use Rattle.laws_orders.proofs.Orders.Ok.{Env, OkL, OkS, BodiesOk}
+use Rattle.laws_orders.proofs.Orders.Next.{next_ok}
 use Rattle.laws_orders.proofs.Orders.Diamond.{Free, diamond}
 use Rattle.laws_orders.proofs.Orders.Effect.{Frames}
 use Rattle.rules.specs.Steps.Orders.{Ended, Faulted}

@@ -10,7 +10,8 @@ use Rattle.rules.specs.Steps.Control.{Live, one, seq_l, both, left, right, lab_l
 use Rattle.rules.specs.Steps.Control.{Sig, ends, goes, leaves, restarts, stops, faults, Mv, work}
 use Rattle.rules.specs.Steps.Control.{seq_s, both_l, both_r, left_s, right_s, lab_s, loop_s, call_s, next}
 use Rattle.laws_orders.proofs.Orders.Foot.{Foot, Indep, Prints, work_foot, Indep-sub, Indep-sym}
-use Rattle.laws_orders.proofs.Orders.Ok.{Env, under, member, in_body, OkL, OkS, BodiesOk, next_ok, work_sub}
+use Rattle.laws_orders.proofs.Orders.Ok.{Env, under, member, in_body, OkL, OkS, BodiesOk, work_sub}
+use Rattle.laws_orders.proofs.Orders.Next.{next_ok}
 
 -- a fault, whatever its number and place
 pub record Faulty (x : Sig) : Type 0 where

@@ -93,7 +93,7 @@ module _ (P : Prints) where
   start_ok E (ins i) h = h
 
   -- each context keeps what holds of what it is told
-  seq_s_ok : (E : Env) (a : Act) → OkA E a → (x : Sig) → OkS E x → OkS E (seq_s a x)
+  pub seq_s_ok : (E : Env) (a : Act) → OkA E a → (x : Sig) → OkS E x → OkS E (seq_s a x)
   seq_s_ok E a h ends k = start_ok E a h
   seq_s_ok E a h (goes r) k = (k, h)
   seq_s_ok E a h (leaves l) k = k
@@ -101,7 +101,7 @@ module _ (P : Prints) where
   seq_s_ok E a h stops k = k
   seq_s_ok E a h (faults m p) k = k
 
-  both_l_ok : (E : Env) (G H : Foot) → Two E.foot G H → (t : Live) → OkL (member H) t → (x : Sig) → OkS (member G) x → OkS E (both_l t x)
+  pub both_l_ok : (E : Env) (G H : Foot) → Two E.foot G H → (t : Live) → OkL (member H) t → (x : Sig) → OkS (member G) x → OkS E (both_l t x)
   both_l_ok E G H d t h ends k = (H, d.second, h)
   both_l_ok E G H d t h (goes r) k = (G, H, d, k, h)
   both_l_ok E G H d t h (leaves l) k = absurd k
@@ -109,7 +109,7 @@ module _ (P : Prints) where
   both_l_ok E G H d t h stops k = absurd (false≢true k)
   both_l_ok E G H d t h (faults m p) k = k
 
-  both_r_ok : (E : Env) (G H : Foot) → Two E.foot G H → (r : Live) → OkL (member G) r → (x : Sig) → OkS (member H) x → OkS E (both_r r x)
+  pub both_r_ok : (E : Env) (G H : Foot) → Two E.foot G H → (r : Live) → OkL (member G) r → (x : Sig) → OkS (member H) x → OkS E (both_r r x)
   both_r_ok E G H d r h ends k = (G, d.first, h)
   both_r_ok E G H d r h (goes t) k = (G, H, d, h, k)
   both_r_ok E G H d r h (leaves l) k = absurd k
@@ -117,7 +117,7 @@ module _ (P : Prints) where
   both_r_ok E G H d r h stops k = absurd (false≢true k)
   both_r_ok E G H d r h (faults m p) k = k
 
-  left_s_ok : (E : Env) (G : Foot) → Sub G E.foot → (x : Sig) → OkS (member G) x → OkS E (left_s x)
+  pub left_s_ok : (E : Env) (G : Foot) → Sub G E.foot → (x : Sig) → OkS (member G) x → OkS E (left_s x)
   left_s_ok E G d ends k = k
   left_s_ok E G d (goes r) k = (G, d, k)
   left_s_ok E G d (leaves l) k = absurd k
@@ -125,7 +125,7 @@ module _ (P : Prints) where
   left_s_ok E G d stops k = absurd (false≢true k)
   left_s_ok E G d (faults m p) k = k
 
-  right_s_ok : (E : Env) (G : Foot) → Sub G E.foot → (x : Sig) → OkS (member G) x → OkS E (right_s x)
+  pub right_s_ok : (E : Env) (G : Foot) → Sub G E.foot → (x : Sig) → OkS (member G) x → OkS E (right_s x)
   right_s_ok E G d ends k = k
   right_s_ok E G d (goes r) k = (G, d, k)
   right_s_ok E G d (leaves l) k = absurd k
@@ -138,7 +138,7 @@ module _ (P : Prints) where
   caught E x y A true h f k = h
   caught E x y A false h f k = f k
 
-  lab_s_ok : (E : Env) (l : Word) (a : Act) → OkA (under l E) a → (x : Sig) → OkS (under l E) x → OkS E (lab_s l a x)
+  pub lab_s_ok : (E : Env) (l : Word) (a : Act) → OkA (under l E) a → (x : Sig) → OkS (under l E) x → OkS E (lab_s l a x)
   lab_s_ok E l a h ends k = k
   lab_s_ok E l a h (goes r) k = (h, k)
   lab_s_ok E l a h (leaves j) k = caught E ends (leaves j) (In j E.scope) (same_bytes j l) tt (λ m. m) k
@@ -147,7 +147,7 @@ module _ (P : Prints) where
   lab_s_ok E l a h stops k = k
   lab_s_ok E l a h (faults m p) k = k
 
-  loop_s_ok : (E : Env) (a : Act) → OkA E a → (x : Sig) → OkS E x → OkS E (loop_s a x)
+  pub loop_s_ok : (E : Env) (a : Act) → OkA E a → (x : Sig) → OkS E x → OkS E (loop_s a x)
   loop_s_ok E a h ends k = h
   loop_s_ok E a h (goes r) k = (h, k)
   loop_s_ok E a h (leaves l) k = k
@@ -206,7 +206,7 @@ module _ (P : Prints) where
       pub call_ok : (E : Env) (p : Word) → Calls E p → OkL E (call_l p (start (body p)))
       call_ok E p c = (c, start_ok (in_body p) (body p) (bodies p))
 
-      call_s_ok : (E : Env) (p : Word) → Calls E p → (x : Sig) → OkS (in_body p) x → OkS E (call_s body p x)
+      pub call_s_ok : (E : Env) (p : Word) → Calls E p → (x : Sig) → OkS (in_body p) x → OkS E (call_s body p x)
       call_s_ok E p c ends k = k
       call_s_ok E p c (goes r) k = (c, k)
       call_s_ok E p c (leaves j) k = caught E ends lost ⊥ (same_bytes j p) tt (λ m. tt) k
@@ -214,7 +214,7 @@ module _ (P : Prints) where
       call_s_ok E p c stops k = c.stopping k
       call_s_ok E p c (faults m q) k = k
 
-      next_i_ok : (E : Env) (i : Ins) (v : ℕ) → OkI E i → OkS E (next_i body i v)
+      pub next_i_ok : (E : Env) (i : Ins) (v : ℕ) → OkI E i → OkS E (next_i body i v)
       unfolding next_i
       next_i_ok E (iff e a) zero h = tt
       next_i_ok E (iff e a) (suc v) h = start_ok E a h.1
@@ -226,15 +226,3 @@ module _ (P : Prints) where
       next_i_ok E stop v h = h
       next_i_ok E noop v h = tt
       next_i_ok E (transfer d e) v h = tt
-
-      -- steps keep well-formedness; and no jump or stop gets out of a member
-      pub next_ok : (E : Env) (r : Live) (m : Mv r) (v : ℕ) → OkL E r → OkS E (next body r m v)
-      next_ok E (one i) m v h = next_i_ok E i v h
-      next_ok E (seq_l r a) m v h = seq_s_ok E a h.1 (next body r m v) (next_ok E r m v h.0)
-      next_ok E (both r t) (inl m) v h = both_l_ok E h.0 h.1 h.2 t h.4 (next body r m v) (next_ok (member h.0) r m v h.3)
-      next_ok E (both r t) (inr m) v h = both_r_ok E h.0 h.1 h.2 r h.3 (next body t m v) (next_ok (member h.1) t m v h.4)
-      next_ok E (left r) m v h = left_s_ok E h.0 h.1 (next body r m v) (next_ok (member h.0) r m v h.2)
-      next_ok E (right r) m v h = right_s_ok E h.0 h.1 (next body r m v) (next_ok (member h.0) r m v h.2)
-      next_ok E (lab_l l a r) m v h = lab_s_ok E l a h.0 (next body r m v) (next_ok (under l E) r m v h.1)
-      next_ok E (loop_l a r) m v h = loop_s_ok E a h.0 (next body r m v) (next_ok E r m v h.1)
-      next_ok E (call_l p r) m v h = call_s_ok E p h.0 (next body r m v) (next_ok (in_body p) r m v h.1)

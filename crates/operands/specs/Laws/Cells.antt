@@ -17,7 +17,8 @@ use Rattle.rules.specs.Steps.Evaluation.{word_or70, word_of}
 use Rattle.laws_orders.proofs.Orders.Tests.{impossible}
 use Rattle.laws_accepted.specs.Cited.Declared.{Declares}
 use Rattle.laws_accepted.proofs.Accepted.Declared.{near_words, few_words}
-use Rattle.laws_accepted.proofs.Accepted.Reached.{declared_carried, reach_inside}
+use Rattle.laws_accepted.proofs.Accepted.Reached.{declared_carried}
+use Rattle.laws_accepted.proofs.Accepted.Within.{reach_inside}
 use Rattle.promise.specs.Accesses.{left_name, right_name, access_cell}
 use Rattle.operands.specs.Cells.{cell_first, cell_low, cell_bits, cell_left, cell_right, Parts}
 
