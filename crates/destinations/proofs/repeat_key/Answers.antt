@@ -13,8 +13,7 @@ use Rattle.destinations.specs.declared.owners.Storage.{Storage}
 use Rattle.destinations.specs.declared.owners.Storage.TheVariants.{Carrier, Nothing}
 use Rattle.destinations.specs.Carriers.{holds}
 use Rattle.destinations.specs.Destinations.{repeats}
-use Rattle.destinations.proofs.repeat_key.Statement.{statement}
-use Rattle.destinations.proofs.repeat_key.Tie as tie
+use Rattle.destinations.proofs.repeat_key.Goals as goal
 
 module _ (w : List ℕ) (p : ℕ) {t : Storage} where
   nothing : t ≡ Nothing → no_key ≡ least_key (when (repeats w t) 46 p)
@@ -30,15 +29,11 @@ module _ (w : List ℕ) (p : ℕ) {t : Storage} where
     unfolding least_by
     again h q r eq l er = rw (told, sym e ∙ not-false b h) (omega arith)
 
-pub repeat_key_spec : {M : Type 1} → statement M
-repeat_key_spec =
-    tie.close
-    (tie.spec
-    (λ c. search rules)
-    (λ c. search rules)
-    (λ c κs. search rules)
-    (λ c. search (rules, new))
-    (λ c κs. search rules)
-    (λ c κs. search rules)
-    (λ c. search (rules, nothing))
-    (λ c. search (rules, again)))
+pub returns-then-not-has : goal.returns-then-not-has
+returns-then-not-has c = search (rules, new)
+
+pub returns-in-Nothing : goal.returns-in-Nothing
+returns-in-Nothing c = search (rules, nothing)
+
+pub returns-else-not-has : goal.returns-else-not-has
+returns-else-not-has c = search (rules, again)

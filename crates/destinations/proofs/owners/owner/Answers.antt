@@ -22,9 +22,8 @@ use Rattle.accesses.specs.Names.{is_missing}
 use Rattle.accesses.specs.Laws.Names.{missing_bits, present_bits}
 use Rattle.destinations.specs.Owners.{NameHere, Owns}
 use Rattle.destinations.specs.Laws.Owners.{owner_none, owner_found, owner_bitless, owner_own, owner_storage, owner_under}
-use Rattle.destinations.proofs.owners.owner.Statement.{statement}
-use Rattle.destinations.proofs.owners.owner.Tie as tie
 use Rattle.records.specs.Holds.{inside_cell}
+use Rattle.destinations.proofs.owners.owner.Goals as goal
 
 no_target : (ts : Tokens) (r : ℕ) (g : Option Target) → TargetAt ts r g → r ≡ 0 → g ≡ none
 no_target ts r none a z = refl
@@ -88,21 +87,32 @@ module _ {records values decls : List ℕ} {i : ℕ} where
           storage : m ≡ false → (v : NameHere records values decls i) → Owns v (Carrier k)
           storage t v = let b = present_bits _ (sym (missing v) ∙ t) in record { are = owner_own v e h (untargeted v) b.0 b.1; small = small v }
 
-pub owner_spec : {M : Type 1} → statement M
-owner_spec =
-    tie.close
-    (tie.spec
-    (λ c κs. search rules)
-    (λ c. search (rules, undeclared))
-    (λ c. search rules)
-    (λ c κs. search (rules, cell_room))
-    (λ c. search rules)
-    (λ c κs. some_view c.before.before.inside16-at.ensures c.before.if1.false c.get16.ensures c.before.before.before.before.before.before.requires)
-    (λ c κs. target_room c.before.before.before.before.inside16-at.ensures c.before.before.before.if1.false c.before.before.get16.ensures c.before.target-of.ensures c.if2.true c.before.before.before.before.before.before.before.before.requires)
-    (λ c. record { fits = omega (arith, under_small c.before.before.before.before.before.inside16-at.ensures c.before.before.before.before.if1.false c.before.before.before.get16.ensures c.before.before.target-of.ensures c.before.if2.true c.inside16-at2.ensures c.before.before.before.before.before.before.before.before.before.requires) })
-    (λ c. mapping c.before.before.before.before.before.inside16-at.ensures c.before.before.before.before.if1.false c.before.before.before.get16.ensures c.before.before.target-of.ensures c.before.if2.true c.inside16-at2.ensures)
-    (λ c κs. view c.before.before.before.before.inside16-at.ensures c.before.before.before.if1.false c.before.before.get16.ensures c.before.before.before.before.before.before.before.before.requires)
-    (λ c κs. search rules)
-    (λ c. bitless c.before.before.before.before.before.before.before.inside16-at.ensures c.before.before.before.before.before.before.if1.false c.before.before.before.before.before.get16.ensures c.before.before.before.before.target-of.ensures c.before.before.before.if2.false c.before.before.bits_of.ensures c.before.is-missing.ensures c.if3.true)
-    (λ c. record { fits = omega (arith, small c.before.before.before.before.before.before.before.inside16-at.ensures c.before.before.before.before.before.before.if1.false c.before.before.before.before.before.before.before.before.before.before.before.requires) })
-    (λ c. storage c.before.before.before.before.before.before.before.inside16-at.ensures c.before.before.before.before.before.before.if1.false c.before.before.before.before.before.get16.ensures c.before.before.before.before.target-of.ensures c.before.before.before.if2.false c.before.before.bits_of.ensures c.before.is-missing.ensures c.if3.false))
+pub returns-then-number-ge-OUTER_ONLY : goal.returns-then-number-ge-OUTER_ONLY
+returns-then-number-ge-OUTER_ONLY c = search (rules, undeclared)
+
+pub get16-d-requires : goal.get16-d-requires
+get16-d-requires c = search (rules, cell_room)
+
+pub target_of-target-requires : goal.target_of-target-requires
+target_of-target-requires c = some_view c.inside16_at-number.ensures c.if-number-ge-OUTER_ONLY.false c.get16-d.ensures c.requires
+
+pub inside16_at-requires : goal.inside16_at-requires
+inside16_at-requires c = target_room c.inside16_at-number.ensures c.if-number-ge-OUTER_ONLY.false c.get16-d.ensures c.target_of-target.ensures c.if-target-ne0.true c.requires
+
+pub overflow_cast-result : goal.overflow_cast-result
+overflow_cast-result c = record { fits = omega (arith, under_small c.inside16_at-number.ensures c.if-number-ge-OUTER_ONLY.false c.get16-d.ensures c.target_of-target.ensures c.if-target-ne0.true c.inside16_at.ensures c.requires) }
+
+pub returns-then-target-ne0 : goal.returns-then-target-ne0
+returns-then-target-ne0 c = mapping c.inside16_at-number.ensures c.if-number-ge-OUTER_ONLY.false c.get16-d.ensures c.target_of-target.ensures c.if-target-ne0.true c.inside16_at.ensures
+
+pub bits_of-requires : goal.bits_of-requires
+bits_of-requires c = view c.inside16_at-number.ensures c.if-number-ge-OUTER_ONLY.false c.get16-d.ensures c.requires
+
+pub returns-then-is_missing : goal.returns-then-is_missing
+returns-then-is_missing c = bitless c.inside16_at-number.ensures c.if-number-ge-OUTER_ONLY.false c.get16-d.ensures c.target_of-target.ensures c.if-target-ne0.false c.bits_of.ensures c.is_missing.ensures c.if-is_missing.true
+
+pub overflow_cast-result-2 : goal.overflow_cast-result-2
+overflow_cast-result-2 c = record { fits = omega (arith, small c.inside16_at-number.ensures c.if-number-ge-OUTER_ONLY.false c.requires) }
+
+pub returns : goal.returns
+returns c = storage c.inside16_at-number.ensures c.if-number-ge-OUTER_ONLY.false c.get16-d.ensures c.target_of-target.ensures c.if-target-ne0.false c.bits_of.ensures c.is_missing.ensures c.if-is_missing.false

@@ -5,7 +5,7 @@ use borrow.Author.Rules.{rules}
 use native.Mathlib.Omega.{arith}
 use mathlib.Core.Path.{◌≡◌, refl, ap, ◌∙◌}
 use mathlib.Core.List.{List}
-use Prim.Native.Nat.{ℕ, ◌+◌, ◌-◌, ◌*◌, ◌<◌, ◌≤◌, min}
+use Prim.Native.Nat.{ℕ, ◌+◌, ◌*◌, ◌<◌, ◌≤◌, min}
 use lib.ListN.{length, replicate}
 use Rattle.rules.specs.Text.Tokens.{At, kind_no, Info, Op, op_kind, join}
 use Rattle.rules.specs.Faults.Fault.{when}
@@ -21,14 +21,8 @@ use Rattle.expressions.specs.Expressions.{AccessAt, AccessAnswer}
 use Rattle.destinations.specs.Owners.{NameHere, Owns}
 use Rattle.destinations.specs.Destinations.{DestinationAt, DestinationAnswer, repeats, stored}
 use Rattle.destinations.specs.Laws.Destinations.{access_name, Joining, first_part, joining_begun, token_within, token_room, another, joining_ended, next_part, operator_place, place_fits, name_fits, part_weighs, joining_more}
-use Rattle.destinations.proofs.destination.Statement.{statement}
-use Rattle.destinations.proofs.destination.Tie as tie
-
-record Inv (records values decls : List ℕ) (i depth : ℕ) (kept : Carriers) (weight : Weight) (twice p : ℕ) : Type 0 where
-  pub room : 8 * p + 8 ≤ length records
-  pub small : p < 8192
-  pub short : weight.bits ≤ 64
-  pub all : (v : DestinationAt records values decls i depth) → Joining v weight.key weight.bits kept.words twice p
+use Rattle.destinations.proofs.destination.Invariants.{Inv}
+use Rattle.destinations.proofs.destination.Goals as goal
 
 module _ {records values decls : List ℕ} {i depth : ℕ} where
   holding : {kept : Carriers} {weight : Weight} {twice p : ℕ} → ((v : DestinationAt records values decls i depth) → Joining v weight.key weight.bits kept.words twice p)
@@ -91,33 +85,32 @@ module _ {records values decls : List ℕ} {i depth : ℕ} where
             (g join q.info (inv.all v).value _ refl (ep ∙ operator_place v (inv.all v) q) (inv.all v).weighs (part_weighs v (inv.all v) q a))
             t (o (access_name (next_part v (inv.all v) q))) ey et)
 
-abbrev invariant-loop : tie.invariant-loop
-invariant-loop records values decls i depth kept₀ weight₀ twice₀ at₀ kept weight twice at = Inv records values decls i depth kept weight twice at
+pub access-first-requires : goal.access-first-requires
+access-first-requires c = search (rules, first_access)
 
-abbrev decreases-loop : tie.decreases-loop
-decreases-loop records values decls i depth kept₀ weight₀ twice₀ at₀ kept weight twice at = length records - at
+pub owner-to-requires : goal.owner-to-requires
+owner-to-requires c = search (rules, first_name)
 
-pub destination_spec : {M : Type 1} → statement M
-destination_spec =
-    tie.close
-    (tie.spec
-    invariant-loop
-    decreases-loop
-    (λ c κs. search (rules, first_access))
-    (λ c κs. search (rules, first_name))
-    (λ c κs. search rules)
-    (λ c κs. search rules)
-    (λ c. begin c.before.before.before.access.ensures c.before.before.owner.ensures c.before.no-carriers.ensures c.with-storage.ensures c.before.before.before.before.before.before.before.requires)
-    (λ c κs. search rules)
-    (λ c κs. search rules)
-    (λ c. ended c.before.before.before.loop.invariant c.before.before.kind_at.ensures c.before.if1.true _ c.earlier.ensures)
-    (λ c. search rules)
-    (λ c κs. next_access c.before.before.loop.invariant c.before.kind_at.ensures c.if1.false c.before.before.before.before.before.before.before.before.before.before.requires)
-    (λ c κs. search rules)
-    (λ c κs. combined_fits c.before.before.before.before.loop.invariant c.before.before.before.kind_at.ensures c.before.before.if1.false c.before.access2.ensures _ c.place_at.ensures c.before.before.before.before.before.before.before.before.before.before.before.before.requires)
-    (λ c κs. next_name c.before.before.before.before.before.loop.invariant c.before.before.before.before.kind_at.ensures c.before.before.before.if1.false c.before.before.before.before.before.before.before.before.before.before.before.before.before.requires)
-    (λ c κs. named_fits c.before.before.before.before.before.before.loop.invariant c.before.before.before.before.before.kind_at.ensures c.before.before.before.before.if1.false c.before.before.before.before.before.before.before.before.before.before.before.before.before.before.requires)
-    (λ c κs. search rules)
-    (λ c κs. search rules)
-    (λ c. omega (arith, further c.before.before.before.before.before.before.before.before.before.loop.invariant c.before.before.before.before.before.before.before.before.kind_at.ensures c.before.before.before.before.before.before.before.if1.false c.before.before.before.before.before.before.access2.ensures c.before.before.before.before.before.before.before.before.before.before.before.before.before.before.before.before.before.requires, c.before.before.before.before.before.before.before.before.before.loop.invariant.room))
-    (λ c. again c.before.before.before.before.before.before.before.before.before.loop.invariant c.before.before.before.before.before.before.before.before.kind_at.ensures c.before.before.before.before.before.before.before.if1.false c.before.before.before.before.before.before.access2.ensures c.before.before.before.before.before.place_at.ensures c.before.before.before.before.combined.ensures c.before.before.before.owner2.ensures c.before.before.repeat-key.ensures c.before.earlier2.ensures c.with-storage2.ensures c.before.before.before.before.before.before.before.before.before.before.before.before.before.before.before.before.before.requires))
+pub loop-kept-init : goal.loop-kept-init
+loop-kept-init c = begin c.access-first.ensures c.owner-to.ensures c.no_carriers.ensures c.with_storage-kept.ensures c.requires
+
+pub returns-then-kind_at-ne-AT : goal.returns-then-kind_at-ne-AT
+returns-then-kind_at-ne-AT c = ended c.loop-kept.invariant c.kind_at.ensures c.if-kind_at-ne-AT.true _ c.earlier.ensures
+
+pub access-part-requires : goal.access-part-requires
+access-part-requires c = next_access c.loop-kept.invariant c.kind_at.ensures c.if-kind_at-ne-AT.false c.requires
+
+pub combined-weight-requires : goal.combined-weight-requires
+combined-weight-requires c = combined_fits c.loop-kept.invariant c.kind_at.ensures c.if-kind_at-ne-AT.false c.access-part.ensures _ c.place_at.ensures c.requires
+
+pub owner-again-requires : goal.owner-again-requires
+owner-again-requires c = next_name c.loop-kept.invariant c.kind_at.ensures c.if-kind_at-ne-AT.false c.requires
+
+pub repeat_key-requires : goal.repeat_key-requires
+repeat_key-requires c = named_fits c.loop-kept.invariant c.kind_at.ensures c.if-kind_at-ne-AT.false c.requires
+
+pub loop-kept-smaller : goal.loop-kept-smaller
+loop-kept-smaller c = omega (arith, further c.loop-kept.invariant c.kind_at.ensures c.if-kind_at-ne-AT.false c.access-part.ensures c.requires, c.loop-kept.invariant.room)
+
+pub loop-kept-preserved : goal.loop-kept-preserved
+loop-kept-preserved c = again c.loop-kept.invariant c.kind_at.ensures c.if-kind_at-ne-AT.false c.access-part.ensures c.place_at.ensures c.combined-weight.ensures c.owner-again.ensures c.repeat_key.ensures c.earlier-twice.ensures c.with_storage-kept-in-loop-kept.ensures c.requires
