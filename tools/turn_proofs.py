@@ -332,7 +332,7 @@ def turn(root, crate, path, function, names):
         answers = [cited_at(a, placed) for a in answers]
         used = used + [f"use Rattle.{crate}.proofs.{function}.Goals.{{{', '.join(sorted(set(placed.values())))}}}"]
     helpers = [i for i in rest if i not in taken]
-    helpers = [i for i in helpers if not re.match(r"^(?:--[^\n]*\n)*(?:pub |abbrev |unfoldable )*\S+ : tie\.(invariant|decreases)", i)]
+    helpers = [i for i in helpers if not re.match(r"^(?:--[^\n]*\n)*(?:pub |abbrev |unfoldable )*\S+ : tie\.(invariant|decreases|Need-same[-_]length)", i)]
     write(root, crate, path, function, head, used, helpers, invariants, answers)
     return ("left: " + "; ".join(left)) if left else None
 
@@ -523,6 +523,12 @@ def is_leading(arg, kind, new, variables, changed, defs):
     return invariant_of(kind, new, arg, variables, changed, defs) is not None
 
 
+def sort_of(goal):
+    """What a goal asks for, of those that both forms name alike."""
+    m = re.match(r"(returns)(?:-|$)|.*-(init|preserved|smaller|requires)(?:-\d+)?$", norm(goal).replace("_", "-"))
+    return m and (m[1] or m[2])
+
+
 def aligned(given, names, defs):
     """One answer for each goal of today, in order: those that only searched may stand for goals that are settled by themselves now."""
     needs = names.needs
@@ -549,6 +555,8 @@ def aligned(given, names, defs):
             return 60
         if arg in defs:
             need = re.match(r"tie\.Need-(\S+)", defs[arg][1])
+            if need and sort_of(need[1]) != sort_of(needs[j][1]):
+                return 40
             if need and norm(need[1]) not in (norm(goal), norm(needs[j][1])):
                 return 5
         left = []
@@ -567,6 +575,10 @@ def aligned(given, names, defs):
                 lost += min(3, 0.3 * min(away)) if away else 3
         return lost
 
+    def drops(arg):
+        """What it costs to leave an answer out: nothing where today's check settles such goals by itself."""
+        return 0.1 if SEARCH.match(arg) or arg in defs and re.match(r"tie\.Need-same[-_]length", defs[arg][1]) else 50
+
     skip = 2
     best = {(0, 0): (0, None)}
     for i in range(n + 1):
@@ -578,7 +590,7 @@ def aligned(given, names, defs):
             if i < n and j < m:
                 moves.append((i + 1, j + 1, cost(i, j)))
             if i < n:
-                moves.append((i + 1, j, 0.1 if SEARCH.match(given[i]) else 50))
+                moves.append((i + 1, j, drops(given[i])))
             if j < m:
                 moves.append((i, j + 1, skip))
             for a, b, extra in moves:

@@ -1,9 +1,6 @@
 -- `images::images::write` meets its contract: the blocks passed stand in the image.
 -- Assumes nothing.
 use borrow.Author.Rules.{rules}
-use Prim.Native.Nat.{ℕ, ◌-◌, ◌*◌}
-use mathlib.Core.Path.{sym, ap, ◌∙◌}
-use Rattle.rules.specs.Images.{block_size}
 use native.Mathlib.Omega.{arith}
 use Rattle.images.specs.Laws.Turns.{none_written, block_whole, part_short, more_written, all_written}
 use Rattle.images.proofs.images.write.Goals as goal
@@ -16,14 +13,10 @@ slice_bounds-put_block-end-in-loop-number c = omega (arith, c.loop-number.invari
 
 pub put_block-requires : goal.put_block-requires
 put_block-requires c =
-    let v = c.loop-number.invariant in
-    (block_whole v (omega arith) _ c.used_in.ensures, (omega (arith, v.passes.few, v.passes.within), part_short v (omega arith) _ c.used_in.ensures))
-
-pub loop-number-smaller : goal.loop-number-smaller
-loop-number-smaller c = more_written c.loop-number.invariant (omega arith) _ c.used_in.ensures _ c.put_block.ensures
+    (block_whole c.loop-number.invariant (omega arith) _ c.used_in.ensures, (omega (arith, c.loop-number.invariant.passes.few, c.loop-number.invariant.passes.within), part_short c.loop-number.invariant (omega arith) _ c.used_in.ensures))
 
 pub loop-number-preserved : goal.loop-number-preserved
-loop-number-preserved c = c.loop-number.invariant.passes.long ∙ ap (λ (k : ℕ). block_size * k) c.loop-number.invariant.passes.counted ∙ sym c.requires.1
+loop-number-preserved c = more_written c.loop-number.invariant (omega arith) _ c.used_in.ensures _ c.put_block.ensures
 
 pub returns : goal.returns
 returns c = all_written c.loop-number.invariant (omega arith)
