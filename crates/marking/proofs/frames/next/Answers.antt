@@ -1,0 +1,15 @@
+-- `marking::frames::next` meets its contract.
+use borrow.Author.Rules.{rules}
+use mathlib.Core.Path.{refl}
+use Rattle.marking.specs.Machine.{next}
+use Rattle.marking.specs.Laws.Holding.{none_shown, outer_low, next_shown}
+use Rattle.marking.proofs.frames.next.Goals as goal
+
+pub returns-then-depth-eq0 : goal.returns-then-depth-eq0
+returns-then-depth-eq0 c = none_shown (λ fs z. next fs _ _ z) (λ z. refl) (search rules) (search rules)
+
+pub begin-requires : goal.begin-requires
+begin-requires c = search (rules, outer_low)
+
+pub returns : goal.returns
+returns c = next_shown c.if-depth-eq0.false c.get16-outer.ensures _ (search rules) c.begin.ensures
