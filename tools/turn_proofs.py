@@ -214,6 +214,8 @@ def named(body, names):
         leading, last = m[1], m[2]
     if last.startswith("(") and balanced(last):
         parts = top_level(last[1:-1], ",")
+        if not parts[-1].strip():
+            parts.pop()
         while 1 < len(parts) < len(names) and parts[-1].strip().startswith("(") and balanced(parts[-1].strip()):
             more = top_level(parts[-1].strip()[1:-1], ",")
             if len(more) < 2:
