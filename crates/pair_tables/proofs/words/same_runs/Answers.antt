@@ -12,12 +12,8 @@ use Rattle.rules.specs.Text.Bytes.{fold}
 use Rattle.rules.specs.Text.Scan.{same_bytes}
 use Rattle.records.specs.Holds.{folded_at}
 use Rattle.pair_tables.specs.Laws.Words.{same_next, differ_next, same_end}
-use Rattle.pair_tables.proofs.words.same_runs.Statement.{statement}
-use Rattle.pair_tables.proofs.words.same_runs.Tie as tie
-
-record Inv (text₀ text₁ : List ℕ) (a b n k : ℕ) : Type 0 where
-  pub within : k ≤ n
-  pub left : same_bytes (folded_at text₀ (a + k) (n - k)) (folded_at text₁ (b + k) (n - k)) ≡ same_bytes (folded_at text₀ a n) (folded_at text₁ b n)
+use Rattle.pair_tables.proofs.words.same_runs.Invariants.{Inv}
+use Rattle.pair_tables.proofs.words.same_runs.Goals as goal
 
 module _ {text₀ text₁ : List ℕ} {a b n k : ℕ} (inv : Inv text₀ text₁ a b n k) (ha : a + n ≤ length text₀) (hb : b + n ≤ length text₁) where
   differ : {x y : ℕ} → k < n → x ≡ fold (get_or text₀ (a + k) 0) → y ≡ fold (get_or text₁ (b + k) 0) → (x ≡ y → ⊥)
@@ -33,38 +29,21 @@ module _ {text₀ text₁ : List ℕ} {a b n k : ℕ} (inv : Inv text₀ text₁
   ended : n ≤ k → true ≡ same_bytes (folded_at text₀ a n) (folded_at text₁ b n)
   ended h = sym (same_end text₀ text₁ a b n k h) ∙ inv.left
 
-abbrev invariant-loop : tie.invariant-loop
-invariant-loop text₀ text₁ a b n k₀ k = Inv text₀ text₁ a b n k
-
-abbrev decreases-loop : tie.decreases-loop
-decreases-loop text₀ text₁ a b n k₀ k = n - k
-
 start : (text₀ text₁ : List ℕ) (a b n : ℕ) → Inv text₀ text₁ a b n 0
 start text₀ text₁ a b n = record { within = omega arith; left = simp (add-zero, sub-zero) }
 
-pub same_runs_spec : {M : Type 1} → statement M
-same_runs_spec =
-    tie.close
-    (tie.spec
-    invariant-loop
-    decreases-loop
-    (λ c. search (rules, start))
-    (λ c. search rules)
-    (λ c. search rules)
-    (λ c κs. search rules)
-    (λ c. search rules)
-    (λ c. search rules)
-    (λ c κs. search rules)
-    (λ c.
-    let s = c.before.before.before in
-    let r = s.before.before.before.before.before.before in
-    differ s.before.before.before.loop.invariant r.requires.0 r.requires.1 s.before.before.loop-test.true s.upper.ensures c.before.upper2.ensures
-    c.if1.true)
-    (λ c. search rules)
-    (λ c. search rules)
-    (λ c.
-    let s = c.before.before.before in
-    let r = s.before.before.before.before.before.before in
-    passed s.before.before.before.loop.invariant r.requires.0 r.requires.1 s.before.before.loop-test.true s.upper.ensures c.before.upper2.ensures
-    c.if1.false)
-    (λ c. search (rules, ended)))
+pub loop-k-init : goal.loop-k-init
+loop-k-init c = search (rules, start)
+
+pub returns-then-x-y : goal.returns-then-x-y
+returns-then-x-y c =
+    differ c.loop-k.invariant c.requires.0 c.requires.1 c.loop-k-test.true c.upper-x.ensures c.upper-y.ensures
+    c.if-x-y.true
+
+pub loop-k-preserved : goal.loop-k-preserved
+loop-k-preserved c =
+    passed c.loop-k.invariant c.requires.0 c.requires.1 c.loop-k-test.true c.upper-x.ensures c.upper-y.ensures
+    c.if-x-y.false
+
+pub returns : goal.returns
+returns c = search (rules, ended)

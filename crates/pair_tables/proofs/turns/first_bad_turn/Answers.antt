@@ -1,0 +1,18 @@
+-- `pair_tables::turns::first_bad_turn` meets its contract: none of the first i turns is bad.
+-- Assumes nothing.
+use borrow.Author.Rules.{rules}
+use Prim.Native.Nat.{◌-◌}
+use Rattle.pair_tables.specs.Laws.Turns.{none_judged, bad_here, good_more, all_good}
+use Rattle.pair_tables.proofs.turns.first_bad_turn.Goals as goal
+
+pub loop-i-init : goal.loop-i-init
+loop-i-init c = search (rules, none_judged)
+
+pub returns-then-turns-i-gt-LAST_SIDE : goal.returns-then-turns-i-gt-LAST_SIDE
+returns-then-turns-i-gt-LAST_SIDE c = search (rules, bad_here)
+
+pub loop-i-preserved : goal.loop-i-preserved
+loop-i-preserved c = search (rules, good_more)
+
+pub returns : goal.returns
+returns c = search (rules, all_good)
