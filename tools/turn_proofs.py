@@ -12,6 +12,8 @@ import sys
 import tempfile
 
 SEARCH = re.compile(r"^\(?\s*λ c( κs)?\. search rules\s*\)?$")
+# what a slice's length at a return was proved by
+LONG = re.compile(r"\(\s*λ c\. (?:omega \(arith, c(?:\.before)*\.[^.\s]+\.auto(?:\.\d)+, c(?:\.before)*\.loop\d*\.invariant(?:\.\d)*\)|c(?:\.before)*\.loop\d*\.invariant(?:\.\d|\.long)*)\s*\)$")
 NO_ANSWER = "(λ c. search rules )"
 NAME = r"[^\s(){}\[\];,.@:]+"
 
@@ -535,7 +537,7 @@ def aligned(given, names, defs):
     """One answer for each goal of today, in order: those that only searched may stand for goals that are settled by themselves now."""
     needs = names.needs
     n, m = len(given), len(needs)
-    shaped = [j for j in range(m) if re.match(r"shape_of|enum_known", norm(needs[j][1]))]
+    shaped = [j for j in range(m) if re.match(r"shape_of|enum_known|enum_told", norm(needs[j][1]))]
     if n == m and all(SEARCH.match(given[j]) for j in shaped):
         return given
 
@@ -552,9 +554,11 @@ def aligned(given, names, defs):
         if j in shaped:
             # what a lent value is made of settles itself
             return 60
-        if not asks and re.match(r"\(\s*λ c [^.]", arg) and re.match(r"(?:overflow|nonzero|bounds|slice_bounds)_|.*_smaller$", norm(needs[j][1])):
-            # an order is no function
-            return 60
+        if LONG.match(arg):
+            return 4
+        if re.match(r"(?:overflow|nonzero|bounds|slice_bounds)_|.*_smaller$", norm(needs[j][1])) and (not asks and re.match(r"\(\s*λ c [^.]", arg) or is_tuple(arg)):
+            # an order is no function, and no tuple
+            return 200
         if arg in defs:
             need = re.match(r"tie\.Need-(\S+)", defs[arg][1])
             if need and sort_of(need[1]) != sort_of(needs[j][1]):
@@ -579,7 +583,7 @@ def aligned(given, names, defs):
 
     def drops(arg):
         """What it costs to leave an answer out: nothing where today's check settles such goals by itself."""
-        return 0.1 if SEARCH.match(arg) or arg in defs and re.match(r"tie\.Need-same[-_]length", defs[arg][1]) else 50
+        return 0.1 if SEARCH.match(arg) or arg in defs and re.match(r"tie\.Need-same[-_]length", defs[arg][1]) else 3 if LONG.match(arg) else 50
 
     skip = 2
     best = {(0, 0): (0, None)}
@@ -611,6 +615,11 @@ def aligned(given, names, defs):
             print(f"    an answer finds no goal: {given[was[0]][:100]}")
         at = was
     return out[::-1]
+
+
+def is_tuple(arg):
+    m = re.match(r"\(\s*λ c(?: κs)?\.\s*(?:let [^=]* = .* in\s*)?(\(.*\))\s*\)$", arg, re.S)
+    return m is not None and balanced(m[1]) and len(top_level(m[1][1:-1], ",")) > 1
 
 
 def invariant_of(kind, new, arg, variables, changed, defs):
