@@ -19,32 +19,14 @@ onward-turned-requires c = turn_room c.requires.0 _ _ _ (c.loop-steps.invariant.
 pub returns-in-Fault : goal.returns-in-Fault
 returns-in-Fault c = λ v. faults_there v _ (c.loop-steps.invariant.1.1.1.1 v) c.loop-steps.invariant.1.0 c.loop-steps-test.true c.step-moved.ensures c.onward-turned.ensures c.in-Fault.is
 
-pub enum_told-1 : goal.enum_told-1
-enum_told-1 c = omega (arith, c.step-moved.auto.carriers, c.loop-steps.invariant.1.0)
-
-pub overflow_add-result : goal.overflow_add-result
-overflow_add-result c = omega (arith, c.step-moved.auto.scratch, c.loop-steps.invariant.1.1.0)
-
 pub returns-in-Stop : goal.returns-in-Stop
 returns-in-Stop c = λ v. stops_there v _ (c.loop-steps.invariant.1.1.1.1 v) c.loop-steps.invariant.1.0 c.loop-steps-test.true c.step-moved.ensures c.onward-turned.ensures c.in-Stop.is
-
-pub enum_told-in-Over : goal.enum_told-in-Over
-enum_told-in-Over c = omega (arith, c.step-moved.auto.carriers, c.loop-steps.invariant.1.0)
-
-pub overflow_add-result-in-Over : goal.overflow_add-result-in-Over
-overflow_add-result-in-Over c = omega (arith, c.step-moved.auto.scratch, c.loop-steps.invariant.1.1.0)
 
 pub returns-in-Over : goal.returns-in-Over
 returns-in-Over c = λ v. ends_there v _ (c.loop-steps.invariant.1.1.1.1 v) c.loop-steps.invariant.1.0 c.loop-steps-test.true c.step-moved.ensures c.onward-turned.ensures c.in-Over.is
 
-pub overflow_add-steps : goal.overflow_add-steps
-overflow_add-steps c = (omega (arith, c.loop-steps-test.true), (omega (arith, c.step-moved.auto.carriers, c.loop-steps.invariant.1.0), (omega (arith, c.step-moved.auto.scratch, c.loop-steps.invariant.1.1.0), (c.onward-turned.ensures.size ∙ c.loop-steps.invariant.1.1.1.0, λ v. goes_there v _ (c.loop-steps.invariant.1.1.1.1 v) c.loop-steps.invariant.1.0 c.loop-steps-test.true c.step-moved.ensures c.onward-turned.ensures c.in-At.is))))
-
-pub loop-steps-smaller : goal.loop-steps-smaller
-loop-steps-smaller c = c.loop-steps.invariant.1.0
-
 pub loop-steps-preserved : goal.loop-steps-preserved
-loop-steps-preserved c = c.loop-steps.invariant.1.1.0
+loop-steps-preserved c = (omega (arith, c.loop-steps-test.true), (omega (arith, c.step-moved.auto.carriers, c.loop-steps.invariant.1.0), (omega (arith, c.step-moved.auto.scratch, c.loop-steps.invariant.1.1.0), (c.onward-turned.ensures.size ∙ c.loop-steps.invariant.1.1.1.0, λ v. goes_there v _ (c.loop-steps.invariant.1.1.1.1 v) c.loop-steps.invariant.1.0 c.loop-steps-test.true c.step-moved.ensures c.onward-turned.ensures c.in-At.is))))
 
 pub returns : goal.returns
 returns c = λ v. pauses v _ (c.loop-steps.invariant.1.1.1.1 v) c.loop-steps.invariant.1.0 (omega arith) c.loop-steps.invariant.0
