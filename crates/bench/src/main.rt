@@ -9,6 +9,8 @@ use asking::{carrier_bytes, check, run};
 use lines::answers::Answer;
 use rules::limits::LONGEST_TEXT;
 use showing::{page, put_report};
+use std::io;
+use streams::read_full;
 
 const BUDGET: u32 = 1000000;
 
@@ -38,18 +40,17 @@ fn answer(
     put_report(out, ended, text, carriers, a, b, c)
 }
 
-fn main() {
+fn main(rt: HostRuntime) -> io::Result<()> {
     let mut text = [0u8; 32769];
     let mut carriers = [0u8; 32768];
     let mut out = page();
-    let mut a = io::large_buffer();
-    let mut b = io::large_buffer();
-    let mut c = io::large_buffer();
-    let n = io::read_full(0, &mut text);
+    let mut a = [0u8; 65536];
+    let mut b = [0u8; 65536];
+    let mut c = [0u8; 65536];
+    let n = read_full(&mut rt.stdin(), &mut text)?;
     if LONGEST_TEXT < n {
-        io::write_all(1, b"refused 2 0\n");
-        return;
+        return rt.write_all(b"refused 2 0\n");
     }
     let end = answer(&mut out, &text[..n], &mut carriers, &mut a, &mut b, &mut c);
-    io::write_all(1, &out[..end]);
+    rt.write_all(&out[..end])
 }

@@ -7,6 +7,8 @@ use lines::answers::{Answer, REFUSED, answer_of};
 use lines::bytes::{put_byte, put_bytes};
 use lines::endings::put_labelled;
 use lines::refusals::put_refused;
+use std::io;
+use streams::read_full;
 
 // The ending of a text without a bound.
 const NO_BOUND: u64 = 5;
@@ -41,14 +43,14 @@ fn put_line(out: &mut [u8], a: Answer) -> usize
     put_byte(out, next, 10)
 }
 
-fn main() {
+fn main(rt: HostRuntime) -> io::Result<()> {
     let mut text = [0u8; 32769];
     let mut out = [0u8; 128];
-    let mut a = io::large_buffer();
-    let mut b = io::large_buffer();
-    let mut c = io::large_buffer();
-    let n = io::read_full(0, &mut text);
+    let mut a = [0u8; 65536];
+    let mut b = [0u8; 65536];
+    let mut c = [0u8; 65536];
+    let n = read_full(&mut rt.stdin(), &mut text)?;
     let answer = bound(&text[..n], &mut a, &mut b, &mut c);
     let end = put_line(&mut out, answer);
-    io::write_all(1, &out[..end]);
+    rt.write_all(&out[..end])
 }

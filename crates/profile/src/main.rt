@@ -9,6 +9,9 @@ ghost use Rattle.profile.specs.Report.{reason_bytes, report_bytes};
 use lines::answers::{Answer, answer_of};
 use lines::bytes::put_bytes;
 use lines::refusals::put_refused;
+use std::io;
+use streams::arguments::{are_two, argument};
+use streams::read_full;
 
 // What the call answers.
 fn profile(
@@ -62,21 +65,22 @@ fn put_report(out: &mut [u8], a: Answer) -> usize
     put_reason(out, next, a.number)
 }
 
-fn main() {
+fn main(rt: HostRuntime) -> io::Result<()> {
     let mut text = [0u8; 32769];
-    let mut test = io::buffer();
-    let mut output = io::buffer();
+    let mut test = [0u8; 4096];
+    let mut output = [0u8; 4096];
     let mut out = [0u8; 256];
-    let mut a = io::large_buffer();
-    let mut b = io::large_buffer();
-    let mut c = io::large_buffer();
-    if os::arg_count() != 3 {
-        io::write_all(2, b"usage: profile TEST OUTPUT < DESCRIPTION\n");
-        return;
+    let mut a = [0u8; 65536];
+    let mut b = [0u8; 65536];
+    let mut c = [0u8; 65536];
+    if !are_two(&rt) {
+        return rt
+            .stderr()
+            .write_all(b"usage: profile TEST OUTPUT < DESCRIPTION\n");
     }
-    let first = os::arg(1, &mut test);
-    let second = os::arg(2, &mut output);
-    let n = io::read_full(0, &mut text);
+    let first = argument(&rt, 1, &mut test);
+    let second = argument(&rt, 2, &mut output);
+    let n = read_full(&mut rt.stdin(), &mut text)?;
     let found = profile(
         &text[..n],
         &test[..first],
@@ -86,5 +90,5 @@ fn main() {
         &mut c,
     );
     let end = put_report(&mut out, found);
-    io::write_all(1, &out[..end]);
+    rt.write_all(&out[..end])
 }

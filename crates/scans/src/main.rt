@@ -8,7 +8,8 @@
 ghost use Rattle.std.specs.Prelude.{◌+◌, ◌*◌, ◌≤◌, length};
 
 use cells::get64;
-use io::print_decimal;
+use std::io;
+use streams::read_full;
 use text::Scanned;
 
 // The answer to a text in one byte.
@@ -29,74 +30,75 @@ fn mark_of(found: Scanned) -> u8 {
     }
 }
 
-fn end_line() {
-    io::write_all(1, b"\n");
+fn end_line(rt: &HostRuntime) -> io::Result<()> {
+    rt.write_all(b"\n")
 }
 
 // Each byte as a text, 16 to a line.
-fn show_bytes(records: &mut [u8], values: &mut [u8])
+fn show_bytes(rt: &HostRuntime, records: &mut [u8], values: &mut [u8]) -> io::Result<()>
     requires { (65536 ≤ length records.old) × (65536 ≤ length values.old) }
 {
     let mut b: u8 = 0;
     loop {
         let one = [b];
         let mark = [mark_of(text::scan(&one, records, values))];
-        io::write_all(1, &mark);
+        rt.write_all(&mark)?;
         if b % 16 == 15 {
-            end_line();
+            end_line(rt)?;
         }
         if b == 255 {
-            return;
+            return Ok(());
         }
         b += 1;
     }
 }
 
 // The token i.
-fn show_token(records: &[u8], values: &[u8], i: usize)
+fn show_token(rt: &HostRuntime, records: &[u8], values: &[u8], i: usize) -> io::Result<()>
     requires { (8 * i + 8 ≤ length records.now) × (8 * i + 8 ≤ length values.now) }
 {
     let record = get64(records, i);
-    io::write_all(1, b" ");
-    print_decimal(1, record % 256);
-    io::write_all(1, b".");
-    print_decimal(1, record / 256 % 256);
-    io::write_all(1, b".");
-    print_decimal(1, record / 65536);
-    io::write_all(1, b".");
-    print_decimal(1, get64(values, i));
+    rt.write_all(b" ")?;
+    rt.print(record % 256)?;
+    rt.write_all(b".")?;
+    rt.print(record / 256 % 256)?;
+    rt.write_all(b".")?;
+    rt.print(record / 65536)?;
+    rt.write_all(b".")?;
+    rt.print(get64(values, i))
 }
 
 // The tokens, where they are not many.
-fn show_tokens(records: &[u8], values: &[u8], count: usize)
+fn show_tokens(rt: &HostRuntime, records: &[u8], values: &[u8], count: usize) -> io::Result<()>
     requires { (65536 ≤ length records.now) × (65536 ≤ length values.now) }
 {
     if 64 < count {
-        return;
+        return Ok(());
     }
     for i in 0..count {
-        show_token(records, values, i);
+        show_token(rt, records, values, i)?;
     }
+    Ok(())
 }
 
 // The line of a text.
-fn show(text: &[u8], records: &mut [u8], values: &mut [u8])
+fn show(rt: &HostRuntime, text: &[u8], records: &mut [u8], values: &mut [u8]) -> io::Result<()>
     requires { (length text.now ≤ 32768) × ((65536 ≤ length records.old) × (65536 ≤ length values.old)) }
 {
     match text::scan(text, records, values) {
         Scanned::Fine(count) => {
-            io::write_all(1, b"fine ");
-            print_decimal(1, count as u64);
-            show_tokens(records, values, count);
+            rt.write_all(b"fine ")?;
+            rt.print(count as u64)?;
+            show_tokens(rt, records, values, count)?;
         }
         Scanned::Refused(number, place) => {
-            io::write_all(1, b"refused ");
-            print_decimal(1, number as u64);
-            io::write_all(1, b" ");
-            print_decimal(1, place as u64);
+            rt.write_all(b"refused ")?;
+            rt.print(number as u64)?;
+            rt.write_all(b" ")?;
+            rt.print(place as u64)?;
         }
     }
-    end_line();
+    end_line(rt)
 }
 
 // The end of the line that starts at `from`.
@@ -115,28 +117,34 @@ fn line_end(lines: &[u8], from: usize) -> usize
 }
 
 // Each line as a text.
-fn show_lines(lines: &[u8], records: &mut [u8], values: &mut [u8])
+fn show_lines(
+    rt: &HostRuntime,
+    lines: &[u8],
+    records: &mut [u8],
+    values: &mut [u8],
+) -> io::Result<()>
     requires { (length lines.now ≤ 32768) × ((65536 ≤ length records.old) × (65536 ≤ length values.old)) }
 {
     let mut from: usize = 0;
     while from < lines.len() {
         let end = line_end(lines, from);
-        show(&lines[from..end], records, values);
+        show(rt, &lines[from..end], records, values)?;
         from = end + 1;
     }
+    Ok(())
 }
 
-fn main() {
-    let mut records = io::large_buffer();
-    let mut values = io::large_buffer();
+fn main(rt: HostRuntime) -> io::Result<()> {
+    let mut records = [0u8; 65536];
+    let mut values = [0u8; 65536];
     let mut lines = [0u8; 32768];
-    show_bytes(&mut records, &mut values);
-    show(&[b'\''; 32768], &mut records, &mut values);
-    show(&[b'a'; 32], &mut records, &mut values);
-    show(&[b'a'; 33], &mut records, &mut values);
-    show(&[b';'; 8192], &mut records, &mut values);
-    show(&[b';'; 8193], &mut records, &mut values);
-    show(b"! no token \n1", &mut records, &mut values);
-    let n = io::read_full(0, &mut lines);
-    show_lines(&lines[..n], &mut records, &mut values);
+    show_bytes(&rt, &mut records, &mut values)?;
+    show(&rt, &[b'\''; 32768], &mut records, &mut values)?;
+    show(&rt, &[b'a'; 32], &mut records, &mut values)?;
+    show(&rt, &[b'a'; 33], &mut records, &mut values)?;
+    show(&rt, &[b';'; 8192], &mut records, &mut values)?;
+    show(&rt, &[b';'; 8193], &mut records, &mut values)?;
+    show(&rt, b"! no token \n1", &mut records, &mut values)?;
+    let n = read_full(&mut rt.stdin(), &mut lines)?;
+    show_lines(&rt, &lines[..n], &mut records, &mut values)
 }

@@ -1,5 +1,7 @@
-// Bytes from a reader, up to a fixed number of them.
+// What the programs read: bytes up to a fixed number of them, and arguments.
 #![tactic(auto)]
+
+pub mod arguments;
 
 ghost use Rattle.std.specs.Prelude.{◌≤◌, IfOk, length};
 

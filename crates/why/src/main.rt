@@ -9,6 +9,8 @@ ghost use Rattle.std.specs.Prelude.{◌≤◌, length};
 
 use crate::reports::put_report;
 use lines::answers::{Answer, answer_of};
+use std::io;
+use streams::read_full;
 
 // What the call answers. The reason is left in its own buffer, as the 24 numbers that the call writes.
 fn why(text: &[u8], a: &mut [u8], b: &mut [u8], c: &mut [u8], reason: &mut [u8]) -> Answer {
@@ -27,13 +29,13 @@ fn explain(out: &mut [u8], text: &[u8], a: &mut [u8], b: &mut [u8], c: &mut [u8]
     put_report(out, answer, &reason, text)
 }
 
-fn main() {
+fn main(rt: HostRuntime) -> io::Result<()> {
     let mut text = [0u8; 32769];
     let mut out = [0u8; 4096];
-    let mut a = io::large_buffer();
-    let mut b = io::large_buffer();
-    let mut c = io::large_buffer();
-    let n = io::read_full(0, &mut text);
+    let mut a = [0u8; 65536];
+    let mut b = [0u8; 65536];
+    let mut c = [0u8; 65536];
+    let n = read_full(&mut rt.stdin(), &mut text)?;
     let end = explain(&mut out, &text[..n], &mut a, &mut b, &mut c);
-    io::write_all(1, &out[..end]);
+    rt.write_all(&out[..end])
 }
