@@ -138,6 +138,10 @@ class Names:
             place = here[1] if here is not None else None
         return chain
 
+    def called(self):
+        """The steps that are calls."""
+        return {p[2][1] for p in self.places.values() if p[3]}
+
     def step(self, at, fields):
         here = self.places.get(at)
         first = fields[0]
@@ -337,7 +341,7 @@ def turn(root, crate, path, function, names):
         used = used + [f"use Rattle.{crate}.proofs.{function}.Goals.{{{', '.join(sorted(set(placed.values())))}}}"]
     helpers = [i for i in rest if i not in taken]
     helpers = [i for i in helpers if not re.match(r"^(?:--[^\n]*\n)*(?:pub |abbrev |unfoldable )*\S+ : tie\.(invariant|decreases|Need-same[-_]length)", i)]
-    write(root, crate, path, function, head, used, helpers, invariants, answers)
+    write(root, crate, path, function, head, used, helpers, invariants, answers, names.called())
     return ("left: " + "; ".join(left)) if left else None
 
 
@@ -423,7 +427,7 @@ def turn_cycle(root, crate, path, function, listed_names):
         taken += [rest[k] for k, i in enumerate(mine) if i in made[2]]
     helpers = [i for i in rest if i not in taken and not re.search(r"(?m)^abbrev \S+ : \S+_lts\.", i)]
     used = [u for u in used if not re.search(r"borrow\.Fn\.(Kinds|PlainCycle)|\.(Reads|Kinds|Lts-\S+) as |\.Tie\.\{|\.\+[^.]*\.\{", u)]
-    write(root, crate, path, function, head, used, helpers, invariants + loops, answers)
+    write(root, crate, path, function, head, used, helpers, invariants + loops, answers, set().union(*(Names(n).called() for n in listed_names.values())))
     return ("left: " + "; ".join(left)) if left else None
 
 
@@ -685,7 +689,7 @@ def words(text):
     return set(re.findall(r"[^\s(){}\[\];,.@:]+", text))
 
 
-def write(root, crate, path, function, head, used, helpers, invariants, answers):
+def write(root, crate, path, function, head, used, helpers, invariants, answers, called):
     folder = os.path.dirname(path)
     module = "Rattle." + crate + ".proofs." + function
     used = [u for u in used if not re.search(r"\.(Statement|Tie)\b", u)]
@@ -720,18 +724,22 @@ def write(root, crate, path, function, head, used, helpers, invariants, answers)
             lines = lines + [f"use {module}.Invariants.{{{', '.join(names)}}}"]
         text = "\n".join(lines + [f"use {module}.Goals as goal", ""])
         text += "\n" + "\n\n".join(rest + answers) + "\n"
-        text = negated(text)
+        text = negated(text, called)
         with open(os.path.join(folder, "Answers.antt"), "w", encoding="utf-8") as f:
             f.write(pruned(text))
     if not os.listdir(folder):
         os.removedirs(folder)
 
 
-def negated(text):
+def negated(text, called):
     """The test of an `if !f(..)` says today what f answered, where the older form spoke of the negation."""
     found = set()
 
     def put(m):
+        # the test of a variable or of a field still speaks of the negation
+        tested = re.search(r"\.if-not-(.*)", m[1])[1]
+        if not any(tested == f or tested.startswith(f + "-") or f.startswith(tested + "-") for f in called):
+            return m[0]
         name = {"true": "not_from_false", "false": "not_from_true"}[m[2]]
         found.add(name)
         return f"({name} _ {m[1]}.{m[2]})"
