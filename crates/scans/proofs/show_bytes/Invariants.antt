@@ -1,4 +1,4 @@
--- `scans::show_bytes` is safe and ends: the byte rises, and the buffers keep their lengths.
+-- `scans::show_bytes` is safe and ends: the buffers keep their lengths, and the byte rises to 255.
 -- Assumes nothing.
 use Rattle.std.proofs.Common.{length, ◌-◌, ◌≤◌, ◌≡◌}
 use Rattle.scans.proofs.show_bytes.Given as goal

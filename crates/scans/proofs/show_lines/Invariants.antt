@@ -1,4 +1,4 @@
--- `scans::show_lines` is safe and ends: each line lies within the lines, and the buffers keep their lengths.
+-- `scans::show_lines` is safe and ends: the buffers keep their lengths, and the lines come to their end.
 -- Assumes nothing.
 use Rattle.std.proofs.Common.{length, ◌-◌, ◌≡◌}
 use Rattle.scans.proofs.show_lines.Given as goal
