@@ -1,7 +1,8 @@
-// What the programs read: bytes up to a fixed number of them, and arguments.
+// What the programs share of std: bytes up to a fixed number of them, arguments, and files by their paths.
 #![tactic(auto)]
 
 pub mod arguments;
+pub mod files;
 
 ghost use Rattle.std.specs.Prelude.{◌≤◌, IfOk, length};
 

@@ -9,10 +9,14 @@ ghost use Rattle.rules.specs.Limits.{longest_text};
 
 use crate::saying::{Saying, say, say_answer};
 use asking::{carrier_bytes, check};
-use libc::{STDIN_FILENO, STDOUT_FILENO};
 use lines::answers::{Answer, answer_of};
 use lists::files::list_in;
 use rules::limits::LONGEST_TEXT;
+use std::fs::File;
+use std::io;
+use streams::arguments::{argument, is_one};
+use streams::files::{open, say_failed};
+use streams::read_full;
 
 const BUDGET: u32 = 1000000;
 
@@ -52,6 +56,7 @@ fn compared(
 
 // The same for a text that has been judged, and says how that came out.
 fn compare_judged(
+    rt: &HostRuntime,
     entries: &[u8],
     text: &[u8],
     size: usize,
@@ -59,78 +64,85 @@ fn compare_judged(
     b: &mut [u8],
     c: &mut [u8],
     d: &mut [u8],
-)
+) -> io::Result<()>
     requires { (length text.now ≤ longest_text) × (size ≤ 32768) }
 {
     let carriers = [0u8; 32768];
     let answer = compared(entries, text, &carriers, size, a, b, c, d);
-    say_answer(answer, entries, text, size);
+    say_answer(rt, answer, entries, text, size)
 }
 
 // Judges the text for the number of its words, and compares.
-fn compare(entries: &[u8], text: &[u8], a: &mut [u8], b: &mut [u8], c: &mut [u8], d: &mut [u8])
+fn compare(
+    rt: &HostRuntime,
+    entries: &[u8],
+    text: &[u8],
+    a: &mut [u8],
+    b: &mut [u8],
+    c: &mut [u8],
+    d: &mut [u8],
+) -> io::Result<()>
     requires { length text.now ≤ longest_text }
 {
     let judged = check(text, a, b, c);
     let size = carrier_bytes(judged.words);
-    compare_judged(entries, text, size, a, b, c, d);
+    compare_judged(rt, entries, text, size, a, b, c, d)
 }
 
-fn with_memory(entries: &[u8], text: &[u8])
+fn with_memory(rt: &HostRuntime, entries: &[u8], text: &[u8]) -> io::Result<()>
     requires { length text.now ≤ longest_text }
 {
-    let mut a = io::large_buffer();
-    let mut b = io::large_buffer();
-    let mut c = io::large_buffer();
-    let mut d = io::large_buffer();
-    compare(entries, text, &mut a, &mut b, &mut c, &mut d);
+    let mut a = [0u8; 65536];
+    let mut b = [0u8; 65536];
+    let mut c = [0u8; 65536];
+    let mut d = [0u8; 65536];
+    compare(rt, entries, text, &mut a, &mut b, &mut c, &mut d)
 }
 
-fn read_text(entries: &[u8]) {
+fn read_text(rt: &HostRuntime, entries: &[u8]) -> io::Result<()> {
     let mut text = [0u8; 32769];
-    let n = io::read_full(STDIN_FILENO, &mut text);
+    let n = read_full(&mut rt.stdin(), &mut text)?;
     if LONGEST_TEXT < n {
-        io::write_all(STDOUT_FILENO, b"1:1: refused 2\n");
-        return;
+        return rt.write_all(b"1:1: refused 2\n");
     }
-    with_memory(entries, &text[..n]);
+    with_memory(rt, entries, &text[..n])
 }
 
-fn take_list(file: &[u8])
+fn take_list(rt: &HostRuntime, file: &[u8]) -> io::Result<()>
     requires { length file.now ≤ 262144 }
 {
     let mut entries = [0u8; 65552];
     let listed = list_in(file, &mut entries);
     if !listed.is_list {
-        say(Saying::BadLine(listed.line));
-        return;
+        return say(rt, Saying::BadLine(listed.line));
     }
     let size = 16 * listed.count;
-    read_text(&entries[..size]);
+    read_text(rt, &entries[..size])
 }
 
-fn read_list(path: &[u8]) {
-    let fd = os::open_read(path);
-    if fd < 0 {
-        os::fail(path);
-        return;
-    }
+fn read_opened(rt: &HostRuntime, opened: File) -> io::Result<()> {
+    let mut list = opened;
     let mut file = [0u8; 262145];
-    let n = io::read_full(fd, &mut file);
-    libc::close(fd);
+    let n = read_full(&mut list, &mut file)?;
+    drop(list);
     if LONGEST_FILE < n {
-        io::write_all(STDOUT_FILENO, b"the list has more than 262,144 bytes\n");
-        return;
+        return rt.write_all(b"the list has more than 262,144 bytes\n");
     }
-    take_list(&file[..n]);
+    take_list(rt, &file[..n])
 }
 
-fn main() {
-    let mut path = io::buffer();
-    if os::arg_count() != 2 {
-        io::write_all(STDOUT_FILENO, b"usage: trace FILE < TEXT\n");
-        return;
+fn read_list(rt: &HostRuntime, path: &[u8]) -> io::Result<()> {
+    match open(rt, path) {
+        Ok(opened) => read_opened(rt, opened),
+        Err(error) => say_failed(rt, path, error),
     }
-    let n = os::arg(1, &mut path);
-    read_list(&path[..n]);
+}
+
+fn main(rt: HostRuntime) -> io::Result<()> {
+    let mut path = [0u8; 4096];
+    if !is_one(&rt) {
+        return rt.write_all(b"usage: trace FILE < TEXT\n");
+    }
+    let n = argument(&rt, 1, &mut path);
+    read_list(&rt, &path[..n])
 }

@@ -3,7 +3,6 @@ ghost use Rattle.std.specs.Prelude.{◌+◌, ◌*◌, ◌≤◌, length};
 ghost use Rattle.rules.specs.Limits.{longest_text};
 
 use crate::naming::{end_of_line, put_named, start_of_line};
-use libc::STDOUT_FILENO;
 use lines::answers::{Answer, REFUSED};
 use listed::entries::{Entry, count, entry_at};
 use positions::position_of;
@@ -12,6 +11,7 @@ use reports::{
     put_unreadable, put_yes,
 };
 use showing::page;
+use std::io;
 
 // The endings before it are Done and Stopped.
 const PAUSED: u64 = 2;
@@ -51,21 +51,22 @@ fn put(out: &mut [u8], s: Saying) -> usize
     }
 }
 
-pub fn say(s: Saying) {
+pub fn say(rt: &HostRuntime, s: Saying) -> io::Result<()> {
     let mut out = [0u8; 512];
     let end = put(&mut out, s);
-    io::write_all(STDOUT_FILENO, &out[..end]);
+    rt.write_all(&out[..end])
 }
 
 // The line of this number.
-fn say_line(listing: &[u8], number: usize) {
+fn say_line(rt: &HostRuntime, listing: &[u8], number: usize) -> io::Result<()> {
     let start = start_of_line(listing, number);
     let end = end_of_line(listing, start);
-    io::write_all(STDOUT_FILENO, &listing[start..end]);
+    rt.write_all(&listing[start..end])
 }
 
 // The word that an entry names, with its value.
 fn say_word(
+    rt: &HostRuntime,
     text: &[u8],
     carriers: &mut [u8],
     word: usize,
@@ -73,75 +74,81 @@ fn say_word(
     a: &mut [u8],
     b: &mut [u8],
     c: &mut [u8],
-)
+) -> io::Result<()>
     requires text_len_bound { (length text.now ≤ longest_text) × ((65536 ≤ length a.old) × ((65536 ≤ length b.old) × (65536 ≤ length c.old))) }
     requires in_bounds { (32768 ≤ length carriers.old) × (8 * word + 8 ≤ length carriers.old) }
 {
     let mut out = page();
     let end = put_named(&mut out, text, carriers, word, value, a, b, c);
-    say_line(&out[..end], word);
+    say_line(rt, &out[..end], word)
 }
 
 // The same, with memory of its own.
-fn say_named(text: &[u8], word: usize, value: u64)
+fn say_named(rt: &HostRuntime, text: &[u8], word: usize, value: u64) -> io::Result<()>
     requires { (length text.now ≤ longest_text) × (8 * word + 8 ≤ 32768) }
 {
     let mut carriers = [0u8; 32768];
-    let mut a = io::large_buffer();
-    let mut b = io::large_buffer();
-    let mut c = io::large_buffer();
-    say_word(text, &mut carriers, word, value, &mut a, &mut b, &mut c);
+    let mut a = [0u8; 65536];
+    let mut b = [0u8; 65536];
+    let mut c = [0u8; 65536];
+    say_word(rt, text, &mut carriers, word, value, &mut a, &mut b, &mut c)
 }
 
 // The entry n, which cannot be, of a description whose carriers have so many bytes.
-fn say_entry(e: Entry, n: u64, text: &[u8], size: usize)
+fn say_entry(rt: &HostRuntime, e: Entry, n: u64, text: &[u8], size: usize) -> io::Result<()>
     requires { (length text.now ≤ longest_text) × (size ≤ 32768) }
 {
     let place = e.place as usize;
     let word = e.word as usize;
     if text.len() < place {
-        say(Saying::NoPlace(n, place as u64));
-        return;
+        return say(rt, Saying::NoPlace(n, place as u64));
     }
     let at = position_of(text, NO_REFUSAL, place);
     let line = at.line as u64;
     let column = at.column as u64;
     if size < 8 * word + 8 {
-        say(Saying::NoWord(line, column, n, word as u64));
-        return;
+        return say(rt, Saying::NoWord(line, column, n, word as u64));
     }
-    say(Saying::Bad(line, column, n));
-    say_named(text, word, e.value);
-    say(Saying::Behind);
+    say(rt, Saying::Bad(line, column, n))?;
+    say_named(rt, text, word, e.value)?;
+    say(rt, Saying::Behind)
 }
 
 // Why a list is not so: by the number of an entry, or of all.
-fn say_no(number: usize, entries: &[u8], text: &[u8], size: usize)
+fn say_no(
+    rt: &HostRuntime,
+    number: usize,
+    entries: &[u8],
+    text: &[u8],
+    size: usize,
+) -> io::Result<()>
     requires { (length text.now ≤ longest_text) × (size ≤ 32768) }
 {
     if count(entries) <= number {
-        say(Saying::Short(number as u64));
-        return;
+        return say(rt, Saying::Short(number as u64));
     }
     let entry = entry_at(entries, number);
-    say_entry(entry, number as u64, text, size);
+    say_entry(rt, entry, number as u64, text, size)
 }
 
 // What is said of an answer: the fourth and fifth number of it are whether the list is so, and the first entry that cannot be.
-pub fn say_answer(answer: Answer, entries: &[u8], text: &[u8], size: usize)
+pub fn say_answer(
+    rt: &HostRuntime,
+    answer: Answer,
+    entries: &[u8],
+    text: &[u8],
+    size: usize,
+) -> io::Result<()>
     requires { (length text.now ≤ longest_text) × (size ≤ 32768) }
 {
     if answer.ending == REFUSED {
-        say(Saying::Refusal(answer));
-        return;
+        return say(rt, Saying::Refusal(answer));
     }
     if PAUSED <= answer.ending {
-        say(Saying::Unended(answer));
-        return;
+        return say(rt, Saying::Unended(answer));
     }
     if answer.declarations == 1 {
-        say(Saying::Yes(answer));
-        return;
+        return say(rt, Saying::Yes(answer));
     }
-    say_no(answer.words as usize, entries, text, size);
+    say_no(rt, answer.words as usize, entries, text, size)
 }
