@@ -674,9 +674,10 @@ def renamed(item, old, goal, names, place, left, unfolding, fields):
             if not has_unfolding:
                 out.extend(unfolding)
             continue
-        m = re.match(rf"{re.escape(old)} c(?: κs)? =", line)
+        m = re.match(rf"{re.escape(old)} c((?: [^\s=()]+)*) =", line)
         if m:
-            line = f"{goal} c =" + line[m.end():]
+            others = m[1].replace(" κs", "")
+            line = f"{goal} c =" + (f" λ{others}." if others else "") + line[m.end():]
         out.append(line)
     text = turned("\n".join(out), names, place, left)
     m = re.search(rf"(?m)^{re.escape(goal)} c =\s*", text)
