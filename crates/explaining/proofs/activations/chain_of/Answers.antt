@@ -1,0 +1,21 @@
+-- `explaining::activations::chain_of` meets its contract.
+use borrow.Author.Rules.{rules}
+use native.Mathlib.Omega.{arith}
+use Rattle.rules.specs.Reasons.{reason51}
+use Rattle.rules.specs.Calls.Why.{reason_numbers}
+use Rattle.explaining.specs.Laws.Again.{sound, for_all}
+use Rattle.explaining.proofs.activations.chain_of.Goals as goal
+
+pub reread-requires : goal.reread-requires
+reread-requires c = record { sound = (sound (omega arith) c.requires.checks.0, search rules); room_size_in_bounds = search rules }
+
+pub chain_reason-requires : goal.chain_reason-requires
+chain_reason-requires c = (rw c.in-Fine.is at c.reread.ensures).reading
+
+pub returns-in-Refused : goal.returns-in-Refused
+returns-in-Refused c = λ d s. absurd (let z : ⊥ = rw c.in-Refused.is at c.reread.ensures in z)
+
+pub returns-in-Fine : goal.returns-in-Fine
+returns-in-Fine c = λ d s.
+    let r = rw c.in-Fine.is at c.reread.ensures in
+    for_all (λ ds. reason_numbers (reason51 ds c.args.place)) r (c.chain_reason.ensures r.reading) d s
