@@ -13,7 +13,7 @@ import tempfile
 
 SEARCH = re.compile(r"^\(?\s*λ c( κs)?\. search rules\s*\)?$")
 # what a slice's length at a return was proved by
-LONG = re.compile(r"\(\s*λ c\. (?:omega \(arith, c(?:\.before)*\.[^.\s]+\.auto(?:\.\d)+, c(?:\.before)*\.loop\d*\.invariant(?:\.\d)*\)|c(?:\.before)*\.loop\d*\.invariant(?:\.\d|\.long)*)\s*\)$")
+LONG = re.compile(r"\(\s*λ c\. (?:omega \(arith, c(?:\.before)*\.[^.\s]+\.auto(?:\.\d)+, c(?:\.before)*\.loop\d*\.invariant(?:\.\d)*\)|c(?:\.before)*\.loop\d*\.invariant(?:\.\d|\.long)*|\(c(?:\.before)*\.loop\d*\.invariant[^()]*\)(?:\.\w+)*\.long)\s*\)$")
 NO_ANSWER = "(λ c. search rules )"
 NAME = r"[^\s(){}\[\];,.@:]+"
 

@@ -26,15 +26,11 @@ overflow_sub-rest c =
     let t = (c.loop-k.invariant.0 c.requires.0).stored in
     omega (arith, part_fits _ _ t c.loop-k-test.true c.get64-f.ensures)
 
-pub loop-k-smaller : goal.loop-k-smaller
-loop-k-smaller c =
-    (
-      (λ s. told_turn s _ _ _ _ (c.loop-k.invariant.0 s) c.loop-k-test.true c.get64-f.ensures c.store_part-x.ensures c.tell_part.ensures),
-      c.tell_part.auto.room ∙ c.loop-k.invariant.1,
-    )
-
 pub loop-k-preserved : goal.loop-k-preserved
-loop-k-preserved c = (c.loop-k.invariant.0 c.requires.0).stored.long
+loop-k-preserved c = (
+  (λ s. told_turn s _ _ _ _ (c.loop-k.invariant.0 s) c.loop-k-test.true c.get64-f.ensures c.store_part-x.ensures c.tell_part.ensures),
+  c.tell_part.auto.room ∙ c.loop-k.invariant.1,
+)
 
 pub returns : goal.returns
 returns c = λ s. all_told s _ _ _ _ (c.loop-k.invariant.0 s) c.loop-k-test.false

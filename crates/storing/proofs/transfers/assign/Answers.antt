@@ -15,8 +15,8 @@ assign_fields-requires c =
     (gather_at c.requires.0 c.access-first.ensures c.in-Field.is, c.requires.1)
 
 pub returns-in-Fault : goal.returns-in-Fault
-returns c d = assign_fault d _ _ _ c.access-first.ensures c.in-Fault.is c.requires.1.1.1
+returns-in-Fault c = λ d. assign_fault d _ _ _ c.access-first.ensures c.in-Fault.is c.requires.1.1.1
 
 pub returns-in-Field : goal.returns-in-Field
-returns-2 c d =
+returns-in-Field c = λ d.
     assign_told d _ _ _ c.access-first.ensures c.in-Field.is c.place16_at-place.ensures _ _ c.assign_fields.result c.assign_fields.ensures

@@ -10,8 +10,8 @@ store_all-requires c =
     (stores_at c.requires.0 _ c.gather-gathered.ensures c.in-Fields.is, (stores_room c.requires.0 _ c.gather-gathered.ensures c.in-Fields.is (omega (arith, c.gather-gathered.auto.fields, c.requires.1.0)), c.requires.1.1))
 
 pub returns-in-Fault : goal.returns-in-Fault
-returns c g = fields_fault g _ _ _ _ _ c.gather-gathered.ensures c.in-Fault.is c.requires.1.1.1
+returns-in-Fault c = λ g. fields_fault g _ _ _ _ _ c.gather-gathered.ensures c.in-Fault.is c.requires.1.1.1
 
 pub returns-in-Fields : goal.returns-in-Fields
-returns-2 c g =
+returns-in-Fields c = λ g.
     fields_stored g _ _ _ _ _ c.gather-gathered.ensures c.in-Fields.is _ _ c.store_all.ensures

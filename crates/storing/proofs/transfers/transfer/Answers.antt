@@ -19,8 +19,8 @@ assign-requires c =
     (assign_at c.requires.0 c.inside_at-equals.ensures, c.requires.1)
 
 pub returns-in-Fault : goal.returns-in-Fault
-returns c t = transfer_fault t c.inside_at-equals.ensures _ _ c.expression-right.ensures c.in-Fault.is c.requires.1.1.1
+returns-in-Fault c = λ t. transfer_fault t c.inside_at-equals.ensures _ _ c.expression-right.ensures c.in-Fault.is c.requires.1.1.1
 
 pub returns-in-Value : goal.returns-in-Value
-returns-2 c t =
+returns-in-Value c = λ t.
     transfer_told t c.inside_at-equals.ensures _ _ c.expression-right.ensures c.in-Value.is _ _ c.assign.result c.assign.ensures
