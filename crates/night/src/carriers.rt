@@ -3,10 +3,13 @@ ghost use Rattle.std.specs.Prelude.{◌+◌, ◌≤◌, length};
 
 use crate::files::{is_missing, keep};
 use images::images::image_size;
-use libc::STDOUT_FILENO;
 use lines::answers::{Answer, REFUSED, answer_of};
 use lines::bytes::{put_byte, put_bytes};
 use lines::endings::put_labelled;
+use std::fs::File;
+use std::io;
+use streams::files::open;
+use streams::read_full;
 
 fn store(
     text: &[u8],
@@ -56,41 +59,56 @@ fn put_reason(out: &mut [u8], at: usize, number: u64) -> usize
 }
 
 // Says why the image is refused, and at which byte of it, or of the carriers for 61.
-fn say_refused(a: Answer) {
+fn say_refused(rt: &HostRuntime, a: Answer) -> io::Result<()> {
     let mut out = [0u8; 192];
     let second = put_labelled(&mut out, 0, b"image refused ", a.number);
     let third = put_labelled(&mut out, second, b" at byte ", a.place);
     let fourth = put_reason(&mut out, third, a.number);
     let end = put_byte(&mut out, fourth, b'\n');
-    io::write_all(STDOUT_FILENO, &out[..end]);
+    rt.write_all(&out[..end])
+}
+
+// Puts the carriers that an opened file keeps into their buffer. Returns whether a run can start.
+fn start_from(
+    rt: &HostRuntime,
+    opened: File,
+    text: &[u8],
+    carriers: &mut [u8],
+    a: &mut [u8],
+    b: &mut [u8],
+    c: &mut [u8],
+) -> io::Result<bool> {
+    let mut file = opened;
+    let mut image = [0u8; 33793];
+    let n = read_full(&mut file, &mut image)?;
+    drop(file);
+    let loaded = load(text, &image[..n], carriers, a, b, c);
+    if loaded.ending == REFUSED {
+        say_refused(rt, loaded)?;
+        return Ok(false);
+    }
+    Ok(true)
 }
 
 // Puts the carriers that the file keeps into their buffer. Returns whether a run can start: also where there is no such file yet.
 pub fn start(
+    rt: &HostRuntime,
     path: &[u8],
     text: &[u8],
     carriers: &mut [u8],
     a: &mut [u8],
     b: &mut [u8],
     c: &mut [u8],
-) -> bool {
-    let fd = os::open_read(path);
-    if fd < 0 {
-        return is_missing(path);
+) -> io::Result<bool> {
+    match open(rt, path) {
+        Ok(opened) => start_from(rt, opened, text, carriers, a, b, c),
+        Err(error) => is_missing(rt, path, error),
     }
-    let mut image = [0u8; 33793];
-    let n = io::read_full(fd, &mut image);
-    libc::close(fd);
-    let loaded = load(text, &image[..n], carriers, a, b, c);
-    if loaded.ending == REFUSED {
-        say_refused(loaded);
-        return false;
-    }
-    true
 }
 
 // Stores the carriers in an image of their size, and keeps it in the file.
 fn store_in(
+    rt: &HostRuntime,
     path: &[u8],
     text: &[u8],
     carriers: &[u8],
@@ -98,22 +116,29 @@ fn store_in(
     a: &mut [u8],
     b: &mut [u8],
     c: &mut [u8],
-)
+) -> io::Result<()>
     requires { length path.now ≤ 4096 }
 {
     let stored = store(text, carriers, image, a, b, c);
     if stored.ending == REFUSED {
-        say_refused(stored);
-        return;
+        return say_refused(rt, stored);
     }
-    keep(path, image);
+    keep(rt, path, image)
 }
 
 // Keeps the carriers in the file.
-pub fn finish(path: &[u8], text: &[u8], carriers: &[u8], a: &mut [u8], b: &mut [u8], c: &mut [u8])
+pub fn finish(
+    rt: &HostRuntime,
+    path: &[u8],
+    text: &[u8],
+    carriers: &[u8],
+    a: &mut [u8],
+    b: &mut [u8],
+    c: &mut [u8],
+) -> io::Result<()>
     requires { (length path.now ≤ 4096) × (length carriers.now ≤ 32768) }
 {
     let mut image = [0u8; 33792];
     let size = image_size(carriers.len());
-    store_in(path, text, carriers, &mut image[..size], a, b, c);
+    store_in(rt, path, text, carriers, &mut image[..size], a, b, c)
 }

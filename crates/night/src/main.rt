@@ -12,18 +12,21 @@ ghost use Rattle.rules.specs.Limits.{longest_text};
 use crate::budgets::{Budget, budget_in};
 use crate::carriers::{finish, start};
 use asking::{carrier_bytes, check, run};
-use libc::{STDIN_FILENO, STDOUT_FILENO};
 use lines::answers::{Answer, REFUSED};
 use lines::bytes::put_byte;
 use lines::said::put_said;
 use rules::limits::LONGEST_TEXT;
 use showing::{page, put_words};
+use std::io;
+use std::rt::Env;
+use streams::arguments::argument;
+use streams::read_full;
 
 // The ending of a run that faulted; those before it ended well or paused.
 const FAULT: u64 = 3;
 
-fn say_usage() {
-    io::write_all(STDOUT_FILENO, b"usage: night IMAGE BUDGET < TEXT\n");
+fn say_usage(rt: &HostRuntime) -> io::Result<()> {
+    rt.write_all(b"usage: night IMAGE BUDGET < TEXT\n")
 }
 
 // A line that says how a run ended.
@@ -35,24 +38,32 @@ fn put_first(out: &mut [u8], a: Answer) -> usize
     put_byte(out, next, b'\n')
 }
 
-fn say(a: Answer) {
+fn say(rt: &HostRuntime, a: Answer) -> io::Result<()> {
     let mut out = [0u8; 256];
     let end = put_first(&mut out, a);
-    io::write_all(STDOUT_FILENO, &out[..end]);
+    rt.write_all(&out[..end])
 }
 
 // The words that a run left.
-fn say_words(text: &[u8], carriers: &[u8], a: &mut [u8], b: &mut [u8], c: &mut [u8])
+fn say_words(
+    rt: &HostRuntime,
+    text: &[u8],
+    carriers: &[u8],
+    a: &mut [u8],
+    b: &mut [u8],
+    c: &mut [u8],
+) -> io::Result<()>
     requires text_len_bound { (length text.now ≤ longest_text) × ((65536 ≤ length a.old) × ((65536 ≤ length b.old) × (65536 ≤ length c.old))) }
     requires in_bounds { 32768 ≤ length carriers.now }
 {
     let mut out = page();
     let end = put_words(&mut out, 0, text, carriers, a, b, c);
-    io::write_all(STDOUT_FILENO, &out[..end]);
+    rt.write_all(&out[..end])
 }
 
 // Runs a text from the carriers that it is given, says how that ended, and keeps what it left, unless it faulted.
 fn run_started(
+    rt: &HostRuntime,
     path: &[u8],
     budget: u32,
     text: &[u8],
@@ -60,18 +71,20 @@ fn run_started(
     a: &mut [u8],
     b: &mut [u8],
     c: &mut [u8],
-)
+) -> io::Result<()>
     requires { (length path.now ≤ 4096) × (length carriers.old ≤ 32768) }
 {
     let ended = run(text, carriers, budget, a, b, c);
-    say(ended);
+    say(rt, ended)?;
     if ended.ending < FAULT {
-        finish(path, text, carriers, a, b, c);
+        return finish(rt, path, text, carriers, a, b, c);
     }
+    Ok(())
 }
 
 // Runs a text from the carriers that the file keeps. Returns whether it could start.
 fn run_kept(
+    rt: &HostRuntime,
     path: &[u8],
     budget: u32,
     text: &[u8],
@@ -79,18 +92,19 @@ fn run_kept(
     a: &mut [u8],
     b: &mut [u8],
     c: &mut [u8],
-) -> bool
+) -> io::Result<bool>
     requires { (length path.now ≤ 4096) × (length carriers.old ≤ 32768) }
 {
-    if !start(path, text, carriers, a, b, c) {
-        return false;
+    if !start(rt, path, text, carriers, a, b, c)? {
+        return Ok(false);
     }
-    run_started(path, budget, text, carriers, a, b, c);
-    true
+    run_started(rt, path, budget, text, carriers, a, b, c)?;
+    Ok(true)
 }
 
 // The same on the first `size` bytes of the carriers.
 fn run_first(
+    rt: &HostRuntime,
     path: &[u8],
     budget: u32,
     text: &[u8],
@@ -99,14 +113,15 @@ fn run_first(
     a: &mut [u8],
     b: &mut [u8],
     c: &mut [u8],
-) -> bool
+) -> io::Result<bool>
     requires { (length path.now ≤ 4096) × ((size ≤ 32768) × (32768 ≤ length carriers.old)) }
 {
-    run_kept(path, budget, text, &mut carriers[..size], a, b, c)
+    run_kept(rt, path, budget, text, &mut carriers[..size], a, b, c)
 }
 
 // Runs an accepted text, and says which words it left.
 fn run_accepted(
+    rt: &HostRuntime,
     path: &[u8],
     budget: u32,
     text: &[u8],
@@ -115,17 +130,19 @@ fn run_accepted(
     a: &mut [u8],
     b: &mut [u8],
     c: &mut [u8],
-)
+) -> io::Result<()>
     requires text_len_bound { (length text.now ≤ longest_text) × ((65536 ≤ length a.old) × ((65536 ≤ length b.old) × (65536 ≤ length c.old))) }
     requires path_len_bound { (length path.now ≤ 4096) × ((size ≤ 32768) × (32768 ≤ length carriers.old)) }
 {
-    if run_first(path, budget, text, carriers, size, a, b, c) {
-        say_words(text, carriers, a, b, c);
+    if run_first(rt, path, budget, text, carriers, size, a, b, c)? {
+        return say_words(rt, text, carriers, a, b, c);
     }
+    Ok(())
 }
 
 // Runs a text that has been judged, unless it was refused.
 fn run_judged(
+    rt: &HostRuntime,
     path: &[u8],
     budget: u32,
     text: &[u8],
@@ -134,19 +151,19 @@ fn run_judged(
     a: &mut [u8],
     b: &mut [u8],
     c: &mut [u8],
-)
+) -> io::Result<()>
     requires text_len_bound { (length text.now ≤ longest_text) × ((65536 ≤ length a.old) × ((65536 ≤ length b.old) × (65536 ≤ length c.old))) }
     requires path_len_bound { (length path.now ≤ 4096) × (32768 ≤ length carriers.old) }
 {
     if judged.ending == REFUSED {
-        say(judged);
-        return;
+        return say(rt, judged);
     }
     let size = carrier_bytes(judged.words);
-    run_accepted(path, budget, text, carriers, size, a, b, c);
+    run_accepted(rt, path, budget, text, carriers, size, a, b, c)
 }
 
 fn go_on(
+    rt: &HostRuntime,
     path: &[u8],
     budget: u32,
     text: &[u8],
@@ -154,52 +171,65 @@ fn go_on(
     a: &mut [u8],
     b: &mut [u8],
     c: &mut [u8],
-)
+) -> io::Result<()>
     requires text_len_bound { (length text.now ≤ longest_text) × ((65536 ≤ length a.old) × ((65536 ≤ length b.old) × (65536 ≤ length c.old))) }
     requires path_len_bound { (length path.now ≤ 4096) × (32768 ≤ length carriers.old) }
 {
     let judged = check(text, a, b, c);
-    run_judged(path, budget, text, carriers, judged, a, b, c);
+    run_judged(rt, path, budget, text, carriers, judged, a, b, c)
 }
 
-fn with_memory(path: &[u8], budget: u32, text: &[u8])
+fn with_memory(rt: &HostRuntime, path: &[u8], budget: u32, text: &[u8]) -> io::Result<()>
     requires { (length path.now ≤ 4096) × (length text.now ≤ longest_text) }
 {
     let mut carriers = [0u8; 32768];
-    let mut a = io::large_buffer();
-    let mut b = io::large_buffer();
-    let mut c = io::large_buffer();
-    go_on(path, budget, text, &mut carriers, &mut a, &mut b, &mut c);
+    let mut a = [0u8; 65536];
+    let mut b = [0u8; 65536];
+    let mut c = [0u8; 65536];
+    go_on(
+        rt,
+        path,
+        budget,
+        text,
+        &mut carriers,
+        &mut a,
+        &mut b,
+        &mut c,
+    )
 }
 
-fn read_text(path: &[u8], budget: u32)
+fn read_text(rt: &HostRuntime, path: &[u8], budget: u32) -> io::Result<()>
     requires { length path.now ≤ 4096 }
 {
     let mut text = [0u8; 32769];
-    let n = io::read_full(STDIN_FILENO, &mut text);
+    let n = read_full(&mut rt.stdin(), &mut text)?;
     if LONGEST_TEXT < n {
-        io::write_all(STDOUT_FILENO, b"1:1: refused 2\n");
-        return;
+        return rt.write_all(b"1:1: refused 2\n");
     }
-    with_memory(path, budget, &text[..n]);
+    with_memory(rt, path, budget, &text[..n])
 }
 
 // The second argument.
-fn budget_given() -> Budget {
+fn budget_given(rt: &HostRuntime) -> Budget {
     let mut word = [0u8; 16];
-    let n = os::arg(2, &mut word);
+    let n = argument(rt, 2, &mut word);
     budget_in(&word[..n])
 }
 
-fn main() {
-    let mut path = io::buffer();
-    let n = os::arg(1, &mut path);
-    if os::errno() != 0 {
-        say_usage();
-        return;
+// Runs the text with the budget that is given, from the image at this path.
+fn run_at(rt: &HostRuntime, path: &[u8]) -> io::Result<()>
+    requires { length path.now ≤ 4096 }
+{
+    match budget_given(rt) {
+        Budget::Unreadable => say_usage(rt),
+        Budget::Steps(budget) => read_text(rt, path, budget),
     }
-    match budget_given() {
-        Budget::Unreadable => say_usage(),
-        Budget::Steps(budget) => read_text(&path[..n], budget),
+}
+
+fn main(rt: HostRuntime) -> io::Result<()> {
+    let mut path = [0u8; 4096];
+    match rt.arg(1, &mut path) {
+        Ok(n) => run_at(&rt, &path[..n]),
+        Err(_) => say_usage(&rt),
     }
 }
