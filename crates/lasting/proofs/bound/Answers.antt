@@ -1,0 +1,23 @@
+-- `lasting::bound` meets its contract.
+use borrow.Author.Rules.{rules}
+use Rattle.lent.specs.Laws.Measured.{fits}
+use Rattle.lent.specs.Laws.Settled.{settled_from}
+use Rattle.lasting.specs.Laws.Bounded.{answers_call, unread_call}
+use Rattle.lasting.proofs.bound.Goals as goal
+
+pub returns-then-refused-ne0 : goal.returns-then-refused-ne0
+returns-then-refused-ne0 c = unread_call c.unread-refused.ensures c.if-refused-ne0.true
+
+pub bounded-found-requires : goal.bounded-found-requires
+bounded-found-requires c =
+    let f = fits c.unread-refused.ensures c.if-refused-ne0.false in
+    (f.1, (f.0.work_a, (f.0.work_b, f.0.work_c)))
+
+pub settle-requires : goal.settle-requires
+settle-requires c =
+    (fits c.unread-refused.ensures c.if-refused-ne0.false).0.answer
+
+pub returns : goal.returns
+returns c =
+    let f = fits c.unread-refused.ensures c.if-refused-ne0.false in
+    answers_call f.0 f.1 c.bounded-found.ensures (settled_from c.settle.ensures (search rules) (search rules) (search rules))
