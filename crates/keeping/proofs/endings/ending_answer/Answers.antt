@@ -1,0 +1,13 @@
+-- `keeping::endings::ending_answer` meets its contract: the numbers by the case of the ending.
+-- Assumes nothing.
+use Rattle.keeping.specs.Laws.Calls.{numbers_by, near_by}
+use Rattle.keeping.proofs.endings.ending_answer.Goals as goal
+
+pub refusal-requires : goal.refusal-requires
+refusal-requires c = near_by c.requires c.in-Refused.is
+
+pub returns-in-Refused : goal.returns-in-Refused
+returns-in-Refused c = λ left. numbers_by c.args.text.now left c.refusal.ensures c.in-Refused.is
+
+pub returns-in-Done : goal.returns-in-Done
+returns-in-Done c = λ left. numbers_by c.args.text.now left c.unrefused.ensures c.in-Done.is

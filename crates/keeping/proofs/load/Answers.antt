@@ -1,0 +1,27 @@
+-- `keeping::load` meets its contract.
+-- Assumes nothing.
+use borrow.Author.Rules.{rules}
+use Rattle.lent.specs.Laws.Measured.{fits}
+use Rattle.lent.specs.Laws.Settled.{settled_from}
+use Rattle.keeping.specs.Laws.Calls.{keep_call, unread_call}
+use Rattle.keeping.proofs.load.Goals as goal
+
+pub returns-then-refused-ne0 : goal.returns-then-refused-ne0
+returns-then-refused-ne0 c = unread_call c.unread-refused.ensures c.if-refused-ne0.true
+
+pub loaded-requires : goal.loaded-requires
+loaded-requires c =
+    let f = fits c.unread-refused.ensures c.if-refused-ne0.false in
+    (f.1, (f.0.work_a, (f.0.work_b, f.0.work_c)))
+
+pub ending_answer-found-requires : goal.ending_answer-found-requires
+ending_answer-found-requires c = c.loaded.ensures.keeping.near
+
+pub settle-requires : goal.settle-requires
+settle-requires c =
+    (fits c.unread-refused.ensures c.if-refused-ne0.false).0.answer
+
+pub returns : goal.returns
+returns c =
+    let f = fits c.unread-refused.ensures c.if-refused-ne0.false in
+    keep_call f.0 f.1 c.loaded.ensures c.ending_answer-found.ensures (settled_from c.settle.ensures (search rules) (search rules) (search rules))
