@@ -1,0 +1,69 @@
+-- `tracing::runs::trace` meets its contract: at each turn the machine has the rest of the run to do, and the rest to report.
+-- Assumes nothing.
+use Prim.Native.Nat.{◌-◌}
+use borrow.Author.Rules.{rules}
+use native.Mathlib.Omega.{arith}
+use mathlib.Core.Path.{refl}
+use Rattle.tracing.specs.Laws.Traces.{enters, tracing_begins, turn_at, ends, goes_on, pauses}
+use Rattle.tracing.proofs.runs.trace.Goals as goal
+
+pub slice_bounds-enter-count : goal.slice_bounds-enter-count
+slice_bounds-enter-count c = omega (arith, c.requires.long)
+
+pub slice_bounds-enter-start : goal.slice_bounds-enter-start
+slice_bounds-enter-start c = search rules
+
+pub slice_bounds-enter-end : goal.slice_bounds-enter-end
+slice_bounds-enter-end c = search rules
+
+pub enter-requires : goal.enter-requires
+enter-requires c = enters c.requires 0
+
+pub loop-steps-init : goal.loop-steps-init
+loop-steps-init c = (search rules, (refl, (refl, (search rules, (search rules, λ room₁ v e. tracing_begins v _ e _)))))
+
+pub slice_bounds-turn-end : goal.slice_bounds-turn-end
+slice_bounds-turn-end c = search rules
+
+pub slice_bounds-turn-end-in-loop-steps : goal.slice_bounds-turn-end-in-loop-steps
+slice_bounds-turn-end-in-loop-steps c = search rules
+
+pub turn-turned-requires : goal.turn-turned-requires
+turn-turned-requires c =
+    (turn_at c.requires _ _ _ (c.loop-steps.invariant.1.1.1.1.1 _ c.requires c.enter.ensures) c.loop-steps.invariant.1.0 c.loop-steps.invariant.1.1.1.1.0, omega (arith, c.loop-steps.invariant.1.1.1.0))
+
+pub ended-requires : goal.ended-requires
+ended-requires c = omega (arith, c.loop-steps-test.true, c.ranges.budget)
+
+pub returns-in_default : goal.returns-in_default
+returns-in_default c = λ v.
+    ends v _ _ _ (c.loop-steps.invariant.1.1.1.1.1 _ v c.enter.ensures) c.loop-steps.invariant.1.0 c.loop-steps.invariant.1.1.1.1.0 c.loop-steps-test.true c.turn-turned.ensures
+    c.in_default.not-At c.ended.ensures
+
+pub overflow_add-steps : goal.overflow_add-steps
+overflow_add-steps c = record { fits = omega (arith, c.loop-steps-test.true, c.ranges.budget) }
+
+pub loop-steps-smaller : goal.loop-steps-smaller
+loop-steps-smaller c = search rules
+
+pub loop-steps-preserved : goal.loop-steps-preserved
+loop-steps-preserved c = (
+  omega (arith, c.loop-steps-test.true),
+  (
+    omega (arith, c.turn-turned.auto.memory, c.loop-steps.invariant.1.0),
+    (
+      omega (arith, c.turn-turned.auto.room, c.loop-steps.invariant.1.1.0),
+      (
+        omega (arith, c.turn-turned.auto.scratch, c.loop-steps.invariant.1.1.1.0),
+        (
+          omega (arith, c.turn-turned.auto.stack, c.loop-steps.invariant.1.1.1.1.0),
+          λ room₁ v e. goes_on v _ _ _ (c.loop-steps.invariant.1.1.1.1.1 room₁ v e) c.loop-steps.invariant.1.0 c.loop-steps.invariant.1.1.1.1.0 c.loop-steps-test.true c.turn-turned.ensures c.in-At.is,
+        ),
+      ),
+    ),
+  ),
+)
+
+pub returns : goal.returns
+returns c = λ v.
+    pauses v _ _ _ (c.loop-steps.invariant.1.1.1.1.1 _ v c.enter.ensures) c.loop-steps.invariant.1.0 c.loop-steps.invariant.1.1.1.1.0 (omega (arith, c.loop-steps-test.false)) c.loop-steps.invariant.0
