@@ -1,0 +1,22 @@
+-- `resuming::profile` meets its contract.
+-- Assumes nothing.
+use borrow.Author.Rules.{rules}
+use Rattle.lent.specs.Laws.Measured.{fits}
+use Rattle.lent.specs.Laws.Settled.{settled_from}
+use Rattle.resuming.specs.Laws.Told.{answers_call, unread_call}
+use Rattle.resuming.proofs.profile.Goals as goal
+
+pub returns-then-refused-ne0 : goal.returns-then-refused-ne0
+returns-then-refused-ne0 c = unread_call c.unread-refused.ensures c.if-refused-ne0.true
+
+pub profiled-found-requires : goal.profiled-found-requires
+profiled-found-requires c =
+    let f = fits c.unread-refused.ensures c.if-refused-ne0.false in (f.1, (f.0.work_a, (f.0.work_b, f.0.work_c)))
+
+pub settle-requires : goal.settle-requires
+settle-requires c = (fits c.unread-refused.ensures c.if-refused-ne0.false).0.answer
+
+pub returns : goal.returns
+returns c =
+    let f = fits c.unread-refused.ensures c.if-refused-ne0.false in
+    answers_call f.0 f.1 c.profiled-found.ensures (settled_from c.settle.ensures (search rules) (search rules) (search rules))
