@@ -1,0 +1,19 @@
+-- `compared::traces::compare_accepted` meets its contract: the carriers' refusal, or what is compared.
+-- Assumes nothing.
+use native.Mathlib.Omega.{arith}
+use borrow.Author.Rules.{rules}
+use Rattle.starts.specs.Laws.Cases.{declines_by, begins_by}
+use Rattle.compared.specs.Laws.Traced.{refused_carriers}
+use Rattle.compared.proofs.traces.compare_accepted.Goals as goal
+
+pub refusal-requires : goal.refusal-requires
+refusal-requires c =
+    omega (arith, (declines_by (c.start.ensures _ _ _ c.requires.by_index.1.lawful.declares.ready) c.in-Refused.is).near)
+
+pub compare_listed-requires : goal.compare_listed-requires
+compare_listed-requires c =
+    record { by_index = (c.requires.by_index.0, c.requires.by_index.1, begins_by (c.start.ensures _ _ _ c.requires.by_index.1.lawful.declares.ready) (search rules)); in_bounds = c.requires.in_bounds }
+
+pub returns-in-Refused : goal.returns-in-Refused
+returns-in-Refused c =
+    refused_carriers c.requires.by_index.1 (declines_by (c.start.ensures _ _ _ c.requires.by_index.1.lawful.declares.ready) c.in-Refused.is) c.refusal.ensures
