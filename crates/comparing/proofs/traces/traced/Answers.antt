@@ -1,0 +1,16 @@
+-- `comparing::traces::traced` meets its contract: the text's refusal, or what becomes of the list.
+-- Assumes nothing.
+use native.Mathlib.Omega.{arith}
+use borrow.Author.Rules.{rules}
+use Rattle.reader.specs.Laws.Cases.{refuses_by, accepts_by}
+use Rattle.comparing.specs.Laws.Traced.{refused_text}
+use Rattle.comparing.proofs.traces.traced.Goals as goal
+
+pub refusal-requires : goal.refusal-requires
+refusal-requires c = omega (arith, (refuses_by c.check.ensures c.in-Refused.is).near)
+
+pub compare_accepted-requires : goal.compare_accepted-requires
+compare_accepted-requires c = record { by_index = accepts_by c.check.ensures c.in-Accepted.is; in_bounds = search rules }
+
+pub returns-in-Refused : goal.returns-in-Refused
+returns-in-Refused c = refused_text (refuses_by c.check.ensures c.in-Refused.is) c.refusal.ensures
