@@ -2,4 +2,4 @@
 #![tactic(auto)]
 
 mod endings;
-pub mod traces;
+pub mod runs;

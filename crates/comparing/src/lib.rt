@@ -1,12 +1,12 @@
 // Trace: compares a designer's list of stores with the runs of a text.
 #![tactic(auto)]
 
-mod traces;
+mod working;
 
 ghost use Rattle.rules.specs.Calls.Memory.{memory};
 ghost use Rattle.rules.specs.Calls.Trace.{TraceCall};
 
-use crate::traces::traced;
+use crate::working::traced;
 use lent::memory::{WORK_SIZE, clear, unread};
 use lent::settling::settle;
 

@@ -1,7 +1,7 @@
 // Says why the description on standard input is refused, or that it is accepted.
 #![tactic(auto)]
 
-mod chains;
+mod activations;
 mod races;
 mod reports;
 

@@ -1,7 +1,7 @@
 // All that is said of a text.
 ghost use Rattle.std.specs.Prelude.{◌+◌, ◌≤◌, length};
 
-use crate::chains::put_chain;
+use crate::activations::put_chain;
 use crate::races::put_race;
 use excerpts::excerpts::put_excerpt;
 use excerpts::places::offset_in;

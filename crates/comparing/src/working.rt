@@ -3,7 +3,7 @@ ghost use Rattle.std.specs.Prelude.{◌≤◌, length};
 ghost use Rattle.rules.specs.Limits.{longest_text};
 ghost use Rattle.compared.specs.Traced.{Traced};
 
-use compared::traces::compare_accepted;
+use compared::runs::compare_accepted;
 use lent::answers::{Answer, refusal};
 use reader::judging::Verdict;
 

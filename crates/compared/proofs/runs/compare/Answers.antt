@@ -1,10 +1,10 @@
--- `compared::traces::compare` meets its contract: the run that tells the matching, by the promise.
+-- `compared::runs::compare` meets its contract: the run that tells the matching, by the promise.
 -- Assumes nothing.
 use borrow.Author.Rules.{rules}
 use native.Mathlib.Omega.{arith}
 use Rattle.listed.specs.Laws.Entries.{list_few}
 use Rattle.compared.specs.Laws.Traced.{reading_by, to_trace, traced_ended}
-use Rattle.compared.proofs.traces.compare.Goals as goal
+use Rattle.compared.proofs.runs.compare.Goals as goal
 
 pub lay-requires : goal.lay-requires
 lay-requires c =

@@ -1,10 +1,10 @@
--- `comparing::traces::traced` meets its contract: the text's refusal, or what becomes of the list.
+-- `comparing::working::traced` meets its contract: the text's refusal, or what becomes of the list.
 -- Assumes nothing.
 use native.Mathlib.Omega.{arith}
 use borrow.Author.Rules.{rules}
 use Rattle.reader.specs.Laws.Cases.{refuses_by, accepts_by}
 use Rattle.comparing.specs.Laws.Traced.{refused_text}
-use Rattle.comparing.proofs.traces.traced.Goals as goal
+use Rattle.comparing.proofs.working.traced.Goals as goal
 
 pub refusal-requires : goal.refusal-requires
 refusal-requires c = omega (arith, (refuses_by c.check.ensures c.in-Refused.is).near)

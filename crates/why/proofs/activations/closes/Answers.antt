@@ -1,7 +1,7 @@
--- `why::chains::closes` is safe: the numbers of all bodies stand in the reason.
+-- `why::activations::closes` is safe: the numbers of all bodies stand in the reason.
 -- Assumes nothing.
 use native.Mathlib.Omega.{arith}
-use Rattle.why.proofs.chains.closes.Goals as goal
+use Rattle.why.proofs.activations.closes.Goals as goal
 
 pub loop-k-init : goal.loop-k-init
 loop-k-init c = omega arith

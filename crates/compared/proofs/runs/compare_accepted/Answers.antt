@@ -1,10 +1,10 @@
--- `compared::traces::compare_accepted` meets its contract: the carriers' refusal, or what is compared.
+-- `compared::runs::compare_accepted` meets its contract: the carriers' refusal, or what is compared.
 -- Assumes nothing.
 use native.Mathlib.Omega.{arith}
 use borrow.Author.Rules.{rules}
 use Rattle.starts.specs.Laws.Cases.{declines_by, begins_by}
 use Rattle.compared.specs.Laws.Traced.{refused_carriers}
-use Rattle.compared.proofs.traces.compare_accepted.Goals as goal
+use Rattle.compared.proofs.runs.compare_accepted.Goals as goal
 
 pub refusal-requires : goal.refusal-requires
 refusal-requires c =

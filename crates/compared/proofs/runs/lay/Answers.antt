@@ -1,8 +1,8 @@
--- `compared::traces::lay` meets its contract: the cells are written behind the carriers.
+-- `compared::runs::lay` meets its contract: the cells are written behind the carriers.
 -- Assumes nothing.
 use borrow.Author.Rules.{rules}
 use Rattle.compared.specs.Laws.Laid.{laid}
-use Rattle.compared.proofs.traces.lay.Goals as goal
+use Rattle.compared.proofs.runs.lay.Goals as goal
 
 pub returns : goal.returns
 returns c =

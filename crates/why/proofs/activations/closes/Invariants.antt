@@ -1,7 +1,7 @@
--- `why::chains::closes` is safe: the numbers of all bodies stand in the reason.
+-- `why::activations::closes` is safe: the numbers of all bodies stand in the reason.
 -- Assumes nothing.
 use Prim.Native.Nat.{◌-◌, ◌≤◌}
-use Rattle.why.proofs.chains.closes.Given as goal
+use Rattle.why.proofs.activations.closes.Given as goal
 
 abbrev pub invariant-loop-k : goal.invariant-loop-k
 invariant-loop-k l = l.k ≤ l.i
