@@ -75,11 +75,12 @@ fn run_started(
     requires { (length path.now ≤ 4096) × (length carriers.old ≤ 32768) }
 {
     let ended = run(text, carriers, budget, a, b, c);
-    say(rt, ended)?;
+    // what the run left is kept even where it cannot be said how it ended
+    let said = say(rt, ended);
     if ended.ending < FAULT {
-        return finish(rt, path, text, carriers, a, b, c);
+        finish(rt, path, text, carriers, a, b, c)?;
     }
-    Ok(())
+    said
 }
 
 // Runs a text from the carriers that the file keeps. Returns whether it could start.
