@@ -285,9 +285,8 @@ def arms(body, names):
     return body
 
 
-def turn(root, crate, path, function, names):
-    with open(path, encoding="utf-8") as f:
-        text = f.read()
+def parts_of(text):
+    """The comments and the `use` lines at the head of a proof file, and its other items."""
     items = items_of(text)
     uses = [i for i in items if re.match(r"(--[^\n]*\n)*use ", i)]
     head, used = [], []
@@ -298,6 +297,13 @@ def turn(root, crate, path, function, names):
             elif line.strip():
                 used.append(line)
     rest = [i for i in items if i not in uses]
+    return head, used, rest
+
+
+def turn(root, crate, path, function, names):
+    with open(path, encoding="utf-8") as f:
+        text = f.read()
+    head, used, rest = parts_of(text)
     main = [i for i in rest if "tie.close" in i]
     if len(main) != 1:
         return "no single tie.close"
@@ -350,16 +356,7 @@ def turn_cycle(root, crate, path, function, listed_names):
     with open(path, encoding="utf-8") as f:
         text = f.read()
     text = re.sub(r"\{\n\s*([^{}\n]*?),?\n\}", r"{\1}", text)
-    items = items_of(text)
-    uses = [i for i in items if re.match(r"(--[^\n]*\n)*use ", i)]
-    head, used = [], []
-    for i in uses:
-        for line in i.split("\n"):
-            if line.startswith("--"):
-                head.append(line)
-            elif line.strip():
-                used.append(line)
-    rest = [i for i in items if i not in uses]
+    head, used, rest = parts_of(text)
     main = [i for i in rest if re.search(r"=\s*close\s", i)]
     if len(main) != 1:
         return "no single close"
