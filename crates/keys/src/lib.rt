@@ -6,6 +6,8 @@ ghost use Rattle.rules.specs.Faults.Fault.{fault};
 ghost use Rattle.rules.specs.Limits.{longest_text};
 ghost use Rattle.keys.specs.Keys.{key, number_key};
 
+use rules::refusals::Refusal;
+
 // No fault: above every key.
 pub const NO_KEY: u32 = 4294967295;
 
@@ -25,14 +27,7 @@ pub fn number_key(number: u32, place: usize) -> u32
     number * 65536 + place as u32
 }
 
-// The fault that a key stands for.
-#[derive(Clone, Copy)]
-pub struct Refusal {
-    pub number: u32,
-    pub place: usize,
-}
-
-// Of a key where the place counts first.
+// The refusal that a key stands for where the place counts first.
 pub fn fault_of(key: u32) -> Refusal
     ensures { (result.number ≡ key % 128) × (result.place ≡ key / 128) }
 {
@@ -42,7 +37,7 @@ pub fn fault_of(key: u32) -> Refusal
     }
 }
 
-// Of a key where the number counts first.
+// The refusal that a key stands for where the number counts first.
 pub fn number_fault_of(key: u32) -> Refusal
     ensures { (result.number ≡ key / 65536) × (result.place ≡ key % 65536) }
 {

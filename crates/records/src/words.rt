@@ -12,14 +12,12 @@ fn same_run(text: &[u8], a: usize, b: usize, n: usize) -> bool
     requires { (a + n ≤ length text.now) × (b + n ≤ length text.now) }
     ensures { result ≡ same_bytes (folded_at text.now a n) (folded_at text.now b n) }
 {
-    let mut k: usize = 0;
-    while k < n {
+    for k in 0..n {
         let x = upper(text[a + k]);
         let y = upper(text[b + k]);
         if x != y {
             return false;
         }
-        k += 1;
     }
     true
 }
