@@ -1,17 +1,7 @@
--- `cells::put16` meets its contract: its two stores are those of `put_at`.
--- Assumes nothing.
-use native.Mathlib.Omega.{arith}
-use mathlib.Core.Path.{refl}
-use lib.ListN.{length-set}
-use Rattle.cells.specs.Cells.{put_at}
+-- `cells::put16` meets its contract.
+use Rattle.std.proofs.Common.{◌∙◌, arith}
+use Rattle.cells.proofs.Bytes.{placed}
 use Rattle.cells.proofs.put16.Goals as goal
 
-pub bounds-b-o-2 : goal.bounds-b-o-2
-bounds-b-o-2 c = simp length-set (omega arith)
-
-pub shape_of-b : goal.shape_of-b
-shape_of-b c = simp length-set
-
 pub returns : goal.returns
-unfolding put_at
-returns c = refl
+returns c = placed 1 _ _ _ _ c.args.v (c.copy_from_slice.ensures.after ∙ c.to_le_bytes.ensures) (omega arith) c.requires
