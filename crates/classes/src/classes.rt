@@ -18,14 +18,12 @@ pub fn class_of(classes: &[u8; 256], b: u8) -> u8
 }
 
 // Whether a run of the classes in `set` goes on with b. Byte 10 ends every run: it ends a comment, and no other run has its class.
+#[tactic(auto, unfolding(crate::specs::Classes::among))]
 fn goes_on(classes: &[u8; 256], set: u32, b: u8) -> bool
     requires { Classed classes.now }
     ensures { result ≡ among set b }
 {
-    if b == 10 {
-        return false;
-    }
-    (set >> class_of(classes, b)) % 2 == 1
+    b != 10 && (set >> class_of(classes, b)) % 2 == 1
 }
 
 // Where the run of the classes in `set` ends that starts at `from`.
@@ -33,14 +31,10 @@ pub fn run_end(text: &[u8], classes: &[u8; 256], from: usize, set: u32) -> usize
     requires { (Classed classes.now) × (from ≤ length text.now) }
     ensures { RunEnds set text.now from result }
 {
-    let mut i = from;
-    while i < text.len() {
-        let b = text[i];
-        if goes_on(classes, set, b) {
-            i += 1;
-        } else {
+    for i in from..text.len() {
+        if !goes_on(classes, set, text[i]) {
             return i;
         }
     }
-    i
+    text.len()
 }

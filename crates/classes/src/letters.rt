@@ -3,14 +3,9 @@ ghost use Rattle.std.specs.Prelude.{◌≡◌};
 ghost use Rattle.rules.specs.Text.Bytes.{fold};
 
 // The byte in upper case.
+#[tactic(auto, unfolding(rules::specs::Text::Bytes::fold))]
 pub fn upper(b: u8) -> u8
     ensures { result ≡ fold b }
 {
-    if b < 97 {
-        return b;
-    }
-    if 122 < b {
-        return b;
-    }
-    b - 32
+    b.to_ascii_uppercase()
 }

@@ -8,26 +8,23 @@ use classes::letters::upper;
 use room::spelling::HEADS;
 
 // The letter k of the n at p, in upper case; 0 behind them.
+#[tactic(auto, using(crate::specs::Laws::Letters::letter_at, crate::specs::Laws::Letters::no_letter))]
 fn letter(text: &[u8], p: usize, n: usize, k: usize) -> u8
     requires { p + n ≤ length text.now }
     ensures { result ≡ get_or (folded_at text.now p n) k 0 }
 {
-    if k < n {
-        return upper(text[p + k]);
-    }
-    0
+    if k < n { upper(text[p + k]) } else { 0 }
 }
 
 // The head for the n letters at p.
+#[tactic(auto, using(crate::specs::Laws::Letters::letters), unfolding(crate::specs::Trees::hash_to))]
 pub fn hash_of(text: &[u8], p: usize, n: usize) -> usize
     requires { p + n ≤ length text.now }
     ensures { (result ≡ hash_of (folded_at text.now p n)) × (result < heads) }
 {
     let mut h: usize = 0;
-    let mut k: usize = 0;
-    while k < n {
+    for k in 0..n {
         h = (h * 33 + letter(text, p, n, k) as usize) % HEADS;
-        k += 1;
     }
     h
 }
@@ -36,14 +33,11 @@ pub fn hash_of(text: &[u8], p: usize, n: usize) -> usize
 fn letter_with(n: usize, d: usize) -> usize
     ensures { result ≡ n - (d / 6 + 1) }
 {
-    let behind = d / 6 + 1;
-    if behind < n {
-        return n - behind;
-    }
-    0
+    n.saturating_sub(d / 6 + 1)
 }
 
 // The bit d of the n letters at p.
+#[tactic(auto, using(crate::specs::Laws::Letters::letters))]
 pub fn bit_of(text: &[u8], p: usize, n: usize, d: usize) -> usize
     requires { p + n ≤ length text.now }
     ensures { (result ≡ bit_of (folded_at text.now p n) d) × (result < 2) }

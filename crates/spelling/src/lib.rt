@@ -60,9 +60,7 @@ pub fn spell(text: &[u8], records: &mut [u8], room: &mut [u8], n: usize)
     ensures spelled { (v : Tabled text.now records.old n) → Spelled records.new v.tokens }
 {
     clear_heads(room);
-    let mut i: usize = 0;
-    while i < n {
+    for i in 0..n {
         spell_one(text, records, room, i);
-        i += 1;
     }
 }

@@ -10,14 +10,13 @@ use room::spelling::HEADS;
 pub const NONE: u16 = 65535;
 
 // Leaves no node at any head.
+#[tactic(auto, using(crate::specs::Laws::Cells::none_cleared, crate::specs::Laws::Cells::cleared_more))]
 pub fn clear_heads(room: &mut [u8])
     requires { room_size ≤ length room.old }
     ensures { Cleared room.new 0 heads }
 {
-    let mut h: usize = 0;
-    while h < HEADS {
+    for h in 0..HEADS {
         put16(room, h, NONE);
-        h += 1;
     }
 }
 

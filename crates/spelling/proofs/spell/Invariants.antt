@@ -1,11 +1,7 @@
 -- `spelling::spell` meets its contract: the tokens that are passed are spelled.
 -- Assumes nothing.
-use Prim.Native.Nat.{◌-◌}
 use Rattle.spelling.proofs.Steps.{Inv}
 use Rattle.spelling.proofs.spell.Given as goal
 
 abbrev pub invariant-loop-i : goal.invariant-loop-i
 invariant-loop-i l = Inv l.text l.initial.records l.records l.initial.room l.room l.n l.i
-
-abbrev pub decreases-loop-i : goal.decreases-loop-i
-decreases-loop-i l = l.n - l.i

@@ -5,7 +5,7 @@ use native.Mathlib.Omega.{arith}
 use mathlib.Core.Path.{◌≡◌, ap}
 use mathlib.Core.Bool.{Bool, true, false}
 use mathlib.Core.List.{List}
-use Prim.Native.Nat.{ℕ, ◌+◌, ◌-◌, ◌<◌, ◌≤◌}
+use Prim.Native.Nat.{ℕ, ◌+◌, ◌<◌, ◌≤◌}
 use lib.ListN.{length, get_or}
 use Rattle.classes.specs.Classes.{among, RunEnds}
 use Rattle.classes.specs.Laws.Runs.{run_step, run_stop, run_over}
@@ -31,8 +31,8 @@ module _ {text : List ℕ} {from set i : ℕ} (inv : Inv text from set i) where
 pub loop-i-preserved : goal.loop-i-preserved
 loop-i-preserved c = search (rules, passed)
 
-pub returns-else-goes_on : goal.returns-else-goes_on
-returns-else-goes_on c = search (rules, stopped)
+pub returns-then-not-goes_on : goal.returns-then-not-goes_on
+returns-then-not-goes_on c = search (rules, stopped)
 
 pub returns : goal.returns
 returns c = search (rules, ended)
