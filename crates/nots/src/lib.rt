@@ -12,11 +12,8 @@ pub fn behind_nots(records: &[u8], i: usize) -> usize
     ensures { (v : OperandIn records.now i) → Bared v result }
 {
     let mut at = i;
-    loop {
-        let kind = kind_at(records, at);
-        if kind != NOT {
-            return at;
-        }
+    while kind_at(records, at) == NOT {
         at += 1;
     }
+    at
 }

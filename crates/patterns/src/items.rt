@@ -38,10 +38,7 @@ fn longer(x: u64, n: u32) -> bool
     requires { n ≤ 64 }
     ensures { result ≡ leb (2 ^ n) x }
 {
-    if n == 64 {
-        return false;
-    }
-    weight(n) <= x
+    n < 64 && weight(n) <= x
 }
 
 // Whether the highest value that the item matches takes more than n bits.

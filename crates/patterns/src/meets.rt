@@ -16,20 +16,20 @@ pub fn patterns_meet(v: u64, f: u64, w: u64, g: u64) -> bool
 pub fn lower(a: u64, b: u64) -> u64
     ensures { result ≡ min a b }
 {
-    if a < b { a } else { b }
+    a.min(b)
 }
 
 pub fn higher(a: u64, b: u64) -> u64
     ensures { result ≡ max a b }
 {
-    if a < b { b } else { a }
+    a.max(b)
 }
 
 // How far a lies above b.
 fn above(a: u64, b: u64) -> u64
     ensures { result ≡ a - b }
 {
-    if a < b { 0 } else { a - b }
+    a.saturating_sub(b)
 }
 
 // The value of the bit n.
@@ -64,9 +64,7 @@ pub fn reaches(v: u64, f: u64, l: u64, h: u64) -> bool
     let mut free = f;
     let mut low = l;
     let mut high = h;
-    let mut n: u32 = 64;
-    while 0 < n {
-        n -= 1;
+    for n in (0..64u32).rev() {
         let top = weight(n);
         let without = may_be(0, n, value, free);
         let with = may_be(1, n, value, free);

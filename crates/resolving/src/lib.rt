@@ -18,10 +18,8 @@ fn forget(records: &mut [u8], n: usize)
     requires { (8 * n ≤ length records.old) × (n ≤ most_tokens) }
     ensures { InsideOnly records.old records.new × Forgotten records.new n }
 {
-    let mut i: usize = 0;
-    while i < n {
+    for i in 0..n {
         put_inside(records, i, UNKNOWN as usize);
-        i += 1;
     }
 }
 
@@ -44,9 +42,7 @@ fn mark(records: &mut [u8], decls: &[u8], m: usize)
         → Forgotten records.old (length ts) → MarkedFrom records.new ts (word_at ts 0) list 0 }
 {
     put_inside(records, link_at(records, 0), OUTER_ONLY as usize);
-    let mut k = m;
-    while 0 < k {
-        k -= 1;
+    for k in (0..m).rev() {
         mark_one(records, decls, k);
     }
 }
@@ -72,10 +68,8 @@ fn resolve(records: &mut [u8], n: usize)
     ensures meant_to { (ts : Tokens) (outer : Word) (list : List Declaration) → SpelledIn records.old ts → n ≡ length ts
         → MarkedFrom records.old ts outer list 0 → MeantTo records.new ts outer list n }
 {
-    let mut i: usize = 0;
-    while i < n {
+    for i in 0..n {
         resolve_one(records, i);
-        i += 1;
     }
 }
 

@@ -1,17 +1,15 @@
 -- The alternatives of one DECODE, by the tokens at which they begin, and the first that overlaps an earlier one.
-use Rattle.std.specs.Prelude.{ℕ, zero, suc, ◌*◌, ◌<◌, ◌≤◌, ◌≡◌, Bool, true, false, List, [], ◌++◌, length}
+use Rattle.std.specs.Prelude.{Option, Some, None, ℕ, zero, suc, ◌*◌, ◌<◌, ◌≤◌, ◌≡◌, Bool, true, false, List, [], ◌++◌, length}
 use Rattle.cells.specs.Cells.{cell}
 use Rattle.rules.specs.Grammar.Trees.{Tokens}
 use Rattle.rules.specs.Selectors.{Item}
 use Rattle.rules.specs.Faults.Bodies.{some_meet_of}
-use Rattle.selectors.specs.declared.alternatives.Items.{Items}
-use Rattle.selectors.specs.declared.alternatives.Items.TheVariants.{From, Nothing}
 use Rattle.patterns.specs.Stands.{Held, ItemsFrom, ItemsAt}
 
 -- where the items of an alternative begin
-abbrev pub Begin : Tokens → List Item → Items → Type 0
-Begin ts is Nothing = is ≡ []
-Begin ts is (From q) = ItemsFrom ts q is
+abbrev pub Begin : Tokens → List Item → Option ℕ → Type 0
+Begin ts is None = is ≡ []
+Begin ts is (Some q) = ItemsFrom ts q is
 
 -- the cells of `starts` have the tokens at which `count` alternatives begin
 pub record AlternativesView (records values starts : List ℕ) (count : ℕ) : Type 0 where

@@ -11,26 +11,19 @@ use records::fields::kind_at;
 use rules::kinds::{LBRA, OTHERWISE};
 use summaries::{Summary, apart, of_items, open};
 
-// Where the items of an alternative begin; OTHERWISE has none.
-#[derive(Clone, Copy)]
-pub enum Items {
-    From(usize),
-    Nothing,
-}
-
-// The items of the alternative at p.
-fn items_of(records: &[u8], p: usize) -> Items
+// Where the items of the alternative at p begin; OTHERWISE has none.
+fn items_of(records: &[u8], p: usize) -> Option<usize>
     requires { (values : List ℕ) × AlternativeView records.now values p }
     ensures { (values : List ℕ) (v : AlternativeView records.now values p) → Begin v.tokens v.items result }
 {
     let kind = kind_at(records, p);
     if kind == OTHERWISE {
-        return Items::Nothing;
+        return None;
     }
     if kind == LBRA {
-        return Items::From(p + 1);
+        return Some(p + 1);
     }
-    Items::From(p)
+    Some(p)
 }
 
 // Whether the highest value of the alternative at p takes more than n bits.
@@ -39,8 +32,8 @@ pub fn past(records: &[u8], values: &[u8], n: u32, p: usize) -> bool
     ensures { (v : AlternativeView records.now values.now p) → result ≡ rules.past n v.items }
 {
     match items_of(records, p) {
-        Items::From(q) => past_length(records, values, n, q),
-        Items::Nothing => false,
+        Some(q) => past_length(records, values, n, q),
+        None => false,
     }
 }
 
@@ -50,11 +43,11 @@ fn overlap(records: &[u8], values: &[u8], p: usize, q: usize) -> bool
     ensures { (v : TwoAlternatives records.now values.now p q) → result ≡ rules.some_meet_of v.first v.second }
 {
     match items_of(records, p) {
-        Items::From(a) => match items_of(records, q) {
-            Items::From(b) => some_meet(records, values, a, b),
-            Items::Nothing => false,
+        Some(a) => match items_of(records, q) {
+            Some(b) => some_meet(records, values, a, b),
+            None => false,
         },
-        Items::Nothing => false,
+        None => false,
     }
 }
 
@@ -64,8 +57,8 @@ fn summary_of(records: &[u8], values: &[u8], p: usize) -> Summary
     ensures { (v : AlternativeView records.now values.now p) → Tells v.items result }
 {
     match items_of(records, p) {
-        Items::From(q) => of_items(records, values, q),
-        Items::Nothing => open(),
+        Some(q) => of_items(records, values, q),
+        None => open(),
     }
 }
 
@@ -74,20 +67,16 @@ pub fn first_overlap(records: &[u8], values: &[u8], starts: &[u8], count: usize)
     requires { AlternativesView records.now values.now starts.now count }
     ensures { (v : AlternativesView records.now values.now starts.now count) → FirstOverlap v.items count result }
 {
-    let mut later: usize = 0;
-    'search: while later < count {
+    for later in 0..count {
         let p = get16(starts, later) as usize;
         let one = summary_of(records, values, p);
-        let mut earlier: usize = 0;
-        while earlier < later {
+        for earlier in 0..later {
             let q = get16(starts, earlier) as usize;
             let other = summary_of(records, values, q);
             if !apart(one, other) && overlap(records, values, p, q) {
-                break 'search;
+                return later;
             }
-            earlier += 1;
         }
-        later += 1;
     }
-    later
+    count
 }

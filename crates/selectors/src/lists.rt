@@ -16,6 +16,7 @@ fn meets_any(records: &[u8], values: &[u8], item: Item, q: usize) -> bool
     ensures { (v : ItemsView records.now values.now q) → result ≡ rules.meets_any (meant item) v.items }
 {
     let mut at = q;
+    // A loop: whether another item follows is known by the comma behind one.
     loop {
         let found = item_at(records, values, at);
         let other = found.item;
@@ -36,6 +37,7 @@ pub fn some_meet(records: &[u8], values: &[u8], p: usize, q: usize) -> bool
     ensures { (v : TwoLists records.now values.now p q) → result ≡ rules.some_meet_of v.first v.second }
 {
     let mut at = p;
+    // A loop: whether another item follows is known by the comma behind one.
     loop {
         let found = item_at(records, values, at);
         let item = found.item;
@@ -56,6 +58,7 @@ pub fn past_length(records: &[u8], values: &[u8], n: u32, q: usize) -> bool
     ensures { (v : ItemsView records.now values.now q) → result ≡ rules.past n v.items }
 {
     let mut at = q;
+    // A loop: whether another item follows is known by the comma behind one.
     loop {
         let found = item_at(records, values, at);
         let item = found.item;

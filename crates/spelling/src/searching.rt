@@ -21,6 +21,7 @@ pub fn search(text: &[u8], records: &[u8], room: &[u8], i: usize) -> usize
     let n = size_at(records, i) as usize;
     let mut c = hash_of(text, p, n);
     let mut depth: usize = 0;
+    // A loop: it goes down a tree until a node is missing or has the word.
     loop {
         let x = get16(room, c);
         if x == NONE {

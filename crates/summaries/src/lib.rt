@@ -105,6 +105,7 @@ pub fn of_items(records: &[u8], values: &[u8], q: usize) -> Summary
     let first_item = first.item;
     let mut all = of_item(first_item);
     let mut at = q;
+    // A loop: whether another item follows is known by the comma behind one.
     loop {
         let found = item_at(records, values, at);
         let item = found.item;

@@ -54,15 +54,17 @@ pub fn settle(
     ensures { (v : SettleAt records.now ats.now keys.now lengths.now from.count from.key from.bits)
         (operand : Factor → rules.Judged) → Settles operand tight v.waits v.value result.count result.key result.bits }
 {
-    let mut count = from.count;
     let mut key = from.key;
     let mut bits = from.bits;
-    while 0 < count {
-        let top = count - 1;
+    for top in (0..from.count).rev() {
         let at = ats[top] as usize;
         let op = kind_at(records, at);
         if tightness_of(op) < tight {
-            return Settled { count, key, bits };
+            return Settled {
+                count: top + 1,
+                key,
+                bits,
+            };
         }
         let left = Weight {
             key: keys[top],
@@ -71,7 +73,10 @@ pub fn settle(
         let both = combined(op, place_at(records, at), left, Weight { key, bits });
         key = both.key;
         bits = both.bits;
-        count = top;
     }
-    Settled { count, key, bits }
+    Settled {
+        count: 0,
+        key,
+        bits,
+    }
 }

@@ -6,8 +6,8 @@ use Rattle.nots.specs.Nots.{OperandIn}
 use Rattle.nots.specs.Laws.Nots.{Baring}
 use Rattle.nots.proofs.behind_nots.Given as goal
 
-abbrev pub invariant-loop-i : goal.invariant-loop-i
-invariant-loop-i l = (v : OperandIn l.records l.i) → Baring v l.at
+abbrev pub invariant-loop-at : goal.invariant-loop-at
+invariant-loop-at l = (v : OperandIn l.records l.i) → Baring v l.at
 
-abbrev pub decreases-loop-i : goal.decreases-loop-i
-decreases-loop-i l = length l.records - l.at
+abbrev pub decreases-loop-at : goal.decreases-loop-at
+decreases-loop-at l = length l.records - l.at

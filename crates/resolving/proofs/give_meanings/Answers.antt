@@ -1,10 +1,7 @@
 -- `resolving::give_meanings` meets its contract: meanings are forgotten, marked, and taken.
 -- Assumes nothing.
-use Rattle.resolving.specs.Laws.Marking.{few_tokens, to_mark, to_resolve, all_given}
+use Rattle.resolving.specs.Laws.Marking.{to_mark, to_resolve, all_given}
 use Rattle.resolving.proofs.give_meanings.Goals as goal
-
-pub forget-requires : goal.forget-requires
-forget-requires c = few_tokens c.requires
 
 pub mark-requires : goal.mark-requires
 mark-requires c = to_mark c.requires c.forget.ensures

@@ -1,17 +1,8 @@
 -- `resolving::mark` meets its contract: what is marked is right by the declarations that are passed.
 -- Assumes nothing.
 use native.Mathlib.Omega.{arith}
-use Rattle.resolving.specs.Laws.Marking.{none_marked, outer_inside, outer_link, next_declared, one_less, all_marked}
+use Rattle.resolving.specs.Laws.Marking.{next_declared, one_less, all_marked}
 use Rattle.resolving.proofs.mark.Goals as goal
-
-pub link_at-requires : goal.link_at-requires
-link_at-requires c = outer_inside c.requires
-
-pub put_inside-requires : goal.put_inside-requires
-put_inside-requires c = (outer_link c.link_at.ensures c.requires, omega arith)
-
-pub loop-k-init : goal.loop-k-init
-loop-k-init c = none_marked _ _ _
 
 pub mark_one-requires : goal.mark_one-requires
 mark_one-requires c = next_declared c.link_at.ensures c.requires c.put_inside.ensures c.loop-k.invariant (omega arith)

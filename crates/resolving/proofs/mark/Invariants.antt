@@ -5,6 +5,3 @@ use Rattle.resolving.proofs.mark.Given as goal
 
 abbrev pub invariant-loop-k : goal.invariant-loop-k
 invariant-loop-k l = MarkedTo l.initial.records l.records l.decls l.m l.k
-
-abbrev pub decreases-loop-k : goal.decreases-loop-k
-decreases-loop-k l = l.k

@@ -1,10 +1,7 @@
 -- `resolving::mark_one` meets its contract: the spelling of the name takes the number.
 -- Assumes nothing.
-use Rattle.resolving.specs.Laws.Marking.{cell_room, declared_inside, link_inside, marked_one}
+use Rattle.resolving.specs.Laws.Marking.{declared_inside, link_inside, marked_one}
 use Rattle.resolving.proofs.mark_one.Goals as goal
-
-pub get16-p-requires : goal.get16-p-requires
-get16-p-requires c = cell_room c.requires
 
 pub link_at-requires : goal.link_at-requires
 link_at-requires c = declared_inside c.get16-p.ensures c.requires

@@ -1,11 +1,7 @@
 -- `resolving::resolve` meets its contract: token by token.
 -- Assumes nothing.
-use Prim.Native.Nat.{◌-◌}
 use Rattle.resolving.specs.Laws.Marking.{Resolving}
 use Rattle.resolving.proofs.resolve.Given as goal
 
 abbrev pub invariant-loop-i : goal.invariant-loop-i
 invariant-loop-i l = Resolving l.initial.records l.records l.n l.i
-
-abbrev pub decreases-loop-i : goal.decreases-loop-i
-decreases-loop-i l = l.n - l.i

@@ -1,6 +1,6 @@
 -- Where the items of an alternative begin, and the search for an overlap.
 -- Assumes nothing.
-use Rattle.std.specs.Prelude.{ℕ, zero, suc, ◌+◌, ◌*◌, ◌<◌, ◌≤◌, ◌≡◌, refl, Bool, true, false, ◌||◌, List, [], ◌∷◌, ◌++◌, length}
+use Rattle.std.specs.Prelude.{Option, Some, None, ℕ, zero, suc, ◌+◌, ◌*◌, ◌<◌, ◌≤◌, ◌≡◌, refl, Bool, true, false, ◌||◌, List, [], ◌∷◌, ◌++◌, length}
 use Rattle.std.proofs.Common.{sym, ap, ap₂, ◌∙◌, add-one, arith}
 use Rattle.std.proofs.Math.Bool.{or-true, or_assoc}
 use Rattle.std.proofs.Math.Decide.{dec_lt}
@@ -11,8 +11,6 @@ use Rattle.rules.specs.Selectors.{Item}
 use Rattle.rules.specs.Faults.Bodies.{items_meet, meets_any, some_meet_of, past}
 use Rattle.records.specs.Holds.{kind_byte}
 use Rattle.table.specs.Laws.Positions.{record_within, kind_here}
-use Rattle.selectors.specs.declared.alternatives.Items.{Items}
-use Rattle.selectors.specs.declared.alternatives.Items.TheVariants.{From, Nothing}
 use Rattle.patterns.specs.Stands.{Held, ItemsFrom, ItemsView, TwoLists, ItemsAt, no_items, in_brackets, one_item, AlternativeView, TwoAlternatives}
 use Rattle.selectors.specs.Overlaps.{Begin, AlternativesView, earlier_items, overlaps, FirstOverlap}
 use Rattle.patterns.specs.Laws.Tokens.{item_first, literal_token, first_here}
@@ -49,29 +47,29 @@ module _ {records values : List ℕ} {ts : Tokens} (h : Held records values ts) 
   see_items (one_item f) = item_seen (λ e. omega (arith, item_kind f)) (λ e. omega (arith, item_kind f)) f
 
 module _ {records : List ℕ} {ts : Tokens} {p k : ℕ} {is : List Item} (is_kind : k ≡ kind_byte records p) where
-  pub begins_nowhere : SeenItems records ts p is → k ≡ kind_no OTHERWISE → Begin ts is Nothing
+  pub begins_nowhere : SeenItems records ts p is → k ≡ kind_no OTHERWISE → Begin ts is None
   begins_nowhere (otherwise_seen _ e) _ = e
   begins_nowhere (brackets_seen b _) e = absurd (omega arith)
   begins_nowhere (item_seen n _ _) e = absurd (n (sym is_kind ∙ e))
 
-  pub begins_inside : SeenItems records ts p is → k ≡ kind_no LBra → Begin ts is (From (p + 1))
+  pub begins_inside : SeenItems records ts p is → k ≡ kind_no LBra → Begin ts is (Some (p + 1))
   begins_inside (otherwise_seen o _) e = absurd (omega arith)
   begins_inside (brackets_seen _ f) _ = f
   begins_inside (item_seen _ n _) e = absurd (n (sym is_kind ∙ e))
 
-  pub begins_there : SeenItems records ts p is → (k ≡ kind_no OTHERWISE → ⊥) → (k ≡ kind_no LBra → ⊥) → Begin ts is (From p)
+  pub begins_there : SeenItems records ts p is → (k ≡ kind_no OTHERWISE → ⊥) → (k ≡ kind_no LBra → ⊥) → Begin ts is (Some p)
   begins_there (otherwise_seen o _) n m = absurd (n (is_kind ∙ o))
   begins_there (brackets_seen b _) n m = absurd (m (is_kind ∙ b))
   begins_there (item_seen _ _ f) n m = f
 
 -- what a call learns of where they begin
-pub from : {ts : Tokens} {is : List Item} {q : ℕ} (x : Items) → x ≡ From q → Begin ts is x → ItemsFrom ts q is
+pub from : {ts : Tokens} {is : List Item} {q : ℕ} (x : Option ℕ) → x ≡ Some q → Begin ts is x → ItemsFrom ts q is
 from {ts} {is} x e b = rw e at b
 
-nowhere : (ts : Tokens) {is : List Item} (x : Items) → x ≡ Nothing → Begin ts is x → is ≡ []
+nowhere : (ts : Tokens) {is : List Item} (x : Option ℕ) → x ≡ None → Begin ts is x → is ≡ []
 nowhere ts x e b = rw e at b
 
-abbrev pub Begins : List ℕ → ℕ → Items → Type 0
+abbrev pub Begins : List ℕ → ℕ → Option ℕ → Type 0
 Begins records p x = (values : List ℕ) (v : AlternativeView records values p) → Begin v.tokens v.items x
 
 module _ {records values : List ℕ} {p : ℕ} (v : AlternativeView records values p) where
@@ -81,10 +79,10 @@ module _ {records values : List ℕ} {p : ℕ} (v : AlternativeView records valu
   pub alternative_seen : SeenItems records v.tokens p v.items
   alternative_seen = see_items v.held v.stand
 
-  abbrev pub items_from : {q : ℕ} (x : Items) → x ≡ From q → Begins records p x → ItemsView records values q
+  abbrev pub items_from : {q : ℕ} (x : Option ℕ) → x ≡ Some q → Begins records p x → ItemsView records values q
   items_from x e b = record { tokens = v.tokens; held = v.held; items = v.items; stand = from x e (b values v) }
 
-  pub none_past : (n : ℕ) (x : Items) → x ≡ Nothing → Begins records p x → false ≡ past n v.items
+  pub none_past : (n : ℕ) (x : Option ℕ) → x ≡ None → Begins records p x → false ≡ past n v.items
   unfolding past
   none_past n x e b = rw (nowhere v.tokens x e (b values v), past)
 
@@ -101,7 +99,7 @@ module _ {records values : List ℕ} {p q : ℕ} (v : TwoAlternatives records va
   abbrev pub other_view : AlternativeView records values q
   other_view = record { tokens = v.tokens; held = v.held; items = v.second; stand = v.second_stand }
 
-  abbrev pub two_lists : {a b : ℕ} (x y : Items) → x ≡ From a → Begins records p x → y ≡ From b → Begins records q y → TwoLists records values a b
+  abbrev pub two_lists : {a b : ℕ} (x y : Option ℕ) → x ≡ Some a → Begins records p x → y ≡ Some b → Begins records q y → TwoLists records values a b
   two_lists x y e f g h = record {
     tokens = v.tokens;
     held = v.held;
@@ -111,11 +109,11 @@ module _ {records values : List ℕ} {p q : ℕ} (v : TwoAlternatives records va
     second_stand = from y g (h values other_view);
   }
 
-  pub first_empty : (x : Items) → x ≡ Nothing → Begins records p x → false ≡ some_meet_of v.first v.second
+  pub first_empty : (x : Option ℕ) → x ≡ None → Begins records p x → false ≡ some_meet_of v.first v.second
   unfolding some_meet_of
   first_empty x e b = rw (nowhere v.tokens x e (b values one_view), some_meet_of)
 
-  pub second_empty : (x : Items) → x ≡ Nothing → Begins records q x → false ≡ some_meet_of v.first v.second
+  pub second_empty : (x : Option ℕ) → x ≡ None → Begins records q x → false ≡ some_meet_of v.first v.second
   second_empty x e b = rw (nowhere v.tokens x e (b values other_view)) (sym (meet_none v.first))
 
 -- THE SEARCH

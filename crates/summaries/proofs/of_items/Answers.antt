@@ -1,7 +1,6 @@
 -- `summaries::of_items` meets its contract: the summary tells of the items passed.
 -- Assumes nothing.
 use native.Mathlib.Omega.{arith}
-use Prim.Native.Nat.{◌-◌}
 use Rattle.patterns.specs.Laws.Lists.{all_left, item_view, next_room, walks_on}
 use Rattle.summaries.specs.Laws.Gathering.{read_bounded, none_gathered, gathers_on, all_gathered}
 use Rattle.summaries.proofs.of_items.Goals as goal

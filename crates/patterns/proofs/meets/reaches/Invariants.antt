@@ -1,9 +1,8 @@
 -- `patterns::meets::reaches` meets its contract. The loop's invariant: the answer is that of the n lowest bits of the pattern and of what is left of
 -- the bounds.
 -- Assumes nothing.
-use borrow.Author.Rules.{rules}
 use mathlib.Core.Path.{◌≡◌}
-use Prim.Native.Nat.{ℕ, ◌-◌, ◌≤◌}
+use Prim.Native.Nat.{ℕ, ◌≤◌}
 use Rattle.rules.specs.Faults.Bodies as rules
 use Rattle.patterns.proofs.meets.reaches.Given as goal
 
@@ -14,6 +13,3 @@ pub record Left (v f l h value free low high n : ℕ) : Type 0 where
 
 abbrev pub invariant-loop-n : goal.invariant-loop-n
 invariant-loop-n l = Left l.v l.f l.l l.h l.value l.free l.low l.high l.n
-
-abbrev pub decreases-loop-n : goal.decreases-loop-n
-decreases-loop-n l = l.n

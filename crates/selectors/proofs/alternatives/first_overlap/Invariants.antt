@@ -4,7 +4,7 @@
 use mathlib.Core.Path.{◌≡◌}
 use mathlib.Core.Bool.{false}
 use mathlib.Core.List.{List}
-use Prim.Native.Nat.{ℕ, ◌-◌, ◌≤◌}
+use Prim.Native.Nat.{ℕ, ◌≤◌}
 use Rattle.rules.specs.Faults.Bodies.{some_meet_of}
 use Rattle.selectors.specs.Overlaps.{AlternativesView, earlier_items}
 use Rattle.selectors.specs.Laws.Alternatives.{NoneBefore}
@@ -21,11 +21,5 @@ pub record Compared (records values starts : List ℕ) (count later earlier : �
 abbrev pub invariant-loop-earlier : goal.invariant-loop-earlier
 invariant-loop-earlier l = Compared l.records l.values l.starts l.count l.later l.earlier
 
-abbrev pub decreases-loop-earlier : goal.decreases-loop-earlier
-decreases-loop-earlier l = l.later - l.earlier
-
-abbrev pub invariant-search : goal.invariant-search
-invariant-search l = Searched l.records l.values l.starts l.count l.later
-
-abbrev pub decreases-search : goal.decreases-search
-decreases-search l = l.count - l.later
+abbrev pub invariant-loop-later : goal.invariant-loop-later
+invariant-loop-later l = Searched l.records l.values l.starts l.count l.later

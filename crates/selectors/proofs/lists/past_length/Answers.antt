@@ -26,9 +26,6 @@ returns-then-kind_at-ne-COMMA c =
     c.kind_at.ensures c.if-past.false c.if-kind_at-ne-COMMA.true
     ∙ some_past _ _
 
-pub overflow_add-at : goal.overflow_add-at
-overflow_add-at c = omega (arith, walks_on (c.loop-n.invariant c.requires.1).rest c.item_at-found.ensures)
-
 pub loop-n-smaller : goal.loop-n-smaller
 loop-n-smaller c = omega (arith, walks_on (c.loop-n.invariant c.requires.1).rest c.item_at-found.ensures)
 

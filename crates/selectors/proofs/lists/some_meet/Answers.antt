@@ -1,6 +1,5 @@
 -- `selectors::lists::some_meet` meets its contract: each item of one list is asked whether it meets one of the other.
 -- Assumes nothing.
-use borrow.Author.Rules.{rules}
 use native.Mathlib.Omega.{arith}
 use mathlib.Core.Path.{◌∙◌}
 use Rattle.patterns.specs.Laws.Lists.{some_meet_lem, walk_starts, item_view, next_room, walks_on, walk_finds, walk_ends, walk_goes_on, first_list, second_list}
@@ -11,9 +10,6 @@ loop-p-init c = λ v. walk_starts _ (first_list v)
 
 pub item_at-found-requires : goal.item_at-found-requires
 item_at-found-requires c = item_view (c.loop-p.invariant c.requires).rest
-
-pub meets_any-requires : goal.meets_any-requires
-meets_any-requires c = search (rules, second_list)
 
 pub returns-then-meets_any : goal.returns-then-meets_any
 returns-then-meets_any c = λ v. walk_finds (c.loop-p.invariant v) c.item_at-found.ensures (c.meets_any.ensures (second_list v)) c.if-meets_any.true ∙ some_meet_lem _ _
@@ -26,9 +22,6 @@ returns-then-kind_at-ne-COMMA c =
     λ v. walk_ends (c.loop-p.invariant v) c.item_at-found.ensures (c.meets_any.ensures (second_list v))
     c.kind_at.ensures c.if-meets_any.false c.if-kind_at-ne-COMMA.true
     ∙ some_meet_lem _ _
-
-pub overflow_add-at : goal.overflow_add-at
-overflow_add-at c = omega (arith, walks_on (c.loop-p.invariant c.requires).rest c.item_at-found.ensures)
 
 pub loop-p-smaller : goal.loop-p-smaller
 loop-p-smaller c = omega (arith, walks_on (c.loop-p.invariant c.requires).rest c.item_at-found.ensures)

@@ -22,8 +22,8 @@ begin : {records ats keys lengths : List ℕ} {tight count k n : ℕ} → Settle
 begin s = record { now = s; all = λ v operand. record { here = v; same_looser = refl; same_settled = refl } }
 
 module _ {records ats keys lengths : List ℕ} {tight count₀ k₀ n₀ count k n : ℕ} (inv : Inv records ats keys lengths tight count₀ k₀ n₀ count k n) where
-  ended : count ≤ 0 → (v : SettleAt records ats keys lengths count₀ k₀ n₀) (operand : Factor → Judged) → Settles operand tight v.waits v.value count k n
-  ended h v operand = emptied (inv.all v operand) (omega arith)
+  ended : count ≤ 0 → (v : SettleAt records ats keys lengths count₀ k₀ n₀) (operand : Factor → Judged) → Settles operand tight v.waits v.value 0 k n
+  ended h v operand = let z : count ≡ 0 = omega arith in rw z at (emptied (inv.all v operand) z)
 
   module _ (some : 0 < count) where
     room : 8 * get_or ats (count - 1) 0 + 8 ≤ length records
@@ -36,8 +36,11 @@ module _ {records ats keys lengths : List ℕ} {tight count₀ k₀ n₀ count k
       binds : {k n : ℕ} (v : SettleAt records ats keys lengths count k n) → t ≡ tightness (top v some).last.op
       binds v = et ∙ ap tightness_at (eo ∙ top_kind v (top v some) refl) ∙ tightness_at_lem (top v some).last.op
 
-      stop : t < tight → (v : SettleAt records ats keys lengths count₀ k₀ n₀) (operand : Factor → Judged) → Settles operand tight v.waits v.value count k n
-      stop h v operand = let s = inv.all v operand in stopped s (top s.here some) (rw (binds s.here) at h)
+      stop : t < tight → (v : SettleAt records ats keys lengths count₀ k₀ n₀) (operand : Factor → Judged) → Settles operand tight v.waits v.value (count - 1 + 1) k n
+      stop h v operand =
+          let s = inv.all v operand in
+          let e : count - 1 + 1 ≡ count = omega arith in
+          rw e (stopped s (top s.here some) (rw (binds s.here) at h))
 
       module _ (h : tight ≤ t) (place : ℕ) (ep : place ≡ place_cell records (get_or ats (count - 1) 0)) {k' n' : ℕ}
           (both : (o : Op) (i : Info) (a b : Judged) → op ≡ kind_no (op_kind o) → place ≡ i.place
@@ -52,11 +55,11 @@ module _ {records ats keys lengths : List ℕ} {tight count₀ k₀ n₀ count k
         again : SettleAt records ats keys lengths count₀ k₀ n₀ → Inv records ats keys lengths tight count₀ k₀ n₀ (count - 1) k' n'
         again v = record { now = (turn v (λ f. judged_as [] 0)).here; all = turn }
 
-pub loop-count-init : goal.loop-count-init
-loop-count-init c = begin c.requires
+pub loop-top-init : goal.loop-top-init
+loop-top-init c = begin c.requires
 
 pub overflow_cast-at : goal.overflow_cast-at
-overflow_cast-at c = record { fits = omega (arith, room c.loop-count.invariant c.loop-count-test.true) }
+overflow_cast-at c = record { fits = omega (arith, room c.loop-top.invariant c.loop-top-test.true) }
 
 pub kind_at-op-requires : goal.kind_at-op-requires
 kind_at-op-requires c = search (rules, room)
@@ -68,10 +71,10 @@ pub place_at-requires : goal.place_at-requires
 place_at-requires c = search (rules, room)
 
 pub combined-both-requires : goal.combined-both-requires
-combined-both-requires c = fits c.loop-count.invariant c.loop-count-test.true _ c.place_at.ensures
+combined-both-requires c = fits c.loop-top.invariant c.loop-top-test.true _ c.place_at.ensures
 
-pub loop-count-preserved : goal.loop-count-preserved
-loop-count-preserved c = search (rules, again)
+pub loop-top-preserved : goal.loop-top-preserved
+loop-top-preserved c = search (rules, again)
 
 pub returns : goal.returns
 returns c = search (rules, ended)

@@ -1,7 +1,7 @@
 -- `weighing::operators::settle` meets its contract. The invariant: settling what still waits comes to settling all.
 -- Assumes nothing.
 use mathlib.Core.List.{List}
-use Prim.Native.Nat.{ℕ, ◌-◌}
+use Prim.Native.Nat.{ℕ}
 use Rattle.rules.specs.Grammar.Precedence.{Factor}
 use Rattle.rules.specs.Faults.Bodies.{Judged}
 use Rattle.weighing.specs.Settling.{SettleAt}
@@ -12,8 +12,5 @@ pub record Inv (records ats keys lengths : List ℕ) (tight count₀ k₀ n₀ c
   pub now : SettleAt records ats keys lengths count k n
   pub all : (v : SettleAt records ats keys lengths count₀ k₀ n₀) (operand : Factor → Judged) → Settling v operand tight count k n
 
-abbrev pub invariant-loop-count : goal.invariant-loop-count
-invariant-loop-count l = Inv l.records l.ats l.keys l.lengths l.tight l.initial.count l.initial.key l.initial.bits l.count l.key l.bits
-
-abbrev pub decreases-loop-count : goal.decreases-loop-count
-decreases-loop-count l = l.count
+abbrev pub invariant-loop-top : goal.invariant-loop-top
+invariant-loop-top l = Inv l.records l.ats l.keys l.lengths l.tight l.fn.from.count l.fn.from.key l.fn.from.bits l.top l.key l.bits
