@@ -22,11 +22,8 @@ pub fn blank(table: &mut [u8])
     requires { table_size ≤ length table.old }
     ensures { Blank table.old table.new }
 {
-    let mut k: usize = 0;
-    while k < UNDECLARED {
-        let at = k;
-        k += 1;
-        put64(table, at, UNKNOWN);
+    for k in 0..UNDECLARED {
+        put64(table, k, UNKNOWN);
     }
     put64(table, UNDECLARED, 1);
 }

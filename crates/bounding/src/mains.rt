@@ -16,13 +16,11 @@ fn main_name(records: &[u8], decls: &[u8], m: usize) -> usize
     requires { MainIn records.now decls.now m }
     ensures { (v : MainIn records.now decls.now m) → MainNamed v result }
 {
-    let mut k: usize = 0;
-    while k < m {
+    for k in 0..m {
         let name = get16(decls, k) as usize;
         if main_of(records, name) != 0 {
             return name;
         }
-        k += 1;
     }
     0
 }

@@ -19,21 +19,14 @@ pub struct Nest {
 pub fn greater(a: u64, b: u64) -> u64
     ensures { result ≡ max a b }
 {
-    if a < b {
-        return b;
-    }
-    a
+    a.max(b)
 }
 
 fn up(x: u64, k: u64) -> u64
     requires { (x ≤ 4294967296) × (k ≤ 4294967297) }
     ensures { result ≡ up x k }
 {
-    let sum = x + k;
-    if ENDLESS < sum {
-        return ENDLESS;
-    }
-    sum
+    (x + k).min(ENDLESS)
 }
 
 // k steps more.

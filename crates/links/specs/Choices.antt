@@ -1,5 +1,5 @@
 -- The alternatives of a DECODE one by one, from a separator on: what stands there, and what is done.
-use Rattle.std.specs.Prelude.{ℕ, ◌+◌, ◌<◌, ◌≤◌, ◌≡◌, List, length, drop}
+use Rattle.std.specs.Prelude.{ℕ, ◌+◌, ◌<◌, ◌≤◌, ◌≡◌, List, length, drop, Option, Some, None}
 use Rattle.rules.specs.Grammar.Trees.{Tokens}
 use Rattle.laws_grammar.specs.Cited.Nesting.{action_nest}
 use Rattle.laws_code.specs.Cited.Code.{size}
@@ -42,9 +42,9 @@ pub record TurnsLeft {g : Ground} {records labels : List ℕ} {p link count dept
       → TurnLinked later g.outer g.table now.setting.around p' now.setting.behind now.turn
       → TurnLinked later g.outer g.table v.setting.around p v.setting.behind v.turn
 
--- one of them: 0 stands for none behind it
-pub record TurnAnswer {g : Ground} {records labels : List ℕ} {p link count depth : ℕ} (v : TurnsAt g records labels p link count depth) (records' labels' : List ℕ) (p' : ℕ)
+-- one of them, and the separator behind it, if there is one
+pub record TurnAnswer {g : Ground} {records labels : List ℕ} {p link count depth : ℕ} (v : TurnsAt g records labels p link count depth) (records' labels' : List ℕ) (next : Option ℕ)
     : Type 0 where
-  pub done : p' ≡ 0 → TurnsDone v records' labels'
-  pub left : (p' ≡ 0 → ⊥) → TurnsLeft v records' labels' p'
-  pub further_on : (p' ≡ 0 → ⊥) → p < p'
+  pub done : next ≡ None → TurnsDone v records' labels'
+  pub left : (p' : ℕ) → next ≡ Some p' → TurnsLeft v records' labels' p'
+  pub further_on : (p' : ℕ) → next ≡ Some p' → p < p'

@@ -1,5 +1,5 @@
 -- The members of a block one by one, from a member on: what stands there, and what is done.
-use Rattle.std.specs.Prelude.{ℕ, ◌+◌, ◌<◌, ◌≤◌, ◌≡◌, List, length, drop}
+use Rattle.std.specs.Prelude.{ℕ, ◌+◌, ◌<◌, ◌≤◌, ◌≡◌, List, length, drop, Option, Some, None}
 use Rattle.rules.specs.Grammar.Trees.{Tokens, Action, action_tokens, Members, members_tokens}
 use Rattle.rules.specs.Declarations.{Word, Table}
 use Rattle.laws_grammar.specs.Cited.Nesting.{action_nest, members_nest}
@@ -9,6 +9,7 @@ use Rattle.ways.specs.Seeking.{Ground}
 use Rattle.records.specs.Kept.{Kept}
 use Rattle.ways.specs.Linked.{Linked, MembersLinked, Same}
 use Rattle.ways.specs.Stack.{LabelsKept}
+use Rattle.ways.specs.declared.prefixes.Start.{Start}
 use Rattle.links.specs.Setting.{Setting}
 
 abbrev pub RunLinked : List ℕ → Word → Table → Labels → ℕ → Link → Action → Members → Type 0
@@ -48,9 +49,9 @@ pub record MembersLeft {g : Ground} {records labels : List ℕ} {i link count fi
       → RunLinked later g.outer g.table now.setting.around i' now.setting.behind now.action now.members
       → RunLinked later g.outer g.table v.setting.around i v.setting.behind v.action v.members
 
--- one of them: 0 stands for none behind it
+-- one of them, and the one behind it, if there is one
 pub record MemberAnswer {g : Ground} {records labels : List ℕ} {i link count first depth : ℕ} (v : MembersAt g records labels i link count first depth)
-    (records' labels' : List ℕ) (i' first' : ℕ) : Type 0 where
-  pub done : i' ≡ 0 → MembersDone v records' labels'
-  pub left : (i' ≡ 0 → ⊥) → MembersLeft v records' labels' i' first'
-  pub further_on : (i' ≡ 0 → ⊥) → i < i'
+    (records' labels' : List ℕ) (next : Option Start) : Type 0 where
+  pub done : next ≡ None → MembersDone v records' labels'
+  pub left : (s : Start) → next ≡ Some s → MembersLeft v records' labels' s.at s.first
+  pub further_on : (s : Start) → next ≡ Some s → i < s.at

@@ -41,53 +41,35 @@ fn block(text: &[u8], records: &mut [u8], labels: &mut [u8], s: Spot, depth: usi
     ensures { (g : Ground) (v : BlockAt g text.now records.old labels.old s.at s.link s.count s.first depth)
         → Done v.view records.new labels.new }
 {
-    let link = s.link;
-    let count = s.count;
     let mut at = s.at + 1;
     let mut first = s.first;
-    loop {
-        let here = Spot {
-            at,
-            link,
-            count,
-            first,
-        };
-        let next = member(text, records, labels, here, depth);
-        if next.at == 0 {
-            return;
-        }
+    while let Some(next) = member(text, records, labels, Spot { at, first, ..s }, depth) {
         at = next.at;
         first = next.first;
     }
 }
 
-// The member at s of a block that leads to the link. Control goes from it to the next one, which is returned; 0 if it is the last.
+// The member at s of a block that leads to the link. Control goes from it to the next one, which is returned if there is one.
 #[cycle(action_alternative_block_decode_member)]
-fn member(text: &[u8], records: &mut [u8], labels: &mut [u8], s: Spot, depth: usize) -> Start
+fn member(
+    text: &[u8],
+    records: &mut [u8],
+    labels: &mut [u8],
+    s: Spot,
+    depth: usize,
+) -> Option<Start>
     requires { (g : Ground) × (v : MembersAt g records.old labels.old s.at s.link s.count s.first depth) × (g.text ≡ text.now) }
     ensures { (g : Ground) (v : MembersAt g records.old labels.old s.at s.link s.count s.first depth)
-        → g.text ≡ text.now → MemberAnswer v records.new labels.new result.at result.first }
+        → g.text ≡ text.now → MemberAnswer v records.new labels.new result }
 {
-    let at = s.at;
-    let count = s.count;
-    let first = s.first;
-    let end = seek(records, at, SEPARATOR);
+    let end = seek(records, s.at, SEPARATOR);
     if kind_at(records, end) == END {
         action(text, records, labels, s, depth - 1);
-        return Start { at: 0, first: 0 };
+        return None;
     }
-    let onward = first_of(records, end + 1);
-    let here = Spot {
-        at,
-        link: onward,
-        count,
-        first,
-    };
-    action(text, records, labels, here, depth - 1);
-    Start {
-        at: end + 1,
-        first: onward,
-    }
+    let first = first_of(records, end + 1);
+    action(text, records, labels, Spot { link: first, ..s }, depth - 1);
+    Some(Start { at: end + 1, first })
 }
 
 // The alternatives of the DECODE at s, one after the other.
@@ -97,20 +79,13 @@ fn decode(text: &[u8], records: &mut [u8], labels: &mut [u8], s: Spot, depth: us
     ensures { (g : Ground) (v : ChoiceAt g text.now records.old labels.old s.at s.link s.count s.first depth)
         → Done v.view records.new labels.new }
 {
-    let at = s.at;
-    let link = s.link;
-    let count = s.count;
-    let mut p = seek(records, at + 1, ARROW) + 1;
-    loop {
-        let next = alternative(text, records, labels, p, link, count, depth);
-        if next == 0 {
-            return;
-        }
+    let mut p = seek(records, s.at + 1, ARROW) + 1;
+    while let Some(next) = alternative(text, records, labels, p, s.link, s.count, depth) {
         p = next;
     }
 }
 
-// The alternative behind the separator p. Returns the next separator; 0 if it is the last.
+// The alternative behind the separator p. Returns the next separator, if there is one.
 #[cycle(action_alternative_block_decode_member)]
 fn alternative(
     text: &[u8],
@@ -120,7 +95,7 @@ fn alternative(
     link: usize,
     count: usize,
     depth: usize,
-) -> usize
+) -> Option<usize>
     requires { (g : Ground) × (v : TurnsAt g records.old labels.old p link count depth) × (g.text ≡ text.now) }
     ensures { (g : Ground) (v : TurnsAt g records.old labels.old p link count depth)
         → g.text ≡ text.now → TurnAnswer v records.new labels.new result }
@@ -135,7 +110,7 @@ fn alternative(
     };
     action(text, records, labels, here, depth - 1);
     if kind_at(records, end) == END {
-        return 0;
+        return None;
     }
-    end
+    Some(end)
 }

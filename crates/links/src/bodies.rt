@@ -55,9 +55,7 @@ pub fn link(text: &[u8], records: &mut [u8], decls: &[u8], room: &mut [u8], m: u
     ensures { (values : List ℕ) (ts : Tokens) (d : Description) → Ready text.now records.old values decls.now ts d m
         → Spelled records.old ts → Links records.old records.new decls.now ts d }
 {
-    let mut k: usize = 0;
-    while k < m {
+    for k in 0..m {
         declaration(text, records, decls, room, k);
-        k += 1;
     }
 }

@@ -10,13 +10,11 @@ pub fn main_start(records: &[u8], decls: &[u8], m: usize) -> usize
     requires { MainIn records.now decls.now m }
     ensures { (v : MainIn records.now decls.now m) → MainFound v result }
 {
-    let mut k: usize = 0;
-    while k < m {
+    for k in 0..m {
         let name = get16(decls, k) as usize;
         if main_of(records, name) != 0 {
             return link_at(records, name);
         }
-        k += 1;
     }
     0
 }

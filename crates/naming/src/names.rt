@@ -33,12 +33,10 @@ fn is_name(text: &[u8], p: usize, n: usize, name: &[u8]) -> bool
     if name.len() != n {
         return false;
     }
-    let mut k: usize = 0;
-    while k < n {
+    for k in 0..n {
         if !same_letter(text[p + k], name[k]) {
             return false;
         }
-        k += 1;
     }
     true
 }
@@ -55,14 +53,12 @@ pub fn number_of(
     requires { Written text.now records.now decls.now m n }
     ensures { (v : Written text.now records.now decls.now m n) → result ≡ or_else m (number_of (whole v) (folded name.now)) }
 {
-    let mut k: usize = 0;
-    while k < m {
+    for k in 0..m {
         let p = get16(decls, k) as usize;
         let size = size_at(records, p) as usize;
         if is_name(text, place_at(records, p), size, name) {
             return k;
         }
-        k += 1;
     }
     m
 }

@@ -1,6 +1,6 @@
 -- Where a walk stands, as it is kept: the flags, the frames of the open BEGINs, the labels around it, of each its token and its flag, and hints, one for each
 -- spelling: of the labels with a spelling none stands above the one that the hint leads to.
-use Rattle.std.specs.Prelude.{ℕ, suc, ◌+◌, ◌-◌, ◌<◌, ◌≤◌, ◌≡◌, Bool, true, false, List, [], ◌∷◌, eqb, length}
+use Rattle.std.specs.Prelude.{ℕ, suc, ◌+◌, ◌-◌, ◌<◌, ◌≤◌, ◌≡◌, Bool, true, false, cond, ◌&&◌, min, List, [], ◌∷◌, eqb, length, Option, Some, None}
 use Rattle.cells.specs.Cells.{cell, put_cell}
 use Rattle.rules.specs.Grammar.Trees.{Tokens}
 use Rattle.rules.specs.Limits.{deepest, most_tokens}
@@ -9,7 +9,8 @@ use Rattle.paths.specs.Cited.Marks.{Marks, Slot}
 use Rattle.paths.specs.Cited.Least.{least}
 use Rattle.records.specs.Holds.{link_cell}
 use Rattle.records.specs.Words.{NameAt, word_at}
-use Rattle.nesting.specs.Machine.{Frame, State}
+use Rattle.nesting.specs.Machine.{Frame, Dest, idle, parts, State}
+use Rattle.nesting.specs.declared.nests.Destination.{Destination}
 use Rattle.nesting.specs.declared.nests.Nest.{Nest}
 use Rattle.nesting.specs.declared.frames.Frame.{Frame as Kept-frame}
 
@@ -76,6 +77,15 @@ pub data Frames (ts : Book) (room : List ℕ) : ℕ → List Frame → Type 0 wh
 pub record Flagged (room : List ℕ) (w : Marks) : Type 0 where
   pub at : (j : ℕ) → j < most_flags → cell 2 room j ≡ bit (w.flags j)
 
+-- a destination as it is kept, if it has begun
+abbrev pub dest_of : Option Destination → Dest
+dest_of None = idle
+dest_of (Some d) = parts d.place d.hit
+
+-- the lowest place once the destination is written
+abbrev pub low_behind : Nest → ℕ
+low_behind x = cond (x.comes && (dest_of x.destination).hit) (min x.low (dest_of x.destination).place) x.low
+
 pub record Shows (ts : Book) (room : List ℕ) (i : ℕ) (x : Nest) (z : State) : Type 0 where
   pub space : room_size ≤ length room
   pub few : i ≤ most_tokens
@@ -89,10 +99,8 @@ pub record Shows (ts : Book) (room : List ℕ) (i : ℕ) (x : Nest) (z : State) 
   pub flag_low : x.flag < most_flags
   pub comes_is : x.comes ≡ z.comes
   pub choosing_is : x.choosing ≡ z.choosing
-  pub begun_is : x.begun ≡ z.dest.begun
-  pub place_is : x.place ≡ z.dest.place
-  pub place_low : x.place < unseen
-  pub hit_is : x.hit ≡ z.dest.hit
+  pub dest_is : dest_of x.destination ≡ z.dest
+  pub place_low : (dest_of x.destination).place < unseen
   pub low_is : x.low ≡ least unseen z.marks.places
   pub frames : Frames ts room x.label z.frames
   pub flags : Flagged room z.marks

@@ -1,5 +1,5 @@
 -- Labels, and LEAVE with the search for its label.
-use Rattle.std.specs.Prelude.{ℕ, ◌+◌, ◌<◌, ◌≤◌, ◌≡◌, List, length}
+use Rattle.std.specs.Prelude.{ℕ, ◌+◌, ◌<◌, ◌≤◌, ◌≡◌, List, length, Option as Found, Some, None}
 use Rattle.std.proofs.Math.Option.{Option, none, some}
 use Rattle.rules.specs.Text.Tokens.{Name, kind_no}
 use Rattle.rules.specs.Limits.{most_tokens}
@@ -42,10 +42,10 @@ Left records old new n name s r =
     (w : Spelt records n) (i : ℕ) (z : State) → Shows (book records w.tokens) old i s z
     → Shows (book records w.tokens) new i r (left (word_at w.tokens name) z)
 
--- the flag of the label that is found, or most_flags
-abbrev pub FlagFound : Option ℕ → ℕ → Type 0
-FlagFound none r = r ≡ most_flags
-FlagFound (some k) r = (r ≡ k) × (k < most_flags)
+-- the flag of the label that is found, if there is one
+abbrev pub FlagFound : Option ℕ → Found ℕ → Type 0
+FlagFound none r = r ≡ None
+FlagFound (some k) r = (r ≡ Some k) × (k < most_flags)
 
 -- one more label: the token i
 abbrev pub Labels : List ℕ → List ℕ → List ℕ → ℕ → Nest → Nest → Type 0

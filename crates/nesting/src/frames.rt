@@ -42,10 +42,7 @@ fn top(room: &[u8], depth: usize) -> Frame
 fn bit(b: bool) -> usize
     ensures { (result ≡ bit b) × (result < 65536) }
 {
-    if b {
-        return 1;
-    }
-    0
+    b as usize
 }
 
 // Three cells.
@@ -79,9 +76,7 @@ fn settled(depth: usize, free: usize, label: usize, low: usize) -> Nest
         flag: 0,
         comes: false,
         choosing: false,
-        begun: false,
-        place: 0,
-        hit: false,
+        destination: None,
         low,
     }
 }
@@ -108,28 +103,14 @@ fn resume(room: &mut [u8], s: Nest, f: Frame, comes: bool, ended: bool) -> Nest
     requires { Resuming room.old s f }
     ensures { Resumed room.old room.new s f comes ended result }
 {
-    let label = f.label;
-    let own = f.own;
-    let frame = Frame {
-        label,
-        flag: f.flag,
-        own,
-        comes,
-        ended,
-        group: f.group,
-    };
-    push(room, s.depth - 1, frame);
+    push(room, s.depth - 1, Frame { comes, ended, ..f });
     Nest {
-        depth: s.depth,
-        free: s.free,
-        label,
-        flag: own,
+        label: f.label,
+        flag: f.own,
         comes,
         choosing: false,
-        begun: false,
-        place: 0,
-        hit: false,
-        low: s.low,
+        destination: None,
+        ..s
     }
 }
 
@@ -175,16 +156,12 @@ pub fn another(room: &[u8], s: Nest) -> Nest
     }
     let f = top(room, depth);
     Nest {
-        depth,
-        free: s.free,
         label: f.label,
         flag: f.flag,
         comes: f.comes,
         choosing: false,
-        begun: false,
-        place: 0,
-        hit: false,
-        low: s.low,
+        destination: None,
+        ..s
     }
 }
 
@@ -224,13 +201,9 @@ fn entered(s: Nest, free: usize, flag: usize) -> Nest
     Nest {
         depth: s.depth + 1,
         free,
-        label: s.label,
         flag,
-        comes: s.comes,
         choosing: false,
-        begun: false,
-        place: 0,
-        hit: false,
-        low: s.low,
+        destination: None,
+        ..s
     }
 }

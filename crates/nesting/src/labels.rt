@@ -14,15 +14,12 @@ ghost use Rattle.nesting.specs.Jumping.{Sought, Seeking, Jumping, Left, Labels, 
 use crate::nests::{Nest, mark};
 use cells::{get16, put16};
 use records::fields::link_at;
-use room::profile::{FRAMES, HINTS, LABELS};
+use room::profile::{HINTS, LABELS};
 use rules::limits::MOST_TOKENS;
 use spelling::words::same_spelling;
 
 // Behind the cell of a label's token stands that of its flag.
 const LABEL_FLAGS: usize = LABELS + 1;
-
-// In place of a flag: there is none.
-const NONE: usize = FRAMES;
 
 // The cell of the hint for the name i.
 fn hint_cell(records: &[u8], i: usize) -> usize
@@ -49,12 +46,11 @@ pub fn label(records: &[u8], room: &mut [u8], i: usize, s: Nest) -> Nest
     requires { (i < most_tokens) × (8 * i + 8 ≤ length records.now) × ((ts : Book) × (z : State) × Shows ts room.old i s z) }
     ensures { Labels records.now room.old room.new i s result }
 {
-    let count = s.label;
-    let flag = s.flag;
-    put_label(records, room, count, i, flag);
-    let mut t = s;
-    t.label = count + 1;
-    t
+    put_label(records, room, s.label, i, s.flag);
+    Nest {
+        label: s.label + 1,
+        ..s
+    }
 }
 
 // How many of the labels may have the word of the name: up to the one that its hint leads to.
@@ -69,21 +65,19 @@ fn lookable(records: &[u8], room: &[u8], n: usize, count: usize, name: usize) ->
     count
 }
 
-// The flag of the innermost label that has the word of the name.
-fn flag_of(records: &[u8], room: &[u8], n: usize, count: usize, name: usize) -> usize
+// The flag of the innermost label that has the word of the name, if there is one.
+fn flag_of(records: &[u8], room: &[u8], n: usize, count: usize, name: usize) -> Option<usize>
     requires { Sought records.now room.now n count name }
     ensures { (w : Spelt records.now n) (ls : List Slot) → Linked (book records.now w.tokens) room.now count ls
         → FlagFound (flag_of ls (word_at w.tokens name)) result }
 {
-    let mut j = lookable(records, room, n, count, name);
-    while 0 < j {
-        j -= 1;
+    for j in (0..lookable(records, room, n, count, name)).rev() {
         let label = get16(room, LABELS + 2 * j) as usize;
         if same_spelling(records, name, label) {
-            return get16(room, LABEL_FLAGS + 2 * j) as usize;
+            return Some(get16(room, LABEL_FLAGS + 2 * j) as usize);
         }
     }
-    NONE
+    None
 }
 
 // LEAVE of the name: control comes to the end of the label. One that control does not come to marks nothing, so its label is not looked for.
@@ -94,8 +88,7 @@ pub fn leave(records: &[u8], room: &mut [u8], n: usize, name: usize, s: Nest) ->
     if !s.comes {
         return s;
     }
-    let k = flag_of(records, room, n, s.label, name);
-    if k < NONE {
+    if let Some(k) = flag_of(records, room, n, s.label, name) {
         mark(room, k, s.comes);
     }
     s

@@ -1,13 +1,20 @@
 // Where a walk along the tokens of a body stands.
 ghost use Rattle.std.specs.Prelude.{◌≡◌, true, false, cond, ◌&&◌, ◌||◌, List, ℕ, ◌+◌, ◌*◌, ◌<◌, ◌≤◌, min, eqb, length};
 ghost use Rattle.cells.specs.Cells.{cell};
-ghost use Rattle.nesting.specs.Holding.{Standing, Does, Set, Taken};
+ghost use Rattle.nesting.specs.Holding.{low_behind, Standing, Does, Set, Taken};
 ghost use Rattle.nesting.specs.Machine.{reached, transferred, destined, looped, chosen};
 
 use cells::{get16, put16};
 
+// The destination that is being read: the place of its first name, and whether it writes the output.
+#[derive(Clone, Copy)]
+pub struct Destination {
+    pub place: usize,
+    pub hit: bool,
+}
+
 // How many BEGINs are open, the first free flag, how many labels are around; the flag at the end of the action here, whether control comes to it; whether it is a
-// DECODE; of its destination, whether it has begun, its place, whether it writes the output; and the lowest place so far.
+// DECODE; its destination, once it has begun; and the lowest place so far.
 #[derive(Clone, Copy)]
 pub struct Nest {
     pub depth: usize,
@@ -16,37 +23,20 @@ pub struct Nest {
     pub flag: usize,
     pub comes: bool,
     pub choosing: bool,
-    pub begun: bool,
-    pub place: usize,
-    pub hit: bool,
+    pub destination: Option<Destination>,
     pub low: usize,
 }
 
 pub fn both(a: bool, b: bool) -> bool
     ensures { result ≡ (a && b) }
 {
-    if a {
-        return b;
-    }
-    false
+    a && b
 }
 
 pub fn either(a: bool, b: bool) -> bool
     ensures { result ≡ (a || b) }
 {
-    if a {
-        return true;
-    }
-    b
-}
-
-fn lesser(a: usize, b: usize) -> usize
-    ensures { result ≡ min a b }
-{
-    if a < b {
-        return a;
-    }
-    b
+    a || b
 }
 
 // The lower of the two, if b.
@@ -54,7 +44,7 @@ pub fn lowered(low: usize, place: usize, b: bool) -> usize
     ensures { result ≡ cond b (min low place) low }
 {
     if b {
-        return lesser(low, place);
+        return low.min(place);
     }
     low
 }
@@ -95,25 +85,27 @@ pub fn reach(room: &mut [u8], s: Nest) -> Nest
     s
 }
 
+// The lowest place once the destination is written.
+fn low_behind(s: Nest) -> usize
+    ensures { result ≡ low_behind s }
+{
+    match s.destination {
+        None => s.low,
+        Some(destination) => lowered(s.low, destination.place, both(s.comes, destination.hit)),
+    }
+}
+
 // At the `=` of a transfer.
 pub fn transfer(room: &mut [u8], s: Nest) -> Nest
     requires { Standing room.old s }
     ensures { Does transferred room.old s room.new result }
 {
-    let comes = s.comes;
-    let low = lowered(s.low, s.place, both(comes, s.hit));
-    mark(room, s.flag, comes);
+    let low = low_behind(s);
+    mark(room, s.flag, s.comes);
     Nest {
-        depth: s.depth,
-        free: s.free,
-        label: s.label,
-        flag: s.flag,
-        comes,
-        choosing: s.choosing,
-        begun: false,
-        place: 0,
-        hit: false,
+        destination: None,
         low,
+        ..s
     }
 }
 
@@ -122,31 +114,18 @@ pub fn destine(s: Nest, place: usize, h: bool) -> Nest
     requires { place < 65535 }
     ensures { (room : List ℕ) → Does (destined place h) room s room result }
 {
-    if s.begun {
-        return Nest {
-            depth: s.depth,
-            free: s.free,
-            label: s.label,
-            flag: s.flag,
-            comes: s.comes,
-            choosing: s.choosing,
-            begun: true,
-            place: s.place,
-            hit: either(s.hit, h),
-            low: s.low,
-        };
-    }
-    Nest {
-        depth: s.depth,
-        free: s.free,
-        label: s.label,
-        flag: s.flag,
-        comes: s.comes,
-        choosing: s.choosing,
-        begun: true,
-        place,
-        hit: h,
-        low: s.low,
+    match s.destination {
+        None => Nest {
+            destination: Some(Destination { place, hit: h }),
+            ..s
+        },
+        Some(begun) => Nest {
+            destination: Some(Destination {
+                hit: either(begun.hit, h),
+                ..begun
+            }),
+            ..s
+        },
     }
 }
 
@@ -154,16 +133,12 @@ pub fn destine(s: Nest, place: usize, h: bool) -> Nest
 pub fn turning(s: Nest) -> Nest
     ensures { (room : List ℕ) → Does looped room s room result }
 {
-    let mut t = s;
-    t.flag = 0;
-    t
+    Nest { flag: 0, ..s }
 }
 
 // Whether a DECODE is here.
 pub fn choosing(s: Nest, c: bool) -> Nest
     ensures { (room : List ℕ) → Does (chosen c) room s room result }
 {
-    let mut t = s;
-    t.choosing = c;
-    t
+    Nest { choosing: c, ..s }
 }

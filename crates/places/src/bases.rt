@@ -60,8 +60,7 @@ fn low_under(own: Names, on: Names) -> u64
     ensures { LowUnder own on result }
 {
     match on {
-        Names::Missing => 0,
-        Names::Unnamed => 0,
+        Names::Missing | Names::Unnamed => 0,
         Names::Span(_, r) => low_bit(own, r),
     }
 }
@@ -99,14 +98,7 @@ fn storage(first: u64, words: Names, own: Names) -> Base
         → (result.first ≡ first) × (result.left ≡ left_name w) × (result.right ≡ right_name w) × (result.low ≡ 0) × (result.own ≡ own) }
 {
     match words {
-        Names::Missing => Base {
-            first,
-            left: 0,
-            right: 0,
-            low: 0,
-            own,
-        },
-        Names::Unnamed => Base {
+        Names::Missing | Names::Unnamed => Base {
             first,
             left: 0,
             right: 0,

@@ -16,8 +16,7 @@ fn words_named(words: Names) -> u64
     ensures { (result ≤ most_words) × WordsIn words result }
 {
     match words {
-        Names::Missing => 1,
-        Names::Unnamed => 1,
+        Names::Missing | Names::Unnamed => 1,
         Names::Span(l, r) => how_many(l, r),
     }
 }
@@ -28,8 +27,7 @@ fn storage_words(own: Names, words: Names) -> u64
 {
     match own {
         Names::Missing => 0,
-        Names::Unnamed => words_named(words),
-        Names::Span(_, _) => words_named(words),
+        Names::Unnamed | Names::Span(_, _) => words_named(words),
     }
 }
 
@@ -53,11 +51,9 @@ pub fn first_words(records: &[u8], values: &[u8], decls: &[u8], m: usize, firsts
     ensures { (s : Scene records.now values.now decls.now m) → FirstsHold firsts.new (table_of s) m }
 {
     let mut total: u64 = 0;
-    let mut k: usize = 0;
-    while k < m {
+    for k in 0..m {
         put16(firsts, k, total as u16);
         let p = get16(decls, k) as usize;
         total += words_in(records, values, p);
-        k += 1;
     }
 }

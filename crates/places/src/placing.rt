@@ -74,9 +74,7 @@ pub fn place(records: &[u8], values: &mut [u8], decls: &[u8], n: usize, m: usize
     ensures { (v : Described records.now values.old decls.now n m) → AllPlaced v values.new }
 {
     first_words(records, values, decls, m, firsts);
-    let mut i: usize = 0;
-    while i < n {
+    for i in 0..n {
         place_one(records, values, decls, firsts, n, m, i);
-        i += 1;
     }
 }

@@ -18,10 +18,7 @@ fn opened(d: usize, kind: u8) -> usize
         return d + 1;
     }
     if kind == RBRA {
-        if d == 0 {
-            return 0;
-        }
-        return d - 1;
+        return d.saturating_sub(1);
     }
     d
 }
@@ -32,15 +29,13 @@ pub fn behind_subscript(records: &[u8], n: usize, p: usize) -> usize
     ensures { (result ≤ n) × ((values : List ℕ) (v : Valued records.now values n) → drop result v.tokens ≡ past 1 (drop p v.tokens)) }
 {
     let mut d: usize = 1;
-    let mut i = p;
-    while i < n {
+    for i in p..n {
         if d == 0 {
             return i;
         }
         d = opened(d, kind_at(records, i));
-        i += 1;
     }
-    i
+    n
 }
 
 // The names of the bits at p, of an access.

@@ -8,14 +8,11 @@ ghost use Rattle.places.specs.Spans.{ManyIn, LowIn};
 use rules::limits::MOST_WORDS;
 use table::views::Names;
 
-// One more than the distance of two names; 0 where that is more than there can be words.
+// One more than the distance of two names, cut at how many words there can be.
 fn counted(distance: u64) -> u64
     ensures { (result ≤ most_words) × (distance < most_words → result ≡ distance + 1) }
 {
-    if distance < MOST_WORDS as u64 {
-        return distance + 1;
-    }
-    0
+    distance.min(MOST_WORDS as u64 - 1) + 1
 }
 
 // How many names there are from l to r, where that is no more than there can be words.
@@ -33,15 +30,9 @@ fn from_right(l: u64, r: u64, n: u64) -> u64
     ensures { result ≡ from_right (names l r) n }
 {
     if l <= r {
-        if r < n {
-            return 0;
-        }
-        return r - n;
+        return r.saturating_sub(n);
     }
-    if n < r {
-        return 0;
-    }
-    n - r
+    n.saturating_sub(r)
 }
 
 // The lowest of the bits that end at the name `right`, among those of a declaration.
@@ -49,8 +40,7 @@ pub fn low_bit(own: Names, right: u64) -> u64
     ensures { LowIn own right result }
 {
     match own {
-        Names::Missing => 0,
-        Names::Unnamed => 0,
+        Names::Missing | Names::Unnamed => 0,
         Names::Span(l, r) => from_right(l, r, right),
     }
 }

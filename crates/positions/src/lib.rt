@@ -11,44 +11,14 @@ ghost use Rattle.positions.specs.Cursors.{position_here};
 pub use crate::cursors::Cursor;
 use crate::cursors::{advanced, start};
 
+// The numbers whose place is no offset in the text.
+const ELSEWHERE: [u32; 11] = [1, 2, 60, 61, 62, 63, 64, 81, 90, 91, 110];
+
 // Whether the place that belongs to a number is no offset in the text.
 fn is_elsewhere(number: u32) -> bool
     ensures { result ≡ member number elsewhere }
 {
-    if number == 1 {
-        return true;
-    }
-    if number == 2 {
-        return true;
-    }
-    if number == 60 {
-        return true;
-    }
-    if number == 61 {
-        return true;
-    }
-    if number == 62 {
-        return true;
-    }
-    if number == 63 {
-        return true;
-    }
-    if number == 64 {
-        return true;
-    }
-    if number == 81 {
-        return true;
-    }
-    if number == 90 {
-        return true;
-    }
-    if number == 91 {
-        return true;
-    }
-    if number == 110 {
-        return true;
-    }
-    false
+    ELSEWHERE.contains(&number)
 }
 
 // Walks a text up to an offset.
@@ -57,9 +27,8 @@ fn walked(text: &[u8], offset: usize) -> Cursor
     ensures { position_here result ≡ position_at text.now offset }
 {
     let mut c = start();
-    while c.offset < offset {
-        let at = c.offset;
-        c = advanced(c, text[at]);
+    for &byte in &text[..offset] {
+        c = advanced(c, byte);
     }
     c
 }

@@ -36,18 +36,7 @@ fn activate(
     let place = get16(table, 2 * k + 1) as usize;
     let low = lowered(s.low, place, comes);
     mark(room, s.flag, both(comes, back));
-    Nest {
-        depth: s.depth,
-        free: s.free,
-        label: s.label,
-        flag: s.flag,
-        comes,
-        choosing: s.choosing,
-        begun: s.begun,
-        place: s.place,
-        hit: s.hit,
-        low,
-    }
+    Nest { low, ..s }
 }
 
 // Whether the name i is the output, or a mapping on it.

@@ -35,11 +35,8 @@ fn blank(table: &mut [u8])
     requires { 1028 ≤ length table.old }
     ensures { Blank table.old table.new 257 }
 {
-    let mut k: usize = 0;
-    while k <= UNDECLARED {
-        let at = k;
-        k += 1;
-        put_known(table, at, false, UNSEEN);
+    for k in 0..=UNDECLARED {
+        put_known(table, k, false, UNSEEN);
     }
 }
 
@@ -48,14 +45,12 @@ fn begin_behind(records: &[u8], n: usize, name: usize) -> usize
     requires { Kinded records.now n × (name < n) }
     ensures { BeginBehind records.now n name result }
 {
-    let mut i = name + 1;
-    while i < n {
+    for i in name + 1..n {
         if kind_at(records, i) == BEGIN {
             return i;
         }
-        i += 1;
     }
-    i
+    n
 }
 
 // The declaration k, by the table of the round before.
@@ -86,12 +81,8 @@ fn round(records: &[u8], decls: &[u8], table: &[u8], next: &mut [u8], room: &mut
     requires { Levelled records.now decls.now table.now next.old room.old t }
     ensures { Rounded records.now decls.now table.now next.new t }
 {
-    let m = t.m;
-    let mut k: usize = 0;
-    while k < m {
-        let at = k;
-        k += 1;
-        declaration(records, decls, table, next, room, t, at);
+    for k in 0..t.m {
+        declaration(records, decls, table, next, room, t, k);
     }
     put_known(next, UNDECLARED, true, UNSEEN);
 }
@@ -109,10 +100,8 @@ pub fn rounds(
     ensures { Known16 records.now decls.now table.new t }
 {
     blank(table);
-    let mut k: usize = 0;
-    while k < LONGEST_CHAIN {
+    for _k in 0..LONGEST_CHAIN / 2 {
         round(records, decls, table, next, room, t);
         round(records, decls, next, table, room, t);
-        k += 2;
     }
 }

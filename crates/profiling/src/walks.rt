@@ -25,11 +25,8 @@ fn clear_flags(room: &mut [u8])
     requires { room_size ≤ length room.old }
     ensures { Cleared room.old room.new most_flags }
 {
-    let mut k: usize = 0;
-    while k < FRAMES {
-        let at = k;
-        k += 1;
-        put16(room, at, 0);
+    for k in 0..FRAMES {
+        put16(room, k, 0);
     }
 }
 
@@ -47,9 +44,7 @@ fn begin(records: &[u8], room: &mut [u8], name: usize) -> Nest
         flag: 1,
         comes: true,
         choosing: false,
-        begun: false,
-        place: 0,
-        hit: false,
+        destination: None,
         low: 65535,
     }
 }
@@ -81,16 +76,13 @@ pub fn walk(
     let n = t.n;
     let mut s = begin(records, room, name);
     let mut reading: usize = 0;
-    let mut i = from;
-    while i < n {
-        let at = i;
-        let kind = kind_at(records, at);
-        s = step(records, decls, table, room, t, at, kind, reading, s);
+    for i in from..n {
+        let kind = kind_at(records, i);
+        s = step(records, decls, table, room, t, i, kind, reading, s);
         if s.depth == 0 {
             return tell(room, s);
         }
         reading = mode(reading, kind);
-        i += 1;
     }
     tell(room, s)
 }

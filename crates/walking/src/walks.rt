@@ -13,16 +13,13 @@ pub fn walk(records: &[u8], table: &[u8], room: &mut [u8], m: usize, n: usize, f
 {
     let mut s = Nest { depth: 0, count: 0 };
     let mut reading: usize = 0;
-    let mut i = from;
-    while i < n {
-        let at = i;
-        let kind = kind_at(records, at);
-        s = step(records, table, room, m, n, at, kind, reading, s);
+    for i in from..n {
+        let kind = kind_at(records, i);
+        s = step(records, table, room, m, n, i, kind, reading, s);
         if s.depth == 0 {
             return s.count;
         }
         reading = mode(reading, kind);
-        i += 1;
     }
     s.count
 }

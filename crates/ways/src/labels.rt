@@ -66,9 +66,7 @@ pub fn aim(text: &[u8], records: &[u8], labels: &[u8], n: usize, i: usize, part:
     ensures { ((g : Ground) (v : JumpAt g text.now records.now labels.now n i)
         → result ≡ aims part v.around (word_at g.tokens i)) × (result < 65536) }
 {
-    let mut j = lookable(records, labels, n, i);
-    while 0 < j {
-        j -= 1;
+    for j in (0..lookable(records, labels, n, i)).rev() {
         let p = get16(labels, 3 * j) as usize;
         if same_word(text, records, i, p) {
             return get16(labels, 3 * j + part) as usize;

@@ -110,11 +110,8 @@ pub fn behind_prefixes(records: &mut [u8], labels: &mut [u8], start: Spot) -> Sp
         → Bared v records.new labels.new result.at result.link result.count result.first }
 {
     let mut s = start;
-    loop {
-        let at = s.at;
-        if !is_prefix(records, at) {
-            return s;
-        }
+    while is_prefix(records, s.at) {
         s = prefix(records, labels, s);
     }
+    s
 }

@@ -1,7 +1,7 @@
 -- Laws of alternatives: the links of one and of those behind it make those of the DECODE.
 -- Assumes nothing.
 use Prim.Native.Nat.{ℕ, suc, ◌+◌, ◌*◌, ◌-◌, ◌<◌, ◌≤◌}
-use Rattle.std.specs.Prelude.{◌≡◌, List, [], ◌∷◌, drop}
+use Rattle.std.specs.Prelude.{◌≡◌, List, [], ◌∷◌, drop, Some, None}
 use Rattle.std.proofs.Math.Path.{refl, ap}
 use Rattle.std.proofs.Common.{◌∙◌, subst, arith}
 use Rattle.std.proofs.Math.ListN.{length, length-drop}
@@ -108,6 +108,14 @@ module _ {g : Ground} {records labels : List ℕ} {p link count depth : ℕ} (v 
           stack = labels_then u.stack q.stack (omega arith);
         }
 
+  -- the next one
+  another_turn : {now after : List ℕ} (p' : ℕ) → TurnsLeft v now after p' → p < p' → TurnAnswer v now after (Some p')
+  another_turn {now} {after} p' u h = record {
+    done = λ z. cc;
+    left = λ t z. let e : p' ≡ t = cc in subst (TurnsLeft v now after) e u;
+    further_on = λ t z. let e : p' ≡ t = cc in omega arith;
+  }
+
   abbrev pub alternative_at : AlternativeAt g records p
   alternative_at = record { holds = v.setting.holds; turn = v.turn; rest = v.rest; below = v.below; reads = v.reads }
 
@@ -177,9 +185,9 @@ module _ {g : Ground} {records labels : List ℕ} {p link count depth : ℕ} (v 
         kind_first : {t : Token} {ts : Tokens} → more_tokens v.turn.more v.rest ≡ t ∷ ts → k ≡ no t
         kind_first q = let y = here g.tokens end _ _ (x.reads_end ∙ q) in kind ∙ kind_here done_holds end _ y.within y.token
 
-        pub last_turn : k ≡ kind_no END → TurnAnswer v now after 0
+        pub last_turn : k ≡ kind_no END → TurnAnswer v now after None
         unfolding this_alternative
-        last_turn shut = record { done = λ z. by (behind_of v.turn.more); left = λ z. absurd (z refl); further_on = λ z. absurd (z refl) }
+        last_turn shut = record { done = λ z. by (behind_of v.turn.more); left = λ p z. cc; further_on = λ p z. cc }
           where
             by : Behind v.turn.more → TurnsDone v now after
             by (another a) = absurd (omega (arith, kind_first (a.tokens v.rest)))
@@ -195,36 +203,32 @@ module _ {g : Ground} {records labels : List ℕ} {p link count depth : ℕ} (v 
                   stack = d.stack;
                 }
 
-        pub more_turns : (k ≡ kind_no END → ⊥) → TurnAnswer v now after end
+        pub more_turns : (k ≡ kind_no END → ⊥) → TurnAnswer v now after (Some end)
         unfolding this_alternative
         more_turns going = by (behind_of v.turn.more)
           where
-            by : Behind v.turn.more → TurnAnswer v now after end
+            by : Behind v.turn.more → TurnAnswer v now after (Some end)
             by (no_more m) = absurd (going (kind_first (m.tokens v.rest)))
             by (another a) =
                 let l = lies in
                 let e = x.end_is in
                 let y = here g.tokens end _ _ (x.reads_end ∙ a.tokens v.rest) in
-                record {
-                  done = λ z. absurd (omega arith);
-                  left = λ z. record {
-                    now = record {
-                      setting = moved v.setting end both_kept (omega arith) (omega arith) d.stack;
-                      turn = a.next;
-                      rest = v.rest;
-                      below = y.within;
-                      reads = y.behind;
-                      action_shallow = omega (arith, v.more_shallow, a.shallow.0);
-                      more_shallow = omega (arith, v.more_shallow, a.shallow.1);
-                    };
-                    onward = omega arith;
-                    same_rest = refl;
-                    kept = both_kept;
-                    stack = d.stack;
-                    whole = λ later s q. turn_whole later s (a.linked later g.outer g.table v.setting.around end v.setting.behind q);
+                another_turn _ (record {
+                  now = record {
+                    setting = moved v.setting end both_kept (omega arith) (omega arith) d.stack;
+                    turn = a.next;
+                    rest = v.rest;
+                    below = y.within;
+                    reads = y.behind;
+                    action_shallow = omega (arith, v.more_shallow, a.shallow.0);
+                    more_shallow = omega (arith, v.more_shallow, a.shallow.1);
                   };
-                  further_on = λ z. omega arith;
-                }
+                  onward = omega arith;
+                  same_rest = refl;
+                  kept = both_kept;
+                  stack = d.stack;
+                  whole = λ later s q. turn_whole later s (a.linked later g.outer g.table v.setting.around end v.setting.behind q);
+                }) (omega arith)
 
 -- the alternatives of a DECODE
 module _ {g : Ground} {records labels : List ℕ} {i link count first depth : ℕ} (v : ActionAt g records labels i link count first depth)

@@ -1,7 +1,7 @@
 -- Laws of members: the links of one and of those behind it make those of the block.
 -- Assumes nothing.
 use Prim.Native.Nat.{ℕ, suc, ◌+◌, ◌*◌, ◌-◌, ◌<◌, ◌≤◌}
-use Rattle.std.specs.Prelude.{◌≡◌, refl, true, List, ◌∷◌, length}
+use Rattle.std.specs.Prelude.{◌≡◌, refl, true, List, ◌∷◌, length, Some, None}
 use Rattle.std.proofs.Math.Path.{sym, ap}
 use Rattle.std.proofs.Common.{◌∙◌, subst}
 use native.Mathlib.Omega.{arith}
@@ -29,6 +29,7 @@ use Rattle.ways.specs.Linked.{Linked, MembersLinked}
 use Rattle.links.specs.Laws.Linked.{linked_same, block_size}
 use Rattle.ways.specs.Laws.Stack.{labels_none, labels_then}
 use Rattle.ways.specs.Standing.{ActionAt, Done}
+use Rattle.ways.specs.declared.prefixes.Start.{Start}
 use Rattle.links.specs.Laws.Setting.{moved, leading, standing, setting_of}
 use Rattle.links.specs.Members.{RunLinked, MembersAt, end_of, MembersLeft, MembersDone, MemberAnswer}
 
@@ -148,6 +149,14 @@ module _ {g : Ground} {records labels : List ℕ} {i link count first depth : �
           stack = labels_then p.stack q.stack (omega arith);
         }
 
+  -- the next one
+  another_member : {now after : List ℕ} (s : Start) → MembersLeft v now after s.at s.first → i < s.at → MemberAnswer v now after (Some s)
+  another_member {now} {after} s l h = record {
+    done = λ z. cc;
+    left = λ t z. let e : s ≡ t = cc in subst (λ (x : Start). MembersLeft v now after x.at x.first) e l;
+    further_on = λ t z. let e : s ≡ t = cc in subst (λ (x : Start). i < x.at) e h;
+  }
+
   -- a member ends before its separator
   separated : drop i g.tokens ≡ action_tokens v.action (separator_of v.members ∷ behind_separator v.members v.rest)
   separated = v.reads ∙ ap (action_tokens v.action) (members_tokens_lem v.members v.rest)
@@ -176,7 +185,7 @@ module _ {g : Ground} {records labels : List ℕ} {i link count first depth : �
         last_member =
             standing v.setting v.action _ _ separated (members_separate v.members) v.begins (omega (arith, v.action_shallow))
 
-        pub last_done : {now after : List ℕ} → Done last_member now after → MemberAnswer v now after 0 0
+        pub last_done : {now after : List ℕ} → Done last_member now after → MemberAnswer v now after None
         unfolding last_member
         last_done {now} {after} d =
             let m = last v.members (sym kind_is ∙ shut) in
@@ -189,8 +198,8 @@ module _ {g : Ground} {records labels : List ℕ} {i link count first depth : �
                 kept = kept_wide i (end_of v) d.kept (omega arith) (omega arith);
                 stack = d.stack;
               };
-              left = λ z. absurd (z refl);
-              further_on = λ z. absurd (z refl);
+              left = λ s z. cc;
+              further_on = λ s z. cc;
             }
 
       -- another behind it
@@ -216,40 +225,39 @@ module _ {g : Ground} {records labels : List ℕ} {i link count first depth : �
               standing (leading v.setting (at f) refl (omega (arith, (first_fits next_starts first_there).1))) v.action _ _ separated
               (members_separate v.members) v.begins (omega (arith, v.action_shallow))
 
-          pub more_done : {now after : List ℕ} → Done this_member now after → MemberAnswer v now after (q + 1) f
+          more_left : {now after : List ℕ} → Done this_member now after → MembersLeft v now after (q + 1) f
           unfolding this_member next_starts
-          more_done {now} {after} d =
+          more_left {now} d =
               let e = end_is in
               let one : q + 1 ≡ suc (i + action_size v.action) = omega arith in
               let link : at f ≡ behind (i + action_size v.action) v.setting.behind v.members
               = ap at first_next ∙ sym (more.goes_on (i + action_size v.action) v.setting.behind) in
               record {
-                done = λ z. absurd (omega arith);
-                left = λ z. record {
-                  now = record {
-                    setting = moved v.setting (q + 1) d.kept (omega arith) (omega arith) d.stack;
-                    action = more.action;
-                    members = more.members;
-                    rest = v.rest;
-                    reads = next_starts.reads;
-                    begins = first_there;
-                    action_shallow = omega (arith, v.members_shallow, more.shallow.0);
-                    members_shallow = omega (arith, v.members_shallow, more.shallow.1);
-                  };
-                  onward = omega arith;
-                  same_rest = refl;
-                  kept = kept_wide i (q + 1) d.kept (omega arith) (omega arith);
-                  stack = d.stack;
-                  whole = λ later s x. (
-                    linked_same now later g.outer g.table v.action v.setting.around i _
-                        (record { inside = λ t y z. s.inside t y (omega arith); link = λ t y z. s.link t y (omega arith) })
-                        (subst (λ (k : Link). Linked now g.outer g.table v.setting.around i k v.action) link d.linked),
-                    more.rest_linked later g.outer g.table v.setting.around (i + action_size v.action) v.setting.behind
-                        (subst (λ j. RunLinked later g.outer g.table v.setting.around j v.setting.behind more.action more.members) one x),
-                  );
+                now = record {
+                  setting = moved v.setting (q + 1) d.kept (omega arith) (omega arith) d.stack;
+                  action = more.action;
+                  members = more.members;
+                  rest = v.rest;
+                  reads = next_starts.reads;
+                  begins = first_there;
+                  action_shallow = omega (arith, v.members_shallow, more.shallow.0);
+                  members_shallow = omega (arith, v.members_shallow, more.shallow.1);
                 };
-                further_on = λ z. omega arith;
+                onward = omega arith;
+                same_rest = refl;
+                kept = kept_wide i (q + 1) d.kept (omega arith) (omega arith);
+                stack = d.stack;
+                whole = λ later s x. (
+                  linked_same now later g.outer g.table v.action v.setting.around i _
+                      (record { inside = λ t y z. s.inside t y (omega arith); link = λ t y z. s.link t y (omega arith) })
+                      (subst (λ (k : Link). Linked now g.outer g.table v.setting.around i k v.action) link d.linked),
+                  more.rest_linked later g.outer g.table v.setting.around (i + action_size v.action) v.setting.behind
+                      (subst (λ j. RunLinked later g.outer g.table v.setting.around j v.setting.behind more.action more.members) one x),
+                );
               }
+
+          pub more_done : {now after : List ℕ} → Done this_member now after → MemberAnswer v now after (Some (record { at = q + 1; first = f }))
+          more_done {now} {after} d = let e = end_is in another_member (record { at = q + 1; first = f }) (more_left d) (omega arith)
 
 -- the members of a block
 module _ {g : Ground} {records labels : List ℕ} {i link count first depth : ℕ} (v : ActionAt g records labels i link count first depth)

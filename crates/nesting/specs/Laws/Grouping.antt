@@ -1,5 +1,5 @@
 -- What BEGIN, END, `;`, NEXT and `,` do to the frames.
-use Rattle.std.specs.Prelude.{ℕ, suc, ◌+◌, ◌*◌, ◌-◌, ◌<◌, ◌≤◌, ◌≡◌, refl, Bool, true, false, cond, not, ◌&&◌, List, [], ◌∷◌, ◌⊎◌, eqb, ltb, length}
+use Rattle.std.specs.Prelude.{ℕ, suc, ◌+◌, ◌*◌, ◌-◌, ◌<◌, ◌≤◌, ◌≡◌, refl, Bool, true, false, cond, not, ◌&&◌, List, [], ◌∷◌, ◌⊎◌, eqb, ltb, length, None}
 use Rattle.std.proofs.Common.{sym, ap, ap₂, ◌∙◌, subst, inl, inr, arith, add-one, lt-ltb, le-ltb}
 use Rattle.std.proofs.lemmas.Bool.{false≢true}
 use Rattle.cells.specs.Cells.{cell, put_cell}
@@ -179,10 +179,8 @@ module _ {ts : Book} {old mid new : List ℕ} {i : ℕ} {x r : Nest} {z : State}
         flag_low = own_small;
         comes_is = refl;
         choosing_is = refl;
-        begun_is = refl;
-        place_is = refl;
+        dest_is = refl;
         place_low = omega arith;
-        hit_is = refl;
         low_is = s.low_is;
         frames =
             frames {fs = y.others} frame_there (subst (λ q. Frames ts new q y.others) (sym count_there)
@@ -235,10 +233,10 @@ module _ {old : List ℕ} {x : Nest} {f : Kept-frame} (n : x.depth ≡ 0 → ⊥
         (subst (λ b. Shows ts new i r (state (frame h.labels h.flag h.own b true h.group ∷ y.others) z.free (cleared h.own z.marks) h.labels h.own b false idle))
         (ended_is s n t k res e) (member_begins s n t k res))
 
-  pub another_shown : Does (λ z. another z.frames z) old x old (nest x.depth x.free f.label f.flag f.comes false false 0 false x.low)
+  pub another_shown : Does (λ z. another z.frames z) old x old (nest x.depth x.free f.label f.flag f.comes false None x.low)
   another_shown ts i z s =
       let y = inner s n t in
-      let r : Nest = nest x.depth x.free f.label f.flag f.comes false false 0 false x.low in
+      let r : Nest = nest x.depth x.free f.label f.flag f.comes false None x.low in
       subst (λ l. Shows ts old i r (another l z)) (sym y.is)
       (record {
         space = s.space;
@@ -253,10 +251,8 @@ module _ {old : List ℕ} {x : Nest} {f : Kept-frame} (n : x.depth ≡ 0 → ⊥
         flag_low = y.flag_low;
         comes_is = y.comes;
         choosing_is = refl;
-        begun_is = refl;
-        place_is = refl;
+        dest_is = refl;
         place_low = omega arith;
-        hit_is = refl;
         low_is = s.low_is;
         frames = y.itself;
         flags = s.flags;
@@ -288,10 +284,8 @@ module _ {old : List ℕ} {x : Nest} {f : Kept-frame} (n : x.depth ≡ 0 → ⊥
           flag_low = omega arith;
           comes_is = refl;
           choosing_is = refl;
-          begun_is = refl;
-          place_is = refl;
+          dest_is = refl;
           place_low = omega arith;
-          hit_is = refl;
           low_is = s.low_is ∙ low q.group z.marks q.flag (q.ended && z.marks.flags q.own);
           frames = frames_kept (λ j a b. high j a) (λ j a. high j (omega arith)) y.rest;
           flags = ends q.group y.group z.marks q.flag (q.ended && z.marks.flags q.own) s.flags y.flag c_is;
@@ -325,10 +319,8 @@ too_deep {room} {x} {r} h e ts i z s =
       flag_low = omega arith;
       comes_is = refl;
       choosing_is = refl;
-      begun_is = refl;
-      place_is = refl;
+      dest_is = refl;
       place_low = omega arith;
-      hit_is = refl;
       low_is = s.low_is;
       frames = no_frames;
       flags = s.flags;
@@ -394,10 +386,8 @@ module _ {old : List ℕ} {x : Nest} (l : x.depth < 32) where
           flag_low = s.flag_low;
           comes_is = s.comes_is;
           choosing_is = refl;
-          begun_is = refl;
-          place_is = refl;
+          dest_is = refl;
           place_low = omega arith;
-          hit_is = refl;
           low_is = s.low_is;
           frames = subst (λ b. Frames ts mid x.label (frame z.labels z.flag z.free z.comes true b ∷ z.frames)) (gi ∙ ap not c) (one_more s);
           flags = flags_there s;
@@ -425,10 +415,8 @@ module _ {old : List ℕ} {x : Nest} (l : x.depth < 32) where
             flag_low = omega (arith, s.free_low);
             comes_is = s.comes_is;
             choosing_is = refl;
-            begun_is = refl;
-            place_is = refl;
+            dest_is = refl;
             place_low = omega arith;
-            hit_is = refl;
             low_is = s.low_is;
             frames =
                 frames_kept (λ q a b. high q a) (λ q a. high q (omega arith))

@@ -1,6 +1,6 @@
 -- What stays shown while flags, frames and labels are written.
-use Rattle.std.specs.Prelude.{ℕ, min, ◌+◌, ◌*◌, ◌<◌, ◌≤◌, ◌≡◌, refl, Bool, true, false, cond, not, ◌||◌, ◌&&◌, List, [], ◌∷◌, ◌++◌, eqb, length}
-use Rattle.std.proofs.Common.{sym, ap, ◌∙◌, subst, append-nil, arith, eq-eqb, ne_eqb}
+use Rattle.std.specs.Prelude.{ℕ, min, ◌+◌, ◌*◌, ◌<◌, ◌≤◌, ◌≡◌, refl, Bool, true, false, cond, not, ◌||◌, ◌&&◌, List, [], ◌∷◌, ◌++◌, eqb, length, Some, None}
+use Rattle.std.proofs.Common.{sym, ap, ap₂, ◌∙◌, subst, append-nil, arith, eq-eqb, ne_eqb}
 use Rattle.std.proofs.lemmas.Bool.{false≢true}
 use Rattle.std.proofs.Math.Bool.{and-false}
 use Rattle.std.proofs.Math.Decide.{ℕ_discrete}
@@ -11,10 +11,11 @@ use Rattle.records.specs.Holds.{link_cell}
 use Rattle.paths.specs.Cited.Marks.{Marks, Slot, marked, cleared, added}
 use Rattle.paths.specs.Cited.Least.{least}
 use Rattle.paths.proofs.Least.{least_append}
-use Rattle.nesting.specs.Machine.{Frame, State, reached, transferred, destined, looped, chosen}
-use Rattle.nesting.specs.Holding.{unseen, bit, Book, Linked, unlinked, linked, Still, LabelPut, FrameAt, Frames, no_frames, frames, Flagged, Shows, Does, Set}
+use Rattle.nesting.specs.Machine.{Frame, Dest, parts, part, State, reached, transferred, destined, looped, chosen}
+use Rattle.nesting.specs.Holding.{unseen, bit, Book, Linked, unlinked, linked, Still, LabelPut, FrameAt, Frames, no_frames, frames, Flagged, dest_of, low_behind, Shows, Does, Set}
 use Rattle.room.specs.Profile.{frame_cell, label_cell, hints_from, hint_cell, most_flags, labels_from, room_size}
 use Rattle.nesting.specs.Grouping.{nest}
+use Rattle.nesting.specs.declared.nests.Destination.{Destination}
 use Rattle.nesting.specs.declared.nests.Nest.{Nest}
 
 pub bit_test : (b : Bool) → eqb (bit b) 1 ≡ b
@@ -179,10 +180,8 @@ reach_shown {old} {new} {x} set ts i z s = record {
   flag_low = s.flag_low;
   comes_is = s.comes_is;
   choosing_is = s.choosing_is;
-  begun_is = s.begun_is;
-  place_is = s.place_is;
+  dest_is = s.dest_is;
   place_low = s.place_low;
-  hit_is = s.hit_is;
   low_is = s.low_is;
   frames = set_frames s set s.flag_low;
   flags = let g : Flagged new (marked x.flag x.comes z.marks) = flagged_set set s.flags in subst (λ k. Flagged new (marked k z.comes z.marks)) s.flag_is (subst (λ b. Flagged new (marked x.flag b z.marks)) s.comes_is g);
@@ -194,10 +193,10 @@ lower l p ps true true e h = omega (arith, least_append unseen ps (p ∷ []))
 lower l p ps true false e h = e ∙ ap (least unseen) (sym (append-nil ps))
 lower l p ps false c e h = e ∙ ap (least unseen) (sym (append-nil ps))
 
-pub transfer_shown : {old new : List ℕ} {x : Nest} {b : Bool} {low : ℕ} → b ≡ (x.comes && x.hit) → low ≡ cond b (min x.low x.place) x.low
+pub transfer_shown : {old new : List ℕ} {x : Nest} {low : ℕ} → low ≡ low_behind x
     → Set old new x.flag x.comes
-    → Does transferred old x new (nest x.depth x.free x.label x.flag x.comes x.choosing false 0 false low)
-transfer_shown {old} {new} {x} {b} {low} f e set ts i z s = record {
+    → Does transferred old x new (nest x.depth x.free x.label x.flag x.comes x.choosing None low)
+transfer_shown {old} {new} {x} e set ts i z s = record {
   space = omega (arith, s.space, set.size);
   few = s.few;
   label_low = s.label_low;
@@ -210,13 +209,11 @@ transfer_shown {old} {new} {x} {b} {low} f e set ts i z s = record {
   flag_low = s.flag_low;
   comes_is = s.comes_is;
   choosing_is = s.choosing_is;
-  begun_is = refl;
-  place_is = refl;
+  dest_is = refl;
   place_low = omega arith;
-  hit_is = refl;
   low_is =
-      e ∙ (ap (λ c. cond c (min x.low x.place) x.low) f ∙ (lower x.low x.place z.marks.places x.comes x.hit s.low_is s.place_low
-      ∙ rw (s.comes_is, s.hit_is, s.place_is)));
+      e ∙ (lower x.low (dest_of x.destination).place z.marks.places x.comes (dest_of x.destination).hit s.low_is s.place_low
+      ∙ ap₂ (λ (b : Bool) (d : Dest). least unseen (z.marks.places ++ cond b (cond d.hit (d.place ∷ []) []) [])) s.comes_is s.dest_is);
   frames = set_frames s set s.flag_low;
   flags =
       let w = added (cond z.comes (cond z.dest.hit (z.dest.place ∷ []) []) []) z.marks in
@@ -227,7 +224,7 @@ transfer_shown {old} {new} {x} {b} {low} f e set ts i z s = record {
 
 -- nothing is written
 module _ (room : List ℕ) (x : Nest) where
-  pub looped_shown : Does looped room x room (nest x.depth x.free x.label 0 x.comes x.choosing x.begun x.place x.hit x.low)
+  pub looped_shown : Does looped room x room (nest x.depth x.free x.label 0 x.comes x.choosing x.destination x.low)
   looped_shown ts i z s = record {
     space = s.space;
     few = s.few;
@@ -241,16 +238,14 @@ module _ (room : List ℕ) (x : Nest) where
     flag_low = omega arith;
     comes_is = s.comes_is;
     choosing_is = s.choosing_is;
-    begun_is = s.begun_is;
-    place_is = s.place_is;
+    dest_is = s.dest_is;
     place_low = s.place_low;
-    hit_is = s.hit_is;
     low_is = s.low_is;
     frames = s.frames;
     flags = s.flags;
   }
 
-  pub chosen_shown : (c : Bool) → Does (chosen c) room x room (nest x.depth x.free x.label x.flag x.comes c x.begun x.place x.hit x.low)
+  pub chosen_shown : (c : Bool) → Does (chosen c) room x room (nest x.depth x.free x.label x.flag x.comes c x.destination x.low)
   chosen_shown c ts i z s = record {
     space = s.space;
     few = s.few;
@@ -264,19 +259,17 @@ module _ (room : List ℕ) (x : Nest) where
     flag_low = s.flag_low;
     comes_is = s.comes_is;
     choosing_is = refl;
-    begun_is = s.begun_is;
-    place_is = s.place_is;
+    dest_is = s.dest_is;
     place_low = s.place_low;
-    hit_is = s.hit_is;
     low_is = s.low_is;
     frames = s.frames;
     flags = s.flags;
   }
 
   module _ (p : ℕ) (h : Bool) (low : p < unseen) where
-    pub part_shown : (q : ℕ) (t : Bool) → q ≡ cond x.begun x.place p → t ≡ cond x.begun (x.hit || h) h → q < unseen → Does (destined p h) room x room
-        (nest x.depth x.free x.label x.flag x.comes x.choosing true q t x.low)
-    part_shown q t e f l ts i z s = record {
+    part_shown : (d : Destination) → dest_of (Some d) ≡ part (dest_of x.destination) p h → d.place < unseen → Does (destined p h) room x room
+        (nest x.depth x.free x.label x.flag x.comes x.choosing (Some d) x.low)
+    part_shown d e l ts i z s = record {
       space = s.space;
       few = s.few;
       label_low = s.label_low;
@@ -289,22 +282,30 @@ module _ (room : List ℕ) (x : Nest) where
       flag_low = s.flag_low;
       comes_is = s.comes_is;
       choosing_is = s.choosing_is;
-      begun_is = refl;
-      place_is = e ∙ rw (s.begun_is, s.place_is);
+      dest_is = e ∙ ap (λ (y : Dest). part y p h) s.dest_is;
       place_low = l;
-      hit_is = f ∙ rw (s.begun_is, s.hit_is);
       low_is = s.low_is;
       frames = s.frames;
       flags = s.flags;
     }
 
-    pub part_later : x.begun ≡ true → {t : Bool} → t ≡ (x.hit || h) → Does (destined p h) room x room
-        (nest x.depth x.free x.label x.flag x.comes x.choosing true x.place t x.low)
-    part_later e {t} f ts i z s = part_shown x.place t (rw e) (f ∙ rw e) s.place_low ts i z s
+    pub part_later : {d : Destination} → x.destination ≡ Some d → {t : Bool} → t ≡ (d.hit || h) → Does (destined p h) room x room
+        (nest x.depth x.free x.label x.flag x.comes x.choosing (Some (record { place = d.place; hit = t })) x.low)
+    part_later {d} e {t} f ts i z s =
+        part_shown (record { place = d.place; hit = t }) (ap (parts d.place) f ∙ ap (λ o. part (dest_of o) p h) (sym e))
+        (subst (λ o. (dest_of o).place < unseen) e s.place_low) ts i z s
 
-    pub part_first : x.begun ≡ false → Does (destined p h) room x room
-        (nest x.depth x.free x.label x.flag x.comes x.choosing true p h x.low)
-    part_first e ts i z s = part_shown p h (rw e) (rw e) low ts i z s
+    pub part_first : x.destination ≡ None → Does (destined p h) room x room
+        (nest x.depth x.free x.label x.flag x.comes x.choosing (Some (record { place = p; hit = h })) x.low)
+    part_first e ts i z s = part_shown (record { place = p; hit = h }) (ap (λ o. part (dest_of o) p h) (sym e)) low ts i z s
+
+-- the lowest place
+pub low_unwritten : (x : Nest) → x.destination ≡ None → x.low ≡ low_behind x
+low_unwritten x e = subst (λ o. x.low ≡ cond (x.comes && (dest_of o).hit) (min x.low (dest_of o).place) x.low) (sym e) (ap (λ b. cond b (min x.low 0) x.low) (sym (and-false x.comes)))
+
+pub low_written : (x : Nest) {d : Destination} {b : Bool} {r : ℕ} → x.destination ≡ Some d → b ≡ (x.comes && d.hit) → r ≡ cond b (min x.low d.place) x.low → r ≡ low_behind x
+low_written x {d} e f q =
+    q ∙ (ap (λ b. cond b (min x.low d.place) x.low) f ∙ ap (λ o. cond (x.comes && (dest_of o).hit) (min x.low (dest_of o).place) x.low) (sym e))
 
 pub lower_taken : (low place r : ℕ) (b : Bool) → b ≡ true → r ≡ min low place → r ≡ cond b (min low place) low
 lower_taken low place r b e h = rw e h

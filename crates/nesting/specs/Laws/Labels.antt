@@ -1,5 +1,5 @@
 -- A label more, and the label that a LEAVE names.
-use Rattle.std.specs.Prelude.{ℕ, suc, ◌+◌, ◌*◌, ◌-◌, ◌<◌, ◌≤◌, ◌≡◌, refl, Bool, true, false, cond, List, ◌∷◌, length}
+use Rattle.std.specs.Prelude.{ℕ, suc, ◌+◌, ◌*◌, ◌-◌, ◌<◌, ◌≤◌, ◌≡◌, refl, Bool, true, false, cond, List, ◌∷◌, length, Option as Found, Some, None}
 use Rattle.std.proofs.Common.{sym, ap, ◌∙◌, subst, arith, eqb-true}
 use Rattle.std.proofs.Math.Option.{Option, none, some}
 use Rattle.std.proofs.Math.Decide.{dec_lt}
@@ -21,7 +21,7 @@ use Rattle.nesting.specs.Laws.Holding.{linked_still, frames_still, frames_later,
 use Rattle.nesting.specs.declared.nests.Nest.{Nest}
 
 pub label_shown : {records old new : List ℕ} {i : ℕ} {x : Nest} → i < 8192 → LabelPut records old new x.label i x.flag
-    → Labels records old new i x (nest x.depth x.free (x.label + 1) x.flag x.comes x.choosing x.begun x.place x.hit x.low)
+    → Labels records old new i x (nest x.depth x.free (x.label + 1) x.flag x.comes x.choosing x.destination x.low)
 label_shown {records} {old} {new} {i} {x} h p ts z s n =
     let one : x.label + 1 ≡ suc x.label = omega arith in
     let more : Linked (book records ts) new (suc x.label) (slot (word_at ts i) z.flag ∷ z.labels) =
@@ -41,10 +41,8 @@ label_shown {records} {old} {new} {i} {x} h p ts z s n =
       flag_low = s.flag_low;
       comes_is = s.comes_is;
       choosing_is = s.choosing_is;
-      begun_is = s.begun_is;
-      place_is = s.place_is;
+      dest_is = s.dest_is;
       place_low = s.place_low;
-      hit_is = s.hit_is;
       low_is = s.low_is;
       frames = frames_later (x.label + 1) (omega arith) (frames_still (λ q a b. p.low q (omega (arith, s.depth_is, s.shallow))) p.still s.frames);
       flags = flagged_kept (λ j l. p.low j (omega arith)) s.flags;
@@ -111,10 +109,10 @@ next_label h (linked {p} {l} {ls} n w f k q r) =
     record { slot_is = l; rest = ls; is = refl; name = rw e n; word = rw e w; flag_is = rw e f; flag_low = k; others = rw e r }
 
 module _ {records room : List ℕ} {n count name j : ℕ} (v : Seeking records room n count name j) where
-  pub seek_none : j ≤ 0 → (w : Spelt records n) (ls : List Slot) → Linked (book records w.tokens) room count ls → FlagFound (flag_of ls (word_at w.tokens name)) 64
-  seek_none h w ls l = let x = v.left w ls l in subst (λ o. FlagFound o 64) (sym x.2) (by h x.1)
+  pub seek_none : j ≤ 0 → (w : Spelt records n) (ls : List Slot) → Linked (book records w.tokens) room count ls → FlagFound (flag_of ls (word_at w.tokens name)) None
+  seek_none h w ls l = let x = v.left w ls l in subst (λ o. FlagFound o None) (sym x.2) (by h x.1)
     where
-      by : {ts : Book} {q : ℕ} {rest : List Slot} → q ≤ 0 → Linked ts room q rest → FlagFound (flag_of rest (word_at w.tokens name)) 64
+      by : {ts : Book} {q : ℕ} {rest : List Slot} → q ≤ 0 → Linked ts room q rest → FlagFound (flag_of rest (word_at w.tokens name)) None
       by o unlinked = refl
       by o (linked a e f g q r) = absurd (omega arith)
 
@@ -139,11 +137,11 @@ module _ {records room : List ℕ} {n count name j : ℕ} (v : Seeking records r
           ∙ ap (λ b. cond b (some x.slot_is.flag) (flag_of x.rest (word_at w.tokens name))) (sym test))
 
       pub seek_found : r ≡ true → {k : ℕ} → k ≡ cell 2 room (257 + 2 * (j - 1)) → (w : Spelt records n) (ls : List Slot)
-          → Linked (book records w.tokens) room count ls → FlagFound (flag_of ls (word_at w.tokens name)) k
+          → Linked (book records w.tokens) room count ls → FlagFound (flag_of ls (word_at w.tokens name)) (Some k)
       seek_found t {k} q w ls l =
           let x = here w ls l in
           let k_is : k ≡ x.slot_is.flag = q ∙ (ap (cell 2 room) (omega arith) ∙ x.flag_is) in
-          subst (λ o. FlagFound o k) (sym (by_test w ls l ∙ (ap (λ b. cond b (some x.slot_is.flag) (flag_of x.rest (word_at w.tokens name))) t ∙ ap some (sym k_is))))
+          subst (λ o. FlagFound o (Some k)) (sym (by_test w ls l ∙ (ap (λ b. cond b (some x.slot_is.flag) (flag_of x.rest (word_at w.tokens name))) t ∙ ap some (sym k_is))))
           (refl, omega (arith, x.flag_low))
 
       pub seek_on : r ≡ false → Seeking records room n count name (j - 1)
@@ -187,10 +185,8 @@ left_idle {old = old} name {x} e w i z s =
       flag_low = s.flag_low;
       comes_is = s.comes_is;
       choosing_is = s.choosing_is;
-      begun_is = s.begun_is;
-      place_is = s.place_is;
+      dest_is = s.dest_is;
       place_low = s.place_low;
-      hit_is = s.hit_is;
       low_is = s.low_is ∙ left_places (flag_of z.labels (word_at w.tokens name)) z;
       frames = s.frames;
       flags = by (flag_of z.labels (word_at w.tokens name));
@@ -202,10 +198,19 @@ left_idle {old = old} name {x} e w i z s =
         let g : Flagged old (marked j x.comes z.marks) = flagged_set (set_none e) s.flags in
         subst (λ b. Flagged old (marked j b z.marks)) s.comes_is g
 
-module _ {records old : List ℕ} {n name k : ℕ} {x : Nest} (found : (w : Spelt records n) (ls : List Slot) → Linked (book records w.tokens) old x.label ls
-    → FlagFound (flag_of ls (word_at w.tokens name)) k) where
-  pub left_flag : {new : List ℕ} → k < 64 → Set old new k x.comes → Left records old new n name x x
-  left_flag {new} h set w i z s =
+-- the flag of a label that is found
+flag_is : {r : Found ℕ} {k : ℕ} (o : Option ℕ) → FlagFound o r → r ≡ Some k → (o ≡ some k) × (k < 64)
+flag_is none e q = cc
+flag_is {k = k} (some j) e q = let j_is : j ≡ k = cc in (ap some j_is, omega (arith, e.1))
+
+module _ {records old : List ℕ} {n name : ℕ} {r : Found ℕ} {x : Nest} (found : (w : Spelt records n) (ls : List Slot) → Linked (book records w.tokens) old x.label ls
+    → FlagFound (flag_of ls (word_at w.tokens name)) r) where
+  pub flag_room : {k : ℕ} → Jumping records old n name x → r ≡ Some k → 2 * k + 2 ≤ length old
+  flag_room j q = omega (arith, (flag_is _ (found j.spelt j.state.labels j.shows.labels) q).1, j.shows.space)
+
+  pub left_flag : {new : List ℕ} {k : ℕ} → r ≡ Some k → Set old new k x.comes → Left records old new n name x x
+  left_flag {new} {k} q set w i z s =
+      let f = flag_is _ (found w z.labels s.labels) q in
       record {
         space = omega (arith, s.space, set.size);
         few = s.few;
@@ -214,32 +219,26 @@ module _ {records old : List ℕ} {n name k : ℕ} {x : Nest} (found : (w : Spel
         shallow = s.shallow;
         free_is = s.free_is;
         free_low = s.free_low;
-        labels = set_labels s set h;
+        labels = set_labels s set f.1;
         flag_is = s.flag_is;
         flag_low = s.flag_low;
         comes_is = s.comes_is;
         choosing_is = s.choosing_is;
-        begun_is = s.begun_is;
-        place_is = s.place_is;
+        dest_is = s.dest_is;
         place_low = s.place_low;
-        hit_is = s.hit_is;
         low_is = s.low_is ∙ left_places (flag_of z.labels (word_at w.tokens name)) z;
-        frames = set_frames s set h;
-        flags = by (flag_of z.labels (word_at w.tokens name)) (found w z.labels s.labels);
+        frames = set_frames s set f.1;
+        flags =
+            let g : Flagged new (marked k x.comes z.marks) = flagged_set set s.flags in
+            subst (λ o. Flagged new (marked_at o z.comes z.marks)) (sym f.0) (subst (λ b. Flagged new (marked k b z.marks)) s.comes_is g);
       }
-    where
-      by : (o : Option ℕ) → FlagFound o k → Flagged new (marked_at o z.comes z.marks)
-      by none e = absurd (omega arith)
-      by (some j) e =
-          let g : Flagged new (marked k x.comes z.marks) = flagged_set set s.flags in
-          subst (λ y. Flagged new (marked y z.comes z.marks)) e.0 (subst (λ b. Flagged new (marked k b z.marks)) s.comes_is g)
 
-  pub left_nowhere : 64 ≤ k → Left records old old n name x x
-  left_nowhere h w i z s = subst (λ o. Shows (book records w.tokens) old i x (to o)) (sym (by (flag_of z.labels (word_at w.tokens name)) (found w z.labels s.labels))) s
+  pub left_nowhere : r ≡ None → Left records old old n name x x
+  left_nowhere q w i z s = subst (λ o. Shows (book records w.tokens) old i x (to o)) (sym (by (flag_of z.labels (word_at w.tokens name)) (found w z.labels s.labels))) s
     where
       to : Option ℕ → State
       to o = record { frames = z.frames; free = z.free; marks = marked_at o z.comes z.marks; labels = z.labels; flag = z.flag; comes = z.comes; choosing = z.choosing; dest = z.dest }
 
-      by : (o : Option ℕ) → FlagFound o k → o ≡ none
+      by : (o : Option ℕ) → FlagFound o r → o ≡ none
       by none e = refl
-      by (some j) e = absurd (omega (arith, e.0, e.1))
+      by (some j) e = let h = e.0 in cc

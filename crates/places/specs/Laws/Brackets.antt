@@ -33,17 +33,13 @@ module _ (d k : ℕ) where
   unfolding opened
   opened_more e = add-one d ∙ sym (rw (eq-eqb k 5 e, opened))
 
-  pub opened_none : (k ≡ kind_no LBra → ⊥) → k ≡ kind_no RBra → d ≡ 0 → 0 ≡ opened d k
+  pub opened_fewer : (k ≡ kind_no LBra → ⊥) → k ≡ kind_no RBra → d - 1 ≡ opened d k
   unfolding opened
-  opened_none n e z = sym (rw (ne_eqb k 5 n, eq-eqb k 6 e, opened) (ap down z))
-
-  pub opened_fewer : (k ≡ kind_no LBra → ⊥) → k ≡ kind_no RBra → (d ≡ 0 → ⊥) → d - 1 ≡ opened d k
-  unfolding opened
-  opened_fewer n e z = below d z ∙ sym (rw (ne_eqb k 5 n, eq-eqb k 6 e, opened))
+  opened_fewer n e = below d ∙ sym (rw (ne_eqb k 5 n, eq-eqb k 6 e, opened))
     where
-      below : (d : ℕ) → (d ≡ 0 → ⊥) → d - 1 ≡ down d
-      below zero z = absurd (z refl)
-      below (suc d) z = omega arith
+      below : (d : ℕ) → d - 1 ≡ down d
+      below zero = refl
+      below (suc d) = omega arith
 
   pub opened_same : (k ≡ kind_no LBra → ⊥) → (k ≡ kind_no RBra → ⊥) → d ≡ opened d k
   unfolding opened

@@ -68,9 +68,3 @@ module _ (l r : ℕ) where
     pub right_down : r < l → n - r ≡ from_right (names l r) n
     unfolding from_right
     right_down h = sym (ap (λ (t : Bool). elim t [ true ↦ r - n | false ↦ n - r ]) (lt-leb l r h))
-
-    pub right_up_past : l ≤ r → r < n → 0 ≡ from_right (names l r) n
-    right_up_past h k = omega (arith, right_up h)
-
-    pub right_down_past : r < l → n < r → 0 ≡ from_right (names l r) n
-    right_down_past h k = omega (arith, right_down h)

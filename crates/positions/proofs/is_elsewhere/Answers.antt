@@ -1,42 +1,20 @@
--- `positions::is_elsewhere` meets its contract: number by number.
+-- `positions::is_elsewhere` meets its contract: the numbers are those of the rules.
 -- Assumes nothing.
-use borrow.Author.Rules.{rules}
-use mathlib.Core.Path.{sym, ◌∙◌}
-use Rattle.laws.specs.Positions.{member_first, member_none, member_rest}
+use Rattle.std.specs.Prelude.{ℕ, ◌≡◌, refl, Bool, ◌||◌, List, [], ◌∷◌}
+use Rattle.std.specs.List.{list_any}
+use Rattle.std.proofs.Common.{sym, ap₂, ◌∙◌, eq-eqb, ne_eqb}
+use Rattle.std.proofs.Math.Dec.{eqb}
+use Rattle.std.proofs.Math.Decide.{ℕ_discrete}
+use Rattle.rules.specs.Whole.Sets.{member}
 use Rattle.positions.proofs.is_elsewhere.Goals as goal
 
-pub returns-then-number-eq1 : goal.returns-then-number-eq1
-returns-then-number-eq1 c = sym (member_first _ _ _ (search rules))
+swapped : (x y : ℕ) → eqb x y ≡ eqb y x
+swapped x y = elim (ℕ_discrete x y) [ yes e ↦ eq-eqb x y e ∙ sym (eq-eqb y x (sym e)) | no n ↦ ne_eqb x y n ∙ sym (ne_eqb y x (λ e. n (sym e))) ]
 
-pub returns-then-number-eq2 : goal.returns-then-number-eq2
-returns-then-number-eq2 c = sym (member_rest _ _ _ (search rules) ∙ member_first _ _ _ (search rules))
-
-pub returns-then-number-eq60 : goal.returns-then-number-eq60
-returns-then-number-eq60 c = sym (member_rest _ _ _ (search rules) ∙ member_rest _ _ _ (search rules) ∙ member_first _ _ _ (search rules))
-
-pub returns-then-number-eq61 : goal.returns-then-number-eq61
-returns-then-number-eq61 c = sym (member_rest _ _ _ (search rules) ∙ member_rest _ _ _ (search rules) ∙ member_rest _ _ _ (search rules) ∙ member_first _ _ _ (search rules))
-
-pub returns-then-number-eq62 : goal.returns-then-number-eq62
-returns-then-number-eq62 c = sym (member_rest _ _ _ (search rules) ∙ member_rest _ _ _ (search rules) ∙ member_rest _ _ _ (search rules) ∙ member_rest _ _ _ (search rules) ∙ member_first _ _ _ (search rules))
-
-pub returns-then-number-eq63 : goal.returns-then-number-eq63
-returns-then-number-eq63 c = sym (member_rest _ _ _ (search rules) ∙ member_rest _ _ _ (search rules) ∙ member_rest _ _ _ (search rules) ∙ member_rest _ _ _ (search rules) ∙ member_rest _ _ _ (search rules) ∙ member_first _ _ _ (search rules))
-
-pub returns-then-number-eq64 : goal.returns-then-number-eq64
-returns-then-number-eq64 c = sym (member_rest _ _ _ (search rules) ∙ member_rest _ _ _ (search rules) ∙ member_rest _ _ _ (search rules) ∙ member_rest _ _ _ (search rules) ∙ member_rest _ _ _ (search rules) ∙ member_rest _ _ _ (search rules) ∙ member_first _ _ _ (search rules))
-
-pub returns-then-number-eq81 : goal.returns-then-number-eq81
-returns-then-number-eq81 c = sym (member_rest _ _ _ (search rules) ∙ member_rest _ _ _ (search rules) ∙ member_rest _ _ _ (search rules) ∙ member_rest _ _ _ (search rules) ∙ member_rest _ _ _ (search rules) ∙ member_rest _ _ _ (search rules) ∙ member_rest _ _ _ (search rules) ∙ member_first _ _ _ (search rules))
-
-pub returns-then-number-eq90 : goal.returns-then-number-eq90
-returns-then-number-eq90 c = sym (member_rest _ _ _ (search rules) ∙ member_rest _ _ _ (search rules) ∙ member_rest _ _ _ (search rules) ∙ member_rest _ _ _ (search rules) ∙ member_rest _ _ _ (search rules) ∙ member_rest _ _ _ (search rules) ∙ member_rest _ _ _ (search rules) ∙ member_rest _ _ _ (search rules) ∙ member_first _ _ _ (search rules))
-
-pub returns-then-number-eq91 : goal.returns-then-number-eq91
-returns-then-number-eq91 c = sym (member_rest _ _ _ (search rules) ∙ member_rest _ _ _ (search rules) ∙ member_rest _ _ _ (search rules) ∙ member_rest _ _ _ (search rules) ∙ member_rest _ _ _ (search rules) ∙ member_rest _ _ _ (search rules) ∙ member_rest _ _ _ (search rules) ∙ member_rest _ _ _ (search rules) ∙ member_rest _ _ _ (search rules) ∙ member_first _ _ _ (search rules))
-
-pub returns-then-number-eq110 : goal.returns-then-number-eq110
-returns-then-number-eq110 c = sym (member_rest _ _ _ (search rules) ∙ member_rest _ _ _ (search rules) ∙ member_rest _ _ _ (search rules) ∙ member_rest _ _ _ (search rules) ∙ member_rest _ _ _ (search rules) ∙ member_rest _ _ _ (search rules) ∙ member_rest _ _ _ (search rules) ∙ member_rest _ _ _ (search rules) ∙ member_rest _ _ _ (search rules) ∙ member_rest _ _ _ (search rules) ∙ member_first _ _ _ (search rules))
+any_member : (n : ℕ) (xs : List ℕ) → list_any (λ x. eqb x n) xs ≡ member n xs
+unfolding member
+any_member n [] = refl
+any_member n (x ∷ xs) = ap₂ ◌||◌ (swapped x n) (any_member n xs)
 
 pub returns : goal.returns
-returns c = sym (member_rest _ _ _ (search rules) ∙ member_rest _ _ _ (search rules) ∙ member_rest _ _ _ (search rules) ∙ member_rest _ _ _ (search rules) ∙ member_rest _ _ _ (search rules) ∙ member_rest _ _ _ (search rules) ∙ member_rest _ _ _ (search rules) ∙ member_rest _ _ _ (search rules) ∙ member_rest _ _ _ (search rules) ∙ member_rest _ _ _ (search rules) ∙ member_rest _ _ _ (search rules) ∙ member_none _)
+returns c = c.contains.ensures.value ∙ any_member c.args.number _

@@ -47,10 +47,8 @@ shows_later {i = i} h s = record {
   flag_low = s.flag_low;
   comes_is = s.comes_is;
   choosing_is = s.choosing_is;
-  begun_is = s.begun_is;
-  place_is = s.place_is;
+  dest_is = s.dest_is;
   place_low = s.place_low;
-  hit_is = s.hit_is;
   low_is = s.low_is;
   frames = s.frames;
   flags = s.flags;
@@ -67,7 +65,7 @@ module _ {records decls table old new : List ℕ} {t : Task} {i : ℕ} {x : Nest
   pub activate_shown : (other ≡ not (eqb k t.aim)) → seen ≡ eqb (cell 2 table (2 * k)) 1 → back ≡ (other && seen) → place ≡ cell 2 table (2 * k + 1)
       → low ≡ cond x.comes (min x.low place) x.low → sets ≡ (x.comes && back) → Set old new x.flag sets
       → Activates records decls table old new t i x
-      (nest x.depth x.free x.label x.flag x.comes x.choosing x.begun x.place x.hit low)
+      (nest x.depth x.free x.label x.flag x.comes x.choosing x.destination low)
   activate_shown other_is seen_is back_is place_is low_is sets_is set g z j s =
       let w = word_at g.written.tokens i in
       let k_is : k ≡ index_of (whole g.written) w = index decls t.n (reading g.written) a.within name in
@@ -92,10 +90,8 @@ module _ {records decls table old new : List ℕ} {t : Task} {i : ℕ} {x : Nest
         flag_low = s.flag_low;
         comes_is = s.comes_is;
         choosing_is = s.choosing_is;
-        begun_is = s.begun_is;
-        place_is = s.place_is;
+        dest_is = s.dest_is;
         place_low = s.place_low;
-        hit_is = s.hit_is;
         low_is =
             low_is ∙ (lower_all x.low place z.marks.places (g.known w).places x.comes s.low_is (place_is ∙ known.low)
             ∙ ap (λ q. least unseen (z.marks.places ++ cond q (g.known w).places [])) s.comes_is);

@@ -1,5 +1,5 @@
 -- The walk along the tokens of a body.
-use Rattle.std.specs.Prelude.{ℕ, ◌+◌, ◌*◌, ◌<◌, ◌≤◌, ◌≡◌, refl, Bool, List, [], ◌∷◌, eqb, length}
+use Rattle.std.specs.Prelude.{ℕ, ◌+◌, ◌*◌, ◌<◌, ◌≤◌, ◌≡◌, refl, Bool, List, [], ◌∷◌, eqb, length, None}
 use Rattle.std.proofs.Math.Path.{sym, ap}
 use Rattle.std.proofs.Common.{◌∙◌, arith}
 use Rattle.std.proofs.Math.Bool.{true, false}
@@ -69,7 +69,7 @@ pub all_cleared : {first old : List ℕ} {k : ℕ} → Clearing first old k → 
 all_cleared c h = record { size = c.cleared.size; clear = λ j l. c.cleared.clear j (omega arith) }
 
 pub begun_shown : {records first old new : List ℕ} {name : ℕ} → room_size ≤ length first → Cleared first old most_flags → LabelPut records old new 0 name 1
-    → Begins records new name (nest 0 2 1 1 true false false 0 false 65535)
+    → Begins records new name (nest 0 2 1 1 true false None 65535)
 begun_shown {records} {first} {old} {new} {name} room c p ts i n below h = record {
   space = omega (arith, c.size, p.size);
   few = h;
@@ -83,10 +83,8 @@ begun_shown {records} {first} {old} {new} {name} room c p ts i n below h = recor
   flag_low = omega arith;
   comes_is = refl;
   choosing_is = refl;
-  begun_is = refl;
-  place_is = refl;
+  dest_is = refl;
   place_low = omega arith;
-  hit_is = refl;
   low_is = refl;
   frames = no_frames;
   flags = record { at = λ j l. p.low j (omega arith) ∙ c.clear j l };

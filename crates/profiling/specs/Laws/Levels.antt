@@ -74,9 +74,13 @@ pub seek_begins : {records : List ℕ} {n name : ℕ} → Kinded records n → n
 seek_begins k h = record { past = omega arith; low = omega arith; few = k.few; room = k.room; left = λ v. refl }
 
 module _ {records : List ℕ} {n name i : ℕ} (s : Seeking records n name i) where
-  pub seek_over : n ≤ i → BeginBehind records n name i
+  pub seek_over : n ≤ i → BeginBehind records n name n
   unfolding to_begin
-  seek_over h = record { low = s.low; past = s.past; reads = λ v. no_more v i h ∙ (ap to_begin (sym (no_more v i h)) ∙ s.left v) }
+  seek_over h = record {
+    low = omega arith;
+    past = omega (arith, s.past, s.low);
+    reads = λ v. no_more v n (omega arith) ∙ (ap to_begin (sym (no_more v i h)) ∙ s.left v);
+  }
 
   module _ (h : i < n) {k : ℕ} (kind : k ≡ kind_byte records i) where
     pub seek_found : k ≡ kind_no BEGIN → BeginBehind records n name i
@@ -454,9 +458,9 @@ module _ {records decls table₀ next₀ room₀ table next room : List ℕ} {t 
           subst (λ q. Level v test t.out q old) (sym e) (two.known v test aims (suc k) (one.known v test aims k (x.known v test aims)));
     }
 
-    pub turned_more : {old then : List ℕ} → k < 16 → Rounded records decls new old t → length old ≡ length table → length then ≡ length room
-        → Turning records decls table₀ next₀ room₀ old new then t (k + 2)
-    turned_more h two a b = record { turned = more_turned a b two; table_size_lem = a ∙ y.table_size_lem; next_size = size ∙ y.next_size; room_size = b ∙ y.room_size; low = omega arith }
+    pub turned_more : {old then : List ℕ} {j : ℕ} → k < 16 → j ≡ k + 2 → Rounded records decls new old t → length old ≡ length table → length then ≡ length room
+        → Turning records decls table₀ next₀ room₀ old new then t j
+    turned_more h e two a b = rw e (record { turned = more_turned a b two; table_size_lem = a ∙ y.table_size_lem; next_size = size ∙ y.next_size; room_size = b ∙ y.room_size; low = omega arith })
 
   pub all_turned : 16 ≤ k → Known16 records decls table t
   all_turned h v test aims =

@@ -1,6 +1,5 @@
 -- `bounding::filling::blank` meets its contract.
 use borrow.Author.Rules.{rules}
-use Prim.Native.Nat.{◌-◌}
 use Rattle.bounding.specs.Laws.Filling.{none_blank, one_blank, last_room, all_blank}
 use Rattle.bounding.proofs.filling.blank.Goals as goal
 

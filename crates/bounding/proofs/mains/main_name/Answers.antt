@@ -1,5 +1,4 @@
 -- `bounding::mains::main_name` meets its contract.
-use Prim.Native.Nat.{◌-◌}
 use Rattle.links.specs.Laws.Mains.{start_searching, main_exists, cell_room, view_at, main_later}
 use Rattle.bounding.specs.Laws.Mains.{main_here}
 use Rattle.bounding.proofs.mains.main_name.Goals as goal

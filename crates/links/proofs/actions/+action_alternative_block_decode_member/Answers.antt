@@ -80,32 +80,32 @@ block-overflow_add-at t c = record { fits = omega (arith, (within c.requires.1.v
 pub block-loop-next-init : goal.block-loop-next-init
 block-loop-next-init t c = record { left = λ g v e. left_all v }
 
-pub block-member-next-requires : goal.block-member-next-requires
-block-member-next-requires t c =
+pub block-member-requires : goal.block-member-requires
+block-member-requires t c =
     let (g, v) = c.requires in
     (omega arith, (g, (c.loop-next.invariant.left g (block_members v.view v.is_block) v.same_text).now, v.same_text))
 
-pub block-returns-then-next-eq0 : goal.block-returns-then-next-eq0
-block-returns-then-next-eq0 t c =
+pub block-returns : goal.block-returns
+block-returns t c =
     λ g v. let m = block_members v.view v.is_block in
     let p = c.loop-next.invariant.left g m v.same_text in
-    block_done v.view v.is_block (left_done m p ((c.member-next.ensures g p.now v.same_text).done c.if-next-eq0.true))
+    block_done v.view v.is_block (left_done m p ((c.member.ensures g p.now v.same_text).done c.in_default.is))
 
 pub block-loop-next-smaller : goal.block-loop-next-smaller
 block-loop-next-smaller t c =
     let (g, v) = c.requires in
     let p = c.loop-next.invariant.left g (block_members v.view v.is_block) v.same_text in
-    let a = c.member-next.ensures g p.now v.same_text in
-    omega (arith, a.further_on c.if-next-eq0.false, (a.left c.if-next-eq0.false).kept.long, members_within p.now)
+    let a = c.member.ensures g p.now v.same_text in
+    omega (arith, a.further_on _ c.in-Some.is, (a.left _ c.in-Some.is).kept.long, members_within p.now)
 
 pub block-loop-next-preserved : goal.block-loop-next-preserved
 block-loop-next-preserved t c =
     record {
-      left = λ g v e. let p = c.loop-next.invariant.left g v e in left_then v p ((c.member-next.ensures g p.now e).left c.if-next-eq0.false);
+      left = λ g v e. let p = c.loop-next.invariant.left g v e in left_then v p ((c.member.ensures g p.now e).left _ c.in-Some.is);
     }
 
-pub decode-overflow_add-at : goal.decode-overflow_add-at
-decode-overflow_add-at t c = record { fits = omega (arith, (within c.requires.1.view).2) }
+pub decode-overflow_add-s : goal.decode-overflow_add-s
+decode-overflow_add-s t c = record { fits = omega (arith, (within c.requires.1.view).2) }
 
 pub decode-seek-p-requires : goal.decode-seek-p-requires
 decode-seek-p-requires t c = let (g, v) = c.requires in (g, choice_arrow v.view v.is_choice)
@@ -116,34 +116,34 @@ decode-overflow_add-p t c =
     let s = choice_arrow v.view v.is_choice in
     record { fits = omega (arith, begin_fits v.view v.is_choice c.seek-p.result (c.seek-p.ensures.1 g s)) }
 
-pub decode-loop-depth-init : goal.decode-loop-depth-init
-decode-loop-depth-init t c = record { left = λ g v e. turns_all v }
+pub decode-loop-next-init : goal.decode-loop-next-init
+decode-loop-next-init t c = record { left = λ g v e. turns_all v }
 
-pub decode-alternative-next-requires : goal.decode-alternative-next-requires
-decode-alternative-next-requires t c =
+pub decode-alternative-requires : goal.decode-alternative-requires
+decode-alternative-requires t c =
     let (g, v) = c.requires in
     let t = choice_turns v.view v.is_choice c.seek-p.result (c.seek-p.ensures.1 g (choice_arrow v.view v.is_choice)) in
-    (omega arith, (g, (c.loop-depth.invariant.left g t v.same_text).now, v.same_text))
+    (omega arith, (g, (c.loop-next.invariant.left g t v.same_text).now, v.same_text))
 
-pub decode-returns-then-next-eq0 : goal.decode-returns-then-next-eq0
-decode-returns-then-next-eq0 t c =
+pub decode-returns : goal.decode-returns
+decode-returns t c =
     λ g v. let f = c.seek-p.ensures.1 g (choice_arrow v.view v.is_choice) in
     let t = choice_turns v.view v.is_choice c.seek-p.result f in
-    let p = c.loop-depth.invariant.left g t v.same_text in
-    choice_done v.view v.is_choice c.seek-p.result f (turns_done t p ((c.alternative-next.ensures g p.now v.same_text).done c.if-next-eq0.true))
+    let p = c.loop-next.invariant.left g t v.same_text in
+    choice_done v.view v.is_choice c.seek-p.result f (turns_done t p ((c.alternative.ensures g p.now v.same_text).done c.in_default.is))
 
-pub decode-loop-depth-smaller : goal.decode-loop-depth-smaller
-decode-loop-depth-smaller t c =
+pub decode-loop-next-smaller : goal.decode-loop-next-smaller
+decode-loop-next-smaller t c =
     let (g, v) = c.requires in
     let t = choice_turns v.view v.is_choice c.seek-p.result (c.seek-p.ensures.1 g (choice_arrow v.view v.is_choice)) in
-    let p = c.loop-depth.invariant.left g t v.same_text in
-    let a = c.alternative-next.ensures g p.now v.same_text in
-    omega (arith, a.further_on c.if-next-eq0.false, (a.left c.if-next-eq0.false).kept.long, turns_within p.now)
+    let p = c.loop-next.invariant.left g t v.same_text in
+    let a = c.alternative.ensures g p.now v.same_text in
+    omega (arith, a.further_on _ c.in-Some.is, (a.left _ c.in-Some.is).kept.long, turns_within p.now)
 
-pub decode-loop-depth-preserved : goal.decode-loop-depth-preserved
-decode-loop-depth-preserved t c =
+pub decode-loop-next-preserved : goal.decode-loop-next-preserved
+decode-loop-next-preserved t c =
     record {
-      left = λ g v e. let p = c.loop-depth.invariant.left g v e in turns_then v p ((c.alternative-next.ensures g p.now e).left c.if-next-eq0.false);
+      left = λ g v e. let p = c.loop-next.invariant.left g v e in turns_then v p ((c.alternative.ensures g p.now e).left _ c.in-Some.is);
     }
 
 pub member-seek-end-requires : goal.member-seek-end-requires
@@ -170,8 +170,8 @@ member-overflow_add-end t c =
     let (g, v, e) = c.requires in
     record { fits = omega (arith, (member_end_within v c.seek-end.result (c.seek-end.ensures.1 g (member_end v))).1) }
 
-pub member-first_of-onward-requires : goal.member-first_of-onward-requires
-member-first_of-onward-requires t c =
+pub member-first_of-first-requires : goal.member-first_of-first-requires
+member-first_of-first-requires t c =
     let (g, v, e) = c.requires in
     (g, next_starts v c.seek-end.result (c.seek-end.ensures.1 g (member_end v)) c.kind_at.ensures c.if-kind_at-eq-END.false)
 
@@ -182,7 +182,7 @@ pub member-action-requires-2 : goal.member-action-requires-2
 member-action-requires-2 t c =
     let (g, v, e) = c.requires in
     let f = c.seek-end.ensures.1 g (member_end v) in
-    let n = c.first_of-onward.ensures g (next_starts v c.seek-end.result f c.kind_at.ensures c.if-kind_at-eq-END.false) in
+    let n = c.first_of-first.ensures g (next_starts v c.seek-end.result f c.kind_at.ensures c.if-kind_at-eq-END.false) in
     (omega (arith, v.action_shallow), (g, this_member v c.seek-end.result f c.kind_at.ensures c.if-kind_at-eq-END.false n, e))
 
 pub member-overflow_add-result : goal.member-overflow_add-result
@@ -193,5 +193,5 @@ member-overflow_add-result t c =
 pub member-returns : goal.member-returns
 member-returns t c =
     λ g v e. let f = c.seek-end.ensures.1 g (member_end v) in
-    let n = c.first_of-onward.ensures g (next_starts v c.seek-end.result f c.kind_at.ensures c.if-kind_at-eq-END.false) in
+    let n = c.first_of-first.ensures g (next_starts v c.seek-end.result f c.kind_at.ensures c.if-kind_at-eq-END.false) in
     more_done v c.seek-end.result f c.kind_at.ensures c.if-kind_at-eq-END.false n (c.action-2.ensures g (this_member v c.seek-end.result f c.kind_at.ensures c.if-kind_at-eq-END.false n) e)

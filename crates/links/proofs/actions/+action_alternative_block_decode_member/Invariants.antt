@@ -23,13 +23,13 @@ abbrev pub decreases-member : goal.decreases-member
 decreases-member l = 3 * l.depth
 
 abbrev pub invariant-block-loop-next : goal.invariant-block-loop-next
-invariant-block-loop-next l = Passing l.text l.initial.records l.initial.labels l.initial.at l.link l.count l.initial.first l.depth l.records l.labels l.at l.first
+invariant-block-loop-next l = Passing l.text l.initial.records l.initial.labels l.initial.at l.s.link l.s.count l.initial.first l.depth l.records l.labels l.at l.first
 
 abbrev pub decreases-block-loop-next : goal.decreases-block-loop-next
 decreases-block-loop-next l = length l.records - l.at
 
-abbrev pub invariant-decode-loop-depth : goal.invariant-decode-loop-depth
-invariant-decode-loop-depth l = Choosing l.text l.initial.records l.initial.labels l.initial.p l.link l.count l.depth l.records l.labels l.p
+abbrev pub invariant-decode-loop-next : goal.invariant-decode-loop-next
+invariant-decode-loop-next l = Choosing l.text l.initial.records l.initial.labels l.initial.p l.s.link l.s.count l.depth l.records l.labels l.p
 
-abbrev pub decreases-decode-loop-depth : goal.decreases-decode-loop-depth
-decreases-decode-loop-depth l = length l.records - l.p
+abbrev pub decreases-decode-loop-next : goal.decreases-decode-loop-next
+decreases-decode-loop-next l = length l.records - l.p

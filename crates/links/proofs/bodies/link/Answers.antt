@@ -3,7 +3,6 @@
 use borrow.Author.Rules.{rules}
 use native.Mathlib.Omega.{arith}
 use mathlib.Core.Path.{refl}
-use Prim.Native.Nat.{◌-◌}
 use Rattle.links.specs.Laws.Bodies.{start_going, partly_at, one_linked, all_linked}
 use Rattle.links.proofs.bodies.link.Goals as goal
 

@@ -1,7 +1,6 @@
 -- `links::mains::main_start` meets its contract: the first declaration with MAIN before its name.
 -- Assumes nothing.
 use native.Mathlib.Omega.{arith}
-use Prim.Native.Nat.{◌-◌}
 use Rattle.links.specs.Laws.Mains.{start_searching, main_exists, cell_room, view_at, name_fits, main_here, main_later}
 use Rattle.links.proofs.mains.main_start.Goals as goal
 

@@ -1,11 +1,7 @@
 -- `links::mains::main_start` meets its contract: the first declaration with MAIN before its name.
 -- Assumes nothing.
-use Prim.Native.Nat.{◌-◌}
 use Rattle.links.specs.Laws.Mains.{Searching}
 use Rattle.links.proofs.mains.main_start.Given as goal
 
 abbrev pub invariant-loop-k : goal.invariant-loop-k
 invariant-loop-k l = Searching l.records l.decls l.m l.k
-
-abbrev pub decreases-loop-k : goal.decreases-loop-k
-decreases-loop-k l = l.m - l.k

@@ -4,6 +4,3 @@ use Rattle.nesting.proofs.labels.flag_of.Given as goal
 
 abbrev pub invariant-loop-j : goal.invariant-loop-j
 invariant-loop-j l = Seeking l.records l.room l.n l.count l.name l.j
-
-abbrev pub decreases-loop-j : goal.decreases-loop-j
-decreases-loop-j l = l.j

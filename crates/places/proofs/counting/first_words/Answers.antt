@@ -3,7 +3,6 @@
 use borrow.Author.Rules.{rules}
 use native.Mathlib.Omega.{arith}
 use mathlib.Core.Path.{refl}
-use Prim.Native.Nat.{◌-◌}
 use Rattle.places.specs.Laws.Scene.{cell_room, view_here}
 use Rattle.places.specs.Laws.Counting.{few_so_far, put_room, counted_more, all_counted, none_counted}
 use Rattle.places.proofs.counting.first_words.Goals as goal

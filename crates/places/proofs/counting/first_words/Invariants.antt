@@ -2,7 +2,7 @@
 -- Assumes nothing.
 use mathlib.Core.Path.{◌≡◌}
 use mathlib.Core.List.{List}
-use Prim.Native.Nat.{ℕ, ◌-◌}
+use Prim.Native.Nat.{ℕ}
 use lib.ListN.{length}
 use Rattle.places.specs.Laws.Counting.{Counted}
 use Rattle.places.proofs.counting.first_words.Given as goal
@@ -13,6 +13,3 @@ pub record Inv (records values decls firsts₀ firsts : List ℕ) (m k total : �
 
 abbrev pub invariant-loop-k : goal.invariant-loop-k
 invariant-loop-k l = Inv l.records l.values l.decls l.initial.firsts l.firsts l.m l.k l.total
-
-abbrev pub decreases-loop-k : goal.decreases-loop-k
-decreases-loop-k l = l.m - l.k

@@ -1,7 +1,6 @@
 -- `places::placing::place` meets its contract: token by token.
 -- Assumes nothing.
 use borrow.Author.Rules.{rules}
-use Prim.Native.Nat.{◌-◌}
 use Rattle.places.specs.Laws.Placing.{none_placed, still, placed_more, all_placed}
 use Rattle.places.proofs.placing.place.Goals as goal
 

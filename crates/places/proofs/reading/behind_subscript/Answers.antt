@@ -4,7 +4,7 @@ use borrow.Author.Rules.{rules}
 use native.Mathlib.Omega.{arith}
 use mathlib.Core.Path.{◌≡◌, refl, sym, ap, ◌∙◌}
 use mathlib.Core.List.{List}
-use Prim.Native.Nat.{ℕ, ◌+◌, ◌*◌, ◌-◌, ◌<◌, ◌≤◌}
+use Prim.Native.Nat.{ℕ, ◌+◌, ◌*◌, ◌<◌, ◌≤◌}
 use lib.ListN.{length, drop}
 use Rattle.records.specs.Holds.{kind_byte}
 use Rattle.places.specs.Valued.{Valued}
@@ -30,8 +30,8 @@ module _ {records : List ℕ} {n p d i : ℕ} (inv : Inv records n p d i) where
         ∙ (sym (ap (past d) (next_token v h) ∙ past_one d _ _ z) ∙ inv.left values v);
   }
 
-  ended : n ≤ i → (values : List ℕ) (v : Valued records values n) → drop i v.tokens ≡ past 1 (drop p v.tokens)
-  ended h values v = let x = no_more v h in x ∙ (sym (past_all d) ∙ (sym (ap (past d) x) ∙ inv.left values v))
+  ended : n ≤ i → (values : List ℕ) (v : Valued records values n) → drop n v.tokens ≡ past 1 (drop p v.tokens)
+  ended h values v = no_more v {i = n} (omega arith) ∙ (sym (past_all d) ∙ (sym (ap (past d) (no_more v h)) ∙ inv.left values v))
 
   small : (values : List ℕ) × Valued records values n → i < n → d < 65536
   small t h = omega (arith, inv.shallow, few t.1)

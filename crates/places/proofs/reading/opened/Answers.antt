@@ -1,14 +1,11 @@
 -- `places::reading::opened` meets its contract: one more behind `[`, one fewer behind `]`.
 -- Assumes nothing.
 use borrow.Author.Rules.{rules}
-use Rattle.places.specs.Laws.Brackets.{opened_more, opened_none, opened_fewer, opened_same}
+use Rattle.places.specs.Laws.Brackets.{opened_more, opened_fewer, opened_same}
 use Rattle.places.proofs.reading.opened.Goals as goal
 
 pub returns-then-kind-eq-LBRA : goal.returns-then-kind-eq-LBRA
 returns-then-kind-eq-LBRA c = (search (rules, opened_more), search rules)
-
-pub returns-then-d-eq0 : goal.returns-then-d-eq0
-returns-then-d-eq0 c = (search (rules, opened_none), search rules)
 
 pub returns-then-kind-eq-RBRA : goal.returns-then-kind-eq-RBRA
 returns-then-kind-eq-RBRA c = (search (rules, opened_fewer), search rules)

@@ -1,6 +1,5 @@
 -- `profiling::rounds::begin_behind` meets its contract.
 use borrow.Author.Rules.{rules}
-use Prim.Native.Nat.{◌-◌}
 use Rattle.profiling.specs.Laws.Levels.{seek_begins, seek_found, seek_on, seek_over}
 use Rattle.profiling.proofs.rounds.begin_behind.Goals as goal
 

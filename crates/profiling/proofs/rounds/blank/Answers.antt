@@ -1,6 +1,5 @@
 -- `profiling::rounds::blank` meets its contract.
 use borrow.Author.Rules.{rules}
-use Prim.Native.Nat.{◌-◌}
 use Rattle.profiling.specs.Laws.Levels.{none_blank, one_blank, all_blank}
 use Rattle.profiling.proofs.rounds.blank.Goals as goal
 

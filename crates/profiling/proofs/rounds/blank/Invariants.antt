@@ -1,10 +1,6 @@
 -- `profiling::rounds::blank` meets its contract.
-use Prim.Native.Nat.{◌-◌}
 use Rattle.profiling.specs.Laws.Levels.{Blanking}
 use Rattle.profiling.proofs.rounds.blank.Given as goal
 
 abbrev pub invariant-loop-k : goal.invariant-loop-k
 invariant-loop-k l = Blanking l.initial.table l.table l.k
-
-abbrev pub decreases-loop-k : goal.decreases-loop-k
-decreases-loop-k l = 257 - l.k

@@ -1,6 +1,5 @@
 -- `profiling::rounds::round` meets its contract.
 use borrow.Author.Rules.{rules}
-use Prim.Native.Nat.{◌-◌}
 use Rattle.profiling.specs.Laws.Levels.{parts_none, part_at, parts_more, last_room, round_done}
 use Rattle.profiling.proofs.rounds.round.Goals as goal
 

@@ -1,6 +1,5 @@
 -- `profiling::walks::clear_flags` meets its contract.
 use borrow.Author.Rules.{rules}
-use Prim.Native.Nat.{◌-◌}
 use Rattle.profiling.specs.Laws.Going.{none_cleared, one_cleared, all_cleared}
 use Rattle.profiling.proofs.walks.clear_flags.Goals as goal
 

@@ -1,6 +1,5 @@
 -- `profiling::walks::walk` meets its contract.
 use borrow.Author.Rules.{rules}
-use Prim.Native.Nat.{◌-◌}
 use Rattle.profiling.specs.Laws.Going.{to_begin, goes, going_acts, stands_after, ended, goes_on, going_stands, over}
 use Rattle.profiling.proofs.walks.walk.Goals as goal
 

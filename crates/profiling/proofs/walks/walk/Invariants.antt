@@ -1,10 +1,6 @@
 -- `profiling::walks::walk` meets its contract.
-use Prim.Native.Nat.{◌-◌}
 use Rattle.profiling.specs.Laws.Going.{Going}
 use Rattle.profiling.proofs.walks.walk.Given as goal
 
 abbrev pub invariant-loop-i : goal.invariant-loop-i
 invariant-loop-i l = Going l.records l.decls l.table l.initial.room l.room l.t l.name l.from l.s l.reading l.i
-
-abbrev pub decreases-loop-i : goal.decreases-loop-i
-decreases-loop-i l = l.n - l.i

@@ -1,6 +1,5 @@
 -- `walking::walks::walk` meets its contract.
 use borrow.Author.Rules.{rules}
-use Prim.Native.Nat.{◌-◌}
 use Rattle.walking.specs.Laws.Going.{goes, going_acts, ended, goes_on, over}
 use Rattle.walking.proofs.walks.walk.Goals as goal
 

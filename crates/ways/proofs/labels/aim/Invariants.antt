@@ -5,6 +5,3 @@ use Rattle.ways.proofs.labels.aim.Given as goal
 
 abbrev pub invariant-loop-j : goal.invariant-loop-j
 invariant-loop-j l = Looking l.text l.records l.labels l.n l.i l.j
-
-abbrev pub decreases-loop-j : goal.decreases-loop-j
-decreases-loop-j l = l.j
