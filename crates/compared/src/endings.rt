@@ -32,6 +32,10 @@ pub fn told_answer(text: &[u8], e: Ended, room: &[u8], entries: &[u8]) -> Answer
         Ended::Done(steps) => verdict_answer(0, steps, answer(room, entries)),
         Ended::Stopped(steps) => verdict_answer(1, steps, answer(room, entries)),
         Ended::Paused(steps) => unrefused(2, steps, 0, 0),
-        Ended::Fault(number, place, steps) => fault(text, number, place, steps),
+        Ended::Fault {
+            number,
+            place,
+            steps,
+        } => fault(text, number, place, steps),
     }
 }

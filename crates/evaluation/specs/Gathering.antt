@@ -1,5 +1,5 @@
 -- Gathering the fields of a joined destination, before any store.
-use Rattle.std.specs.Prelude.{ℕ, ◌≤◌, ◌≡◌, List, ◌∷◌, length, drop}
+use Rattle.std.specs.Prelude.{ℕ, ◌≤◌, ◌≡◌, List, ◌∷◌, length, drop, Result, Ok, Err}
 use Rattle.rules.specs.Text.Tokens.{Equals, Info, tk}
 use Rattle.rules.specs.Grammar.Trees.{Tokens, Joined, joined_tokens}
 use Rattle.rules.specs.Values.{total}
@@ -8,8 +8,8 @@ use Rattle.rules.specs.Steps.Actions.{Access, joined_accesses}
 use Rattle.rules.specs.Steps.Evaluation.{gives, faulty, Field, evaluate_access, evaluate_accesses}
 use Rattle.laws_grammar.specs.Cited.Nesting.{joined_nest}
 use Rattle.laws_accepted.specs.Cited.Destinations.{SizedDestination}
-use Rattle.evaluation.specs.declared.transfers.Gathered.{Gathered}
-use Rattle.evaluation.specs.declared.transfers.Gathered.TheVariants.{Fields, Fault}
+use Rattle.operands.specs.declared.accesses.Outside.{Outside}
+use Rattle.evaluation.specs.declared.transfers.Fields.{Fields}
 use Rattle.operands.specs.Scene.{Scene, words_of}
 use Rattle.evaluation.specs.Stores.{sizes, Kept, AllWithin}
 
@@ -41,6 +41,6 @@ pub record Gathers {records values carriers : List ℕ} {word low size p end : �
   pub kept : Kept scratch 0 fields
   pub within : AllWithin v.scene.table fields
 
-abbrev pub GatherAnswer : {records values carriers : List ℕ} {word low size p end : ℕ} → GatherAt records values carriers word low size p end → List ℕ → Gathered → Type 0
-GatherAnswer v scratch (Fields count bits) = Gathers v scratch count bits
-GatherAnswer v scratch (Fault q) = evaluate_accesses v.scene.table (words_of v.scene) (v.first ∷ joined_accesses v.more) ≡ faulty 70 q
+abbrev pub GatherAnswer : {records values carriers : List ℕ} {word low size p end : ℕ} → GatherAt records values carriers word low size p end → List ℕ → Result Fields Outside → Type 0
+GatherAnswer v scratch (Ok f) = Gathers v scratch f.count f.bits
+GatherAnswer v scratch (Err o) = evaluate_accesses v.scene.table (words_of v.scene) (v.first ∷ joined_accesses v.more) ≡ faulty 70 o.place

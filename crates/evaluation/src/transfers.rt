@@ -6,23 +6,17 @@ ghost use Rattle.evaluation.specs.Gathering.{GatherAt, GatherAnswer};
 ghost use Rattle.evaluation.specs.Transfers.{AssignAt, AssignAnswer, JoinedAnswer, TransferAt, TransferAnswer};
 
 use cells::{get64, put64};
-use operands::accesses::Located;
-use operands::expressions::{Evaluated, access, expression};
+use operands::accesses::{Field, Outside};
+use operands::expressions::{access, expression};
 use records::fields::inside_at;
 use rules::limits::DEEPEST;
 use values::fields::{part, with_field};
 
+// The fields of a joined destination: how many stand in the scratch, and their bits together.
 #[derive(Clone, Copy)]
-pub enum Transferred {
-    Stored,
-    Fault(u16),
-}
-
-// The fields of a joined destination: how many stand in the scratch, and their bits together; or the place of a Fault 70.
-#[derive(Clone, Copy)]
-pub enum Gathered {
-    Fields(usize, u32),
-    Fault(u16),
+pub struct Fields {
+    pub count: usize,
+    pub bits: u32,
 }
 
 // Some bits of a word take the lowest of v.
@@ -35,48 +29,38 @@ pub fn store(carriers: &mut [u8], word: usize, low: u32, size: u32, v: u64)
 }
 
 // A field as one number, its parts where an access cell has them.
-fn packed(word: usize, low: u32, size: u32) -> u64
-    requires { (word < 65536) × ((low < 256) × (size < 256)) }
-    ensures { (cell_first result ≡ word) × ((cell_low result ≡ low) × (cell_bits result ≡ size)) }
+fn packed(field: Field) -> u64
+    requires { (field.word < 65536) × ((field.low < 256) × (field.size < 256)) }
+    ensures { (cell_first result ≡ field.word) × ((cell_low result ≡ field.low) × (cell_bits result ≡ field.size)) }
 {
-    word as u64 + 65536 * low as u64 + 16777216 * size as u64
+    field.word as u64 + 65536 * field.low as u64 + 16777216 * field.size as u64
 }
 
-// All fields of a joined destination, before any store: the first is known, and the others stand from p on.
+// All fields of a joined destination, before any store: the first is known, and the others stand behind it.
 pub fn gather(
     records: &[u8],
     values: &[u8],
     carriers: &[u8],
     fields: &mut [u8],
-    word: usize,
-    low: u32,
-    size: u32,
-    p: usize,
+    first: Field,
     end: usize,
-) -> Gathered
-    requires { GatherAt records.now values.now carriers.now word low size p end × (512 ≤ length fields.old) }
-    ensures { (v : GatherAt records.now values.now carriers.now word low size p end)
+) -> Result<Fields, Outside>
+    requires { GatherAt records.now values.now carriers.now first.word first.low first.size first.next end × (512 ≤ length fields.old) }
+    ensures { (v : GatherAt records.now values.now carriers.now first.word first.low first.size first.next end)
         → GatherAnswer v fields.new result }
 {
-    put64(fields, 0, packed(word, low, size));
+    put64(fields, 0, packed(first));
     let mut count: usize = 1;
-    let mut bits = size;
-    let mut at = p;
+    let mut bits = first.size;
+    let mut at = first.next;
     while at != end {
-        let more = access(records, values, carriers, at + 1, DEEPEST);
-        match more {
-            Located::Fault(q) => {
-                return Gathered::Fault(q);
-            }
-            Located::Field(w, l, n, next) => {
-                put64(fields, count, packed(w, l, n));
-                count += 1;
-                bits += n;
-                at = next;
-            }
-        }
+        let more = access(records, values, carriers, at + 1, DEEPEST)?;
+        put64(fields, count, packed(more));
+        count += 1;
+        bits += more.size;
+        at = more.next;
     }
-    Gathered::Fields(count, bits)
+    Ok(Fields { count, bits })
 }
 
 // The stores: v is cut up left to right.
@@ -85,8 +69,7 @@ fn store_all(carriers: &mut [u8], fields: &[u8], count: usize, bits: u32, v: u64
     ensures { (s : StoresAt carriers.old fields.now count bits) → StoresAnswer s v carriers.new }
 {
     let mut rest = bits;
-    let mut k: usize = 0;
-    while k < count {
+    for k in 0..count {
         let f = get64(fields, k);
         let size = (f / 16777216 % 256) as u32;
         store(
@@ -97,7 +80,6 @@ fn store_all(carriers: &mut [u8], fields: &[u8], count: usize, bits: u32, v: u64
             part(rest, size, v),
         );
         rest -= size;
-        k += 1;
     }
 }
 
@@ -107,25 +89,17 @@ fn assign_joined(
     values: &[u8],
     carriers: &mut [u8],
     fields: &mut [u8],
-    word: usize,
-    low: u32,
-    size: u32,
-    p: usize,
+    first: Field,
     end: usize,
     v: u64,
-) -> Transferred
-    requires { GatherAt records.now values.now carriers.old word low size p end × (512 ≤ length fields.old) }
-    ensures { (g : GatherAt records.now values.now carriers.old word low size p end)
+) -> Result<(), Outside>
+    requires { GatherAt records.now values.now carriers.old first.word first.low first.size first.next end × (512 ≤ length fields.old) }
+    ensures { (g : GatherAt records.now values.now carriers.old first.word first.low first.size first.next end)
         → JoinedAnswer g v carriers.new result }
 {
-    let gathered = gather(records, values, carriers, fields, word, low, size, p, end);
-    match gathered {
-        Gathered::Fault(q) => Transferred::Fault(q),
-        Gathered::Fields(count, bits) => {
-            store_all(carriers, fields, count, bits, v);
-            Transferred::Stored
-        }
-    }
+    let gathered = gather(records, values, carriers, fields, first, end)?;
+    store_all(carriers, fields, gathered.count, gathered.bits, v);
+    Ok(())
 }
 
 // The destination from the name n up to the `=` at end takes v.
@@ -137,24 +111,17 @@ fn assign(
     n: usize,
     end: usize,
     v: u64,
-) -> Transferred
+) -> Result<(), Outside>
     requires { AssignAt records.now values.now carriers.old n end × (512 ≤ length fields.old) }
     ensures { (d : AssignAt records.now values.now carriers.old n end)
         → AssignAnswer d v carriers.new result }
 {
-    let first = access(records, values, carriers, n, DEEPEST);
-    match first {
-        Located::Fault(p) => Transferred::Fault(p),
-        Located::Field(word, low, size, next) => {
-            if next == end {
-                store(carriers, word, low, size, v);
-                return Transferred::Stored;
-            }
-            assign_joined(
-                records, values, carriers, fields, word, low, size, next, end, v,
-            )
-        }
+    let first = access(records, values, carriers, n, DEEPEST)?;
+    if first.next == end {
+        store(carriers, first.word, first.low, first.size, v);
+        return Ok(());
     }
+    assign_joined(records, values, carriers, fields, first, end, v)
 }
 
 // The transfer at the instruction n. The scratch may hold anything afterwards.
@@ -164,15 +131,12 @@ pub fn transfer(
     carriers: &mut [u8],
     fields: &mut [u8],
     n: usize,
-) -> Transferred
+) -> Result<(), Outside>
     requires { TransferAt records.now values.now carriers.old n × (512 ≤ length fields.old) }
     ensures { (t : TransferAt records.now values.now carriers.old n)
         → TransferAnswer t carriers.new result }
 {
     let equals = inside_at(records, n);
-    let right = expression(records, values, carriers, equals + 1, DEEPEST);
-    match right {
-        Evaluated::Fault(p) => Transferred::Fault(p),
-        Evaluated::Value(v, _, _) => assign(records, values, carriers, fields, n, equals, v),
-    }
+    let right = expression(records, values, carriers, equals + 1, DEEPEST)?;
+    assign(records, values, carriers, fields, n, equals, right.number)
 }

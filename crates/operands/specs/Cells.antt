@@ -1,13 +1,11 @@
 -- The parts of an access cell, and words by their names.
-use Rattle.std.specs.Prelude.{ℕ, ◌+◌, ◌/◌, ◌%◌, ◌≡◌}
-use Rattle.std.proofs.Math.Option.{Option, none, some}
+use Rattle.std.specs.Prelude.{ℕ, ◌+◌, ◌/◌, ◌%◌, ◌≡◌, Option, Some, None}
+use Rattle.std.proofs.Math.Option.{none, some}
+use Rattle.std.proofs.Math.Option as math
 use Rattle.rules.specs.Grammar.Trees.{Bits}
 use Rattle.rules.specs.Declarations.{Reach, access_low, access_bits}
 use Rattle.promise.specs.Accesses.{left_name, right_name}
-use Rattle.operands.specs.declared.accesses.Located.{Located}
-use Rattle.operands.specs.declared.accesses.Located.TheVariants.{Field as located}
-use Rattle.operands.specs.declared.accesses.Word.{Word}
-use Rattle.operands.specs.declared.accesses.Word.TheVariants.{Number, Outside}
+use Rattle.operands.specs.declared.accesses.Field.{Field as Located}
 
 abbrev pub cell_first : ℕ → ℕ
 cell_first c = c % 65536
@@ -26,7 +24,7 @@ cell_right c = c / 281474976710656
 
 -- the bits in the word that stands k words behind the first
 abbrev pub located_at : ℕ → ℕ → ℕ → Located
-located_at c k next = located (cell_first c + k) (cell_low c) (cell_bits c) next
+located_at c k next = record { word = cell_first c + k; low = cell_low c; size = cell_bits c; next = next }
 
 pub record Parts (c : ℕ) (r : Reach) (b : Bits) : Type 0 where
   pub first : cell_first c ≡ r.first
@@ -36,6 +34,6 @@ pub record Parts (c : ℕ) (r : Reach) (b : Bits) : Type 0 where
   pub right : cell_right c ≡ right_name r.words
 
 -- a word's number as the code has it
-abbrev pub shown_word : Option ℕ → Word
-shown_word none = Outside
-shown_word (some k) = Number k
+abbrev pub shown_word : math.Option ℕ → Option ℕ
+shown_word none = None
+shown_word (some k) = Some k

@@ -1,5 +1,5 @@
 -- An expression of two operands, and the chain of more.
-use Rattle.std.specs.Prelude.{ℕ, ◌<◌, ◌≤◌, max, ◌≡◌, true, List, ◌∷◌, drop}
+use Rattle.std.specs.Prelude.{ℕ, ◌<◌, ◌≤◌, max, ◌≡◌, true, List, ◌∷◌, drop, Result}
 use Rattle.rules.specs.Text.Tokens.{Info, Token, tk, Op, op_kind, kind_no}
 use Rattle.rules.specs.Grammar.Trees.{Tokens, Operand, operand_tokens, Tail, with_op, tail_tokens}
 use Rattle.rules.specs.Grammar.Precedence.{factor_of, expr_of}
@@ -7,7 +7,8 @@ use Rattle.rules.specs.Values.{value}
 use Rattle.rules.specs.Steps.Evaluation.{gives, evaluate, evaluate_factor}
 use Rattle.laws_grammar.specs.Cited.Nesting.{operand_nest, tail_nest}
 use Rattle.laws_accepted.specs.Cited.Lengths.{Sized}
-use Rattle.operands.specs.declared.expressions.Evaluated.{Evaluated}
+use Rattle.operands.specs.declared.accesses.Outside.{Outside}
+use Rattle.operands.specs.declared.expressions.Value.{Value as Worked}
 use Rattle.table.specs.Operators.{ends_expression}
 use Rattle.operands.specs.Scene.{Scene, words_of, Answers}
 use Rattle.operands.specs.Chains.{TailAt}
@@ -28,7 +29,7 @@ pub record PairAt (records values carriers : List ℕ) (a m at depth : ℕ) : Ty
   pub sized : Sized scene.outer scene.table (expr_of first (with_op op info right more))
   pub left : evaluate_factor scene.table (words_of scene) (factor_of first) ≡ gives (value m a)
 
-abbrev pub PairAnswer : {records values carriers : List ℕ} {a m at depth : ℕ} → PairAt records values carriers a m at depth → Evaluated → Type 0
+abbrev pub PairAnswer : {records values carriers : List ℕ} {a m at depth : ℕ} → PairAt records values carriers a m at depth → Result Worked Outside → Type 0
 PairAnswer {at = at} v r =
     Answers v.scene.tokens (v.next ∷ v.rest) at
     (evaluate v.scene.table (words_of v.scene) (expr_of v.first (with_op v.op v.info v.right v.more))) r
@@ -49,7 +50,7 @@ pub record ChainAt (records values carriers : List ℕ) (k a m b n p depth : ℕ
   pub left : evaluate_factor scene.table (words_of scene) (factor_of first) ≡ gives (value m a)
   pub known : evaluate_factor scene.table (words_of scene) (factor_of right) ≡ gives (value n b)
 
-abbrev pub ChainAnswer : {records values carriers : List ℕ} {k a m b n p depth : ℕ} → ChainAt records values carriers k a m b n p depth → Evaluated → Type 0
+abbrev pub ChainAnswer : {records values carriers : List ℕ} {k a m b n p depth : ℕ} → ChainAt records values carriers k a m b n p depth → Result Worked Outside → Type 0
 ChainAnswer v r =
     Answers v.scene.tokens (v.behind.next ∷ v.behind.rest) v.start
     (evaluate v.scene.table (words_of v.scene) (expr_of v.first (with_op v.op v.info v.right v.behind.tail))) r

@@ -5,6 +5,7 @@ pub mod Expressions
 pub mod Going
 pub mod Nots
 pub mod Operands
+pub mod Passed
 pub mod Scene
 pub mod Settling
 pub mod Subscripts

@@ -1,5 +1,5 @@
 -- The tables of an accepted text with its carriers, and the tree of an expression that stands in them at a token.
-use Rattle.std.specs.Prelude.{ℕ, ◌*◌, ◌^◌, ◌<◌, ◌≤◌, max, ◌≡◌, true, List, ◌∷◌, length, drop}
+use Rattle.std.specs.Prelude.{ℕ, ◌*◌, ◌^◌, ◌<◌, ◌≤◌, max, ◌≡◌, true, List, ◌∷◌, length, drop, Result, Ok, Err}
 use Rattle.cells.specs.Cells.{cells}
 use Rattle.rules.specs.Text.Tokens.{Name, Const, Info, Token, tk}
 use Rattle.rules.specs.Grammar.Trees.{Tokens, Bits, bits_tokens, Operand, operand_tokens, Tail, tail_tokens, Subscript, subscript_tokens}
@@ -14,10 +14,9 @@ use Rattle.laws_accepted.specs.Cited.Lengths.{Sized, SizedFactor}
 use Rattle.records.specs.Holds.{Holds, token_at}
 use Rattle.promise.specs.Accesses.{AccessesHold}
 use Rattle.table.specs.Operators.{ends_access, ends_expression}
-use Rattle.operands.specs.declared.accesses.Located.{Located}
-use Rattle.operands.specs.declared.accesses.Located.TheVariants.{Field as located, Fault as outside}
-use Rattle.operands.specs.declared.expressions.Evaluated.{Evaluated}
-use Rattle.operands.specs.declared.expressions.Evaluated.TheVariants.{Value as worked, Fault as faulted}
+use Rattle.operands.specs.declared.accesses.Field.{Field as Located}
+use Rattle.operands.specs.declared.accesses.Outside.{Outside}
+use Rattle.operands.specs.declared.expressions.Value.{Value as Worked}
 
 -- an accepted text, and as many words as its carriers have
 pub record Scene (records values carriers : List ℕ) : Type 0 where
@@ -79,24 +78,24 @@ pub record Gives {A : Type 0} (tokens rest : Tokens) (i : ℕ) (o : Outcome A) (
   pub behind : drop p tokens ≡ rest
 
 -- the answer for it
-abbrev pub Answers : Tokens → Tokens → ℕ → Outcome Value → Evaluated → Type 0
-Answers tokens rest i o (worked x n p) = Gives tokens rest i o (value n x) p
-Answers tokens rest i o (faulted p) = o ≡ faulty 70 p
+abbrev pub Answers : Tokens → Tokens → ℕ → Outcome Value → Result Worked Outside → Type 0
+Answers tokens rest i o (Ok v) = Gives tokens rest i o (value v.bits v.number) v.next
+Answers tokens rest i o (Err e) = o ≡ faulty 70 e.place
 
-abbrev pub Locates : Tokens → Tokens → ℕ → Outcome Field → Located → Type 0
-Locates tokens rest i o (located w l n p) = Gives tokens rest i o (record { word = w; low = l; size = n }) p
-Locates tokens rest i o (outside p) = o ≡ faulty 70 p
+abbrev pub Locates : Tokens → Tokens → ℕ → Outcome Field → Result Located Outside → Type 0
+Locates tokens rest i o (Ok f) = Gives tokens rest i o (record { word = f.word; low = f.low; size = f.size }) f.next
+Locates tokens rest i o (Err e) = o ≡ faulty 70 e.place
 
 module _ {records values carriers : List ℕ} {i depth : ℕ} where
-  abbrev pub ExpressionAnswer : ExpressionAt records values carriers i depth → Evaluated → Type 0
+  abbrev pub ExpressionAnswer : ExpressionAt records values carriers i depth → Result Worked Outside → Type 0
   ExpressionAnswer v r =
       Answers v.scene.tokens (v.next ∷ v.rest) i (evaluate v.scene.table (words_of v.scene) (expr_of v.first v.tail)) r
 
-  abbrev pub OperandAnswer : OperandAt records values carriers i depth → Evaluated → Type 0
+  abbrev pub OperandAnswer : OperandAt records values carriers i depth → Result Worked Outside → Type 0
   OperandAnswer v r =
       Answers v.scene.tokens (v.next ∷ v.rest) i (evaluate_factor v.scene.table (words_of v.scene) (factor_of v.operand)) r
 
-  abbrev pub AccessAnswer : AccessAt records values carriers i depth → Located → Type 0
+  abbrev pub AccessAnswer : AccessAt records values carriers i depth → Result Located Outside → Type 0
   AccessAnswer v r =
       Locates v.scene.tokens (v.next ∷ v.rest) i
       (evaluate_access v.scene.table (words_of v.scene) (actions.access v.name v.subscript v.bits)) r

@@ -1,12 +1,13 @@
 -- An access whose subscript is worked out: the word by its name, and the bits behind.
-use Rattle.std.specs.Prelude.{ℕ, ◌+◌, ◌*◌, ◌<◌, ◌≤◌, ◌≡◌, true, List, ◌∷◌, length, drop}
+use Rattle.std.specs.Prelude.{ℕ, ◌+◌, ◌*◌, ◌<◌, ◌≤◌, ◌≡◌, true, List, ◌∷◌, length, drop, Result}
 use Rattle.std.proofs.Math.Option.{some}
 use Rattle.rules.specs.Text.Tokens.{Name, Info, Token, tk}
 use Rattle.rules.specs.Grammar.Trees.{Tokens, Bits, bits_tokens}
 use Rattle.rules.specs.Declarations.{Names, Reach}
 use Rattle.rules.specs.Steps.Evaluation.{field_in}
 use Rattle.records.specs.Holds.{Holds, value_cell_of, token_at}
-use Rattle.operands.specs.declared.accesses.Located.{Located}
+use Rattle.operands.specs.declared.accesses.Field.{Field as Located}
+use Rattle.operands.specs.declared.accesses.Outside.{Outside}
 use Rattle.table.specs.Operators.{ends_access}
 use Rattle.operands.specs.Cells.{Parts}
 use Rattle.operands.specs.Scene.{Locates}
@@ -38,6 +39,6 @@ pub record SubscriptedAt (records values : List ℕ) (i n p : ℕ) : Type 0 wher
   pub left_small : words.left < 65536
   pub right_small : words.right < 65536
 
-abbrev pub SubscriptedAnswer : {records values : List ℕ} {i n p : ℕ} → SubscriptedAt records values i n p → Located → Type 0
+abbrev pub SubscriptedAnswer : {records values : List ℕ} {i n p : ℕ} → SubscriptedAt records values i n p → Result Located Outside → Type 0
 SubscriptedAnswer {i = i} {n = n} v r =
     Locates v.behind.tokens (v.behind.next ∷ v.behind.rest) i (field_in v.name v.behind.bits v.reached n) r

@@ -6,46 +6,35 @@ ghost use Rattle.operands.specs.Cells.{cell_first, cell_low, cell_bits, cell_lef
 ghost use Rattle.operands.specs.Answers.{Readable, read_at};
 ghost use Rattle.operands.specs.Subscripts.{SubscriptedAt, SubscriptedAnswer};
 
-use crate::expressions::Evaluated;
+use crate::expressions::Value;
 use cells::{get16, get64};
 use records::fields::place16_at;
 use table::views::bits_size;
 use values::fields::field;
 
-// The bits that an access stands for: a word, its lowest bit, their number, and the token behind the access; or the place of a Fault 70.
+// The bits that an access stands for: a word, its lowest bit, their number, and the token behind the access.
 #[derive(Clone, Copy)]
-pub enum Located {
-    Field(usize, u32, u32, usize),
-    Fault(u16),
+pub struct Field {
+    pub word: usize,
+    pub low: u32,
+    pub size: u32,
+    pub next: usize,
 }
 
-// How far a word stands from the left one.
+// A word is none of its names: the place of the Fault 70.
 #[derive(Clone, Copy)]
-enum Word {
-    Number(u64),
-    Outside,
+pub struct Outside {
+    pub place: u16,
 }
 
-// How far the name n stands from the left one of the words.
-fn from_left(left: u64, right: u64, n: u64) -> Word
+// How far the name n stands from the left one of the words, if it is one of them.
+fn from_left(left: u64, right: u64, n: u64) -> Option<u64>
     ensures { result ≡ shown_word (from_left (names left right) n) }
 {
-    if left <= right {
-        if n < left {
-            return Word::Outside;
-        }
-        if right < n {
-            return Word::Outside;
-        }
-        return Word::Number(n - left);
+    if n < left.min(right) || left.max(right) < n {
+        return None;
     }
-    if n < right {
-        return Word::Outside;
-    }
-    if left < n {
-        return Word::Outside;
-    }
-    Word::Number(left - n)
+    Some(n.abs_diff(left))
 }
 
 // The first word that the name i reaches.
@@ -88,35 +77,45 @@ fn right_word(values: &[u8], i: usize) -> u64
 }
 
 // The bits of the access with the name i in the word that stands k words behind the first.
-pub fn in_word(values: &[u8], i: usize, k: u64, next: usize) -> Located
+pub fn in_word(values: &[u8], i: usize, k: u64, next: usize) -> Field
     requires { (8 * i + 8 ≤ length values.now) × (k < 65536) }
     ensures { result ≡ located_at (value_cell_of values.now i) k next }
 {
-    let word = first_word(values, i) + k as usize;
-    Located::Field(word, lowest_bit(values, i), bit_count(values, i), next)
+    Field {
+        word: first_word(values, i) + k as usize,
+        low: lowest_bit(values, i),
+        size: bit_count(values, i),
+        next,
+    }
 }
 
 // The access of the name i whose subscript has the value n and whose bits stand from p on.
-pub fn subscripted(records: &[u8], values: &[u8], i: usize, n: u64, p: usize) -> Located
+pub fn subscripted(
+    records: &[u8],
+    values: &[u8],
+    i: usize,
+    n: u64,
+    p: usize,
+) -> Result<Field, Outside>
     requires { SubscriptedAt records.now values.now i n p }
     ensures { (v : SubscriptedAt records.now values.now i n p) → SubscriptedAnswer v result }
 {
-    let word = from_left(left_word(values, i), right_word(values, i), n);
-    match word {
-        Word::Outside => Located::Fault(place16_at(records, i)),
-        Word::Number(k) => in_word(values, i, k, p + bits_size(records, p)),
+    match from_left(left_word(values, i), right_word(values, i), n) {
+        None => Err(Outside {
+            place: place16_at(records, i),
+        }),
+        Some(k) => Ok(in_word(values, i, k, p + bits_size(records, p))),
     }
 }
 
 // What the carriers hold there.
-pub fn read(carriers: &[u8], at: Located) -> Evaluated
+pub fn read(carriers: &[u8], at: Field) -> Value
     requires { Readable carriers.now at }
     ensures { result ≡ read_at carriers.now at }
 {
-    match at {
-        Located::Fault(p) => Evaluated::Fault(p),
-        Located::Field(word, low, size, next) => {
-            Evaluated::Value(field(low, size, get64(carriers, word)), size, next)
-        }
+    Value {
+        number: field(at.low, at.size, get64(carriers, at.word)),
+        bits: at.size,
+        next: at.next,
     }
 }

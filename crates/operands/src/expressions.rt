@@ -8,7 +8,7 @@ ghost use Rattle.operands.specs.Scene.{ExpressionAt, ExpressionAnswer, OperandAt
 ghost use Rattle.operands.specs.Operands.{NestedAt};
 ghost use Rattle.operands.specs.Expressions.{PairAt, PairAnswer, ChainAt, ChainAnswer};
 
-use crate::accesses::{Located, in_word, read, subscripted};
+use crate::accesses::{Field, Outside, in_word, read, subscripted};
 use crate::operators::{Settled, settle, wait};
 use nots::behind_nots;
 use records::fields::{kind_at, size_at, value_at};
@@ -18,95 +18,119 @@ use table::views::bits_size;
 use values::operators::invert;
 use values::{operate, operate_bits};
 
-// A number, its length and the token behind what has it; or the place of a Fault 70.
+// A number, its length and the token behind what has it.
 #[derive(Clone, Copy)]
-pub enum Evaluated {
-    Value(u64, u32, usize),
-    Fault(u16),
+pub struct Value {
+    pub number: u64,
+    pub bits: u32,
+    pub next: usize,
 }
 
 // A value behind so many NOTs, of which two cancel.
-fn negated(value: Evaluated, nots: usize) -> Evaluated
+fn negated(value: Value, nots: usize) -> Value
     requires { Invertible value }
     ensures { result ≡ inverted nots value }
 {
-    match value {
-        Evaluated::Fault(p) => Evaluated::Fault(p),
-        Evaluated::Value(x, n, next) => {
-            if nots % 2 == 0 {
-                return Evaluated::Value(x, n, next);
-            }
-            Evaluated::Value(invert(n, x), n, next)
-        }
+    if nots % 2 == 0 {
+        return value;
+    }
+    Value {
+        number: invert(value.bits, value.number),
+        ..value
     }
 }
 
 // What stands in parentheses, behind the closing one.
-fn closed_by(value: Evaluated) -> Evaluated
+fn closed_by(value: Value) -> Value
     requires { Closable value }
     ensures { result ≡ closed value }
 {
-    match value {
-        Evaluated::Fault(p) => Evaluated::Fault(p),
-        Evaluated::Value(x, n, next) => Evaluated::Value(x, n, next + 1),
+    Value {
+        next: value.next + 1,
+        ..value
     }
 }
 
 // An access.
 #[cycle(access_chain_expression_indexed_nested_operand_pair)]
-pub fn access(records: &[u8], values: &[u8], carriers: &[u8], i: usize, depth: usize) -> Located
+pub fn access(
+    records: &[u8],
+    values: &[u8],
+    carriers: &[u8],
+    i: usize,
+    depth: usize,
+) -> Result<Field, Outside>
     requires { AccessAt records.now values.now carriers.now i depth }
     ensures { (v : AccessAt records.now values.now carriers.now i depth) → AccessAnswer v result }
 {
     if kind_at(records, i + 1) != LBRA {
-        return in_word(values, i, 0, i + 1 + bits_size(records, i + 1));
+        return Ok(in_word(values, i, 0, i + 1 + bits_size(records, i + 1)));
     }
     indexed(records, values, carriers, i, depth)
 }
 
 // An access with a subscript, which is worked out first.
 #[cycle(access_chain_expression_indexed_nested_operand_pair)]
-fn indexed(records: &[u8], values: &[u8], carriers: &[u8], i: usize, depth: usize) -> Located
+fn indexed(
+    records: &[u8],
+    values: &[u8],
+    carriers: &[u8],
+    i: usize,
+    depth: usize,
+) -> Result<Field, Outside>
     requires { AccessAt records.now values.now carriers.now i depth × (kind_byte records.now (i + 1) ≡ kind_no LBra) }
     ensures { (v : AccessAt records.now values.now carriers.now i depth) → AccessAnswer v result }
 {
-    let index = expression(records, values, carriers, i + 2, depth - 1);
-    match index {
-        Evaluated::Fault(p) => Located::Fault(p),
-        Evaluated::Value(n, _, close) => subscripted(records, values, i, n, close + 1),
-    }
+    let index = expression(records, values, carriers, i + 2, depth - 1)?;
+    subscripted(records, values, i, index.number, index.next + 1)
 }
 
 // An operand. The common ones are constants and accesses.
 #[cycle(access_chain_expression_indexed_nested_operand_pair)]
-fn operand(records: &[u8], values: &[u8], carriers: &[u8], i: usize, depth: usize) -> Evaluated
+fn operand(
+    records: &[u8],
+    values: &[u8],
+    carriers: &[u8],
+    i: usize,
+    depth: usize,
+) -> Result<Value, Outside>
     requires { OperandAt records.now values.now carriers.now i depth }
     ensures { (v : OperandAt records.now values.now carriers.now i depth) → OperandAnswer v result }
 {
     let kind = kind_at(records, i);
     if kind == NAME {
-        let at = access(records, values, carriers, i, depth);
-        return read(carriers, at);
+        let at = access(records, values, carriers, i, depth)?;
+        return Ok(read(carriers, at));
     }
     if kind == CONST {
-        return Evaluated::Value(value_at(values, i), size_at(records, i), i + 1);
+        return Ok(Value {
+            number: value_at(values, i),
+            bits: size_at(records, i),
+            next: i + 1,
+        });
     }
     nested(records, values, carriers, i, depth)
 }
 
 // An operand in parentheses, or behind NOTs: these are passed in a loop, and take effect behind it.
 #[cycle(access_chain_expression_indexed_nested_operand_pair)]
-fn nested(records: &[u8], values: &[u8], carriers: &[u8], i: usize, depth: usize) -> Evaluated
+fn nested(
+    records: &[u8],
+    values: &[u8],
+    carriers: &[u8],
+    i: usize,
+    depth: usize,
+) -> Result<Value, Outside>
     requires { NestedAt records.now values.now carriers.now i depth }
     ensures { (v : NestedAt records.now values.now carriers.now i depth) → OperandAnswer v.view result }
 {
     if kind_at(records, i) == LPAR {
-        let inside = expression(records, values, carriers, i + 1, depth - 1);
-        return closed_by(inside);
+        let inside = expression(records, values, carriers, i + 1, depth - 1)?;
+        return Ok(closed_by(inside));
     }
     let at = behind_nots(records, i);
-    let bare = operand(records, values, carriers, at, depth);
-    negated(bare, at - i)
+    let bare = operand(records, values, carriers, at, depth)?;
+    Ok(negated(bare, at - i))
 }
 
 // An expression. The common ones have one operand or two.
@@ -117,95 +141,84 @@ pub fn expression(
     carriers: &[u8],
     i: usize,
     depth: usize,
-) -> Evaluated
+) -> Result<Value, Outside>
     requires { ExpressionAt records.now values.now carriers.now i depth }
     ensures { (v : ExpressionAt records.now values.now carriers.now i depth) → ExpressionAnswer v result }
 {
-    let first = operand(records, values, carriers, i, depth);
-    match first {
-        Evaluated::Fault(p) => Evaluated::Fault(p),
-        Evaluated::Value(a, m, at) => {
-            if tightness_of(kind_at(records, at)) == 0 {
-                return Evaluated::Value(a, m, at);
-            }
-            pair(records, values, carriers, a, m, at, depth)
-        }
+    let first = operand(records, values, carriers, i, depth)?;
+    if tightness_of(kind_at(records, first.next)) == 0 {
+        return Ok(first);
     }
+    pair(records, values, carriers, first, depth)
 }
 
-// The operator at, with its left operand a of m bits: its right operand, and more of a chain.
+// The operator behind its left operand: its right operand, and more of a chain.
 #[cycle(access_chain_expression_indexed_nested_operand_pair)]
 fn pair(
     records: &[u8],
     values: &[u8],
     carriers: &[u8],
-    a: u64,
-    m: u32,
-    at: usize,
+    left: Value,
     depth: usize,
-) -> Evaluated
-    requires { PairAt records.now values.now carriers.now a m at depth }
-    ensures { (v : PairAt records.now values.now carriers.now a m at depth) → PairAnswer v result }
+) -> Result<Value, Outside>
+    requires { PairAt records.now values.now carriers.now left.number left.bits left.next depth }
+    ensures { (v : PairAt records.now values.now carriers.now left.number left.bits left.next depth) → PairAnswer v result }
 {
-    let op = kind_at(records, at);
-    let right = operand(records, values, carriers, at + 1, depth);
-    match right {
-        Evaluated::Fault(p) => Evaluated::Fault(p),
-        Evaluated::Value(b, n, next) => {
-            if tightness_of(kind_at(records, next)) == 0 {
-                return Evaluated::Value(operate(op, m, a, n, b), operate_bits(op, m, n), next);
-            }
-            let last = Settled {
-                count: 1,
-                number: b,
-                bits: n,
-            };
-            chain(records, values, carriers, op, a, m, last, next, depth)
-        }
+    let op = kind_at(records, left.next);
+    let right = operand(records, values, carriers, left.next + 1, depth)?;
+    if tightness_of(kind_at(records, right.next)) == 0 {
+        return Ok(Value {
+            number: operate(op, left.bits, left.number, right.bits, right.number),
+            bits: operate_bits(op, left.bits, right.bits),
+            next: right.next,
+        });
     }
+    chain(records, values, carriers, op, left, right, depth)
 }
 
-// A chain of more operators from p on: each waits until one that binds no tighter, or the end, settles it. At most five wait, since each binds tighter
-// than the one before. At first `op` waits, with its left operand a of m bits, and its right operand is `first`.
+// A chain of more operators behind the right operand of `op`: each waits until one that binds no tighter, or the end, settles it. At most five wait,
+// since each binds tighter than the one before. At first `op` waits, with its left operand.
 #[cycle(access_chain_expression_indexed_nested_operand_pair)]
 fn chain(
     records: &[u8],
     values: &[u8],
     carriers: &[u8],
     op: u8,
-    a: u64,
-    m: u32,
-    first: Settled,
-    p: usize,
+    left: Value,
+    right: Value,
     depth: usize,
-) -> Evaluated
-    requires { ChainAt records.now values.now carriers.now op a m first.number first.bits p depth × (first.count ≡ 1) }
-    ensures { (v : ChainAt records.now values.now carriers.now op a m first.number first.bits p depth) → ChainAnswer v result }
+) -> Result<Value, Outside>
+    requires { ChainAt records.now values.now carriers.now op left.number left.bits right.number right.bits right.next depth }
+    ensures { (v : ChainAt records.now values.now carriers.now op left.number left.bits right.number right.bits right.next depth)
+        → ChainAnswer v result }
 {
     let mut ops = [op, 0, 0, 0, 0];
-    let mut numbers = [a, 0, 0, 0, 0];
-    let mut lengths = [m, 0, 0, 0, 0];
-    let mut last = first;
-    let mut at = p;
+    let mut numbers = [left.number, 0, 0, 0, 0];
+    let mut lengths = [left.bits, 0, 0, 0, 0];
+    let mut last = Settled {
+        count: 1,
+        number: right.number,
+        bits: right.bits,
+    };
+    let mut at = right.next;
     loop {
         let kind = kind_at(records, at);
         let tight = tightness_of(kind);
-        let left = settle(&ops, &numbers, &lengths, last, tight);
+        let settled = settle(&ops, &numbers, &lengths, last, tight);
         if tight == 0 {
-            return Evaluated::Value(left.number, left.bits, at);
+            return Ok(Value {
+                number: settled.number,
+                bits: settled.bits,
+                next: at,
+            });
         }
-        wait(&mut ops, &mut numbers, &mut lengths, left, kind);
-        let right = operand(records, values, carriers, at + 1, depth);
-        match right {
-            Evaluated::Fault(q) => {
-                return Evaluated::Fault(q);
-            }
-            Evaluated::Value(x, k, next) => {
-                last.count = left.count + 1;
-                last.number = x;
-                last.bits = k;
-                at = next;
-            }
-        }
+        wait(&mut ops, &mut numbers, &mut lengths, settled, kind);
+        let more = operand(records, values, carriers, at + 1, depth)?;
+        last = Settled {
+            count: settled.count + 1,
+            number: more.number,
+            bits: more.bits,
+        };
+        at = more.next;
     }
 }

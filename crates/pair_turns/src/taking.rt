@@ -52,10 +52,8 @@ pub fn take(
     let mut left = budget;
     let mut stopped = false;
     let mut side: u8 = 0;
-    let mut i: usize = 0;
-    while i < turns.len() {
-        side = turns[i];
-        i += 1;
+    for &next in turns {
+        side = next;
         match turn(
             records0, values0, decls0, begin0, w0, records1, values1, decls1, begin1, w1, view,
             carriers, own, scratch, side, left,
@@ -66,9 +64,17 @@ pub fn take(
                     side,
                 };
             }
-            Ended::Fault(number, place, n) => {
+            Ended::Fault {
+                number,
+                place,
+                steps: n,
+            } => {
                 return Last {
-                    ended: Ended::Fault(number, place, budget - left + n),
+                    ended: Ended::Fault {
+                        number,
+                        place,
+                        steps: budget - left + n,
+                    },
                     side,
                 };
             }

@@ -15,10 +15,8 @@ fn count_up(view: &mut [u8], at: usize, n: usize, first: usize)
     requires { (2 * (at + n) ≤ length view.old) × (first + n ≤ 65536) }
     ensures { CountedUp view.old view.new at n first }
 {
-    let mut j: usize = 0;
-    while j < n {
+    for j in 0..n {
         put16(view, at + j, (first + j) as u16);
-        j += 1;
     }
 }
 
@@ -37,13 +35,11 @@ pub fn fill_view(
         → Filled (declarations d) firsts.now m view.new result }
 {
     let mut at: usize = 0;
-    let mut k: usize = 0;
-    while k < m {
+    for k in 0..m {
         let p = get16(decls, k) as usize;
         let n = words_in(records, values, p);
         count_up(view, at, n, get16(firsts, k) as usize);
         at += n;
-        k += 1;
     }
     at
 }

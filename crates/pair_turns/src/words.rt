@@ -11,10 +11,8 @@ pub fn take_out(view: &[u8], n: usize, carriers: &[u8], own: &mut [u8])
     requires { Sees view.now n (length carriers.now) × (8 * n ≤ length own.old) }
     ensures { cells 8 n own.new ≡ seen (cells 2 n view.now) (table_words carriers.now) }
 {
-    let mut i: usize = 0;
-    while i < n {
+    for i in 0..n {
         put64(own, i, get64(carriers, get16(view, i) as usize));
-        i += 1;
     }
 }
 
@@ -24,9 +22,7 @@ pub fn put_back(view: &[u8], n: usize, own: &[u8], carriers: &mut [u8])
     ensures { table_words carriers.new ≡ put_back (cells 2 n view.now) (cells 8 n own.now)
         (table_words carriers.old) }
 {
-    let mut i: usize = 0;
-    while i < n {
+    for i in 0..n {
         put64(carriers, get16(view, i) as usize, get64(own, i));
-        i += 1;
     }
 }

@@ -34,6 +34,10 @@ pub fn ended_answer(text: &[u8], e: Ended) -> Answer
         Ended::Done(steps) => unrefused(0, steps, 0, 0),
         Ended::Stopped(steps) => unrefused(1, steps, 0, 0),
         Ended::Paused(steps) => unrefused(2, steps, 0, 0),
-        Ended::Fault(number, place, steps) => fault(text, number, place, steps),
+        Ended::Fault {
+            number,
+            place,
+            steps,
+        } => fault(text, number, place, steps),
     }
 }

@@ -6,13 +6,13 @@ use crate::turns::{Turned, onward};
 use rules::limits::LONGEST_CHAIN;
 use stepping::steps::step;
 
-// How a run ends, with the number of steps; a fault with its number and its place before that.
+// How a run ends, with the number of steps; a fault with its number and its place too.
 #[derive(Clone, Copy)]
 pub enum Ended {
     Done(u32),
     Stopped(u32),
     Paused(u32),
-    Fault(u32, u16, u32),
+    Fault { number: u32, place: u16, steps: u32 },
 }
 
 // Runs the body that begins at `start`. The scratch may hold anything afterwards.
@@ -34,12 +34,17 @@ pub fn run(
     let mut at = start;
     let mut steps: u32 = 0;
     while steps < budget {
-        let moved = step(records, values, decls, carriers, scratch, at);
-        let turned = onward(&mut stack, depth, moved);
-        match turned {
-            Turned::Fault(number, place) => {
-                return Ended::Fault(number, place, steps);
+        let moved = match step(records, values, decls, carriers, scratch, at) {
+            Ok(moved) => moved,
+            Err(fault) => {
+                return Ended::Fault {
+                    number: fault.number,
+                    place: fault.place,
+                    steps,
+                };
             }
+        };
+        match onward(&mut stack, depth, moved) {
             Turned::Stop => {
                 return Ended::Stopped(steps + 1);
             }

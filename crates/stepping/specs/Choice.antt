@@ -1,5 +1,6 @@
 -- The choice of an alternative of a DECODE, in the table.
-use Rattle.std.specs.Prelude.{ℕ, ◌<◌, List, length}
+use Rattle.std.specs.Prelude.{ℕ, ◌<◌, List, length, Some, None}
+use Rattle.std.specs.Prelude.{Option as Place}
 use Rattle.std.proofs.Math.Option.{Option, none, some}
 use Rattle.rules.specs.Grammar.Trees.{Tokens}
 use Rattle.rules.specs.Selectors.{Case}
@@ -7,10 +8,10 @@ use Rattle.laws_orders.specs.Cited.Flat.{Entries}
 use Rattle.promise.specs.Instructions.{CaseStands, Numbered, Counted, EntriesStand}
 use Rattle.patterns.specs.Stands.{Held}
 
--- no instruction stands at token 0
-abbrev pub place_no : Option ℕ → ℕ
-place_no none = 0
-place_no (some g) = g
+-- the instruction, as the code has it
+abbrev pub place_of : Option ℕ → Place ℕ
+place_of none = None
+place_of (some g) = Some g
 
 -- an alternative whose selector, if it has one, begins at q, and which is the number-th
 pub record CaseView (records values : List ℕ) (q number : ℕ) : Type 0 where

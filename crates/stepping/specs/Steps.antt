@@ -1,5 +1,5 @@
 -- One instruction in the table: what its step comes to, whatever the stack of return addresses is.
-use Rattle.std.specs.Prelude.{ℕ, zero, suc, ◌*◌, ◌<◌, ◌≤◌, ◌≡◌, List, ◌∷◌, length}
+use Rattle.std.specs.Prelude.{ℕ, zero, suc, ◌*◌, ◌<◌, ◌≤◌, ◌≡◌, List, ◌∷◌, length, Result, Ok, Err}
 use Rattle.rules.specs.Text.Tokens.{Const}
 use Rattle.rules.specs.Declarations.{total_words}
 use Rattle.rules.specs.Limits.{most_declarations}
@@ -10,7 +10,8 @@ use Rattle.promise.specs.Instructions.{InstructionHolds}
 use Rattle.promise.specs.Reached.{Leads}
 use Rattle.operands.specs.Scene.{Scene, carrier_words, words_of}
 use Rattle.stepping.specs.declared.steps.Moved.{Moved}
-use Rattle.stepping.specs.declared.steps.Moved.TheVariants.{Go, Call, Stop, Fault}
+use Rattle.stepping.specs.declared.steps.Moved.TheVariants.{Go, Call, Stop}
+use Rattle.stepping.specs.declared.steps.Fault.{Fault}
 
 -- where control goes by the number of a link; 0 leads out of the body
 abbrev pub onward : ℕ → List ℕ → flat.At
@@ -21,11 +22,15 @@ abbrev pub returning : ℕ → List ℕ → List ℕ
 returning zero σ = σ
 returning (suc n) σ = suc n ∷ σ
 
-abbrev pub control : Moved → List ℕ → flat.At
-control (Go k) σ = onward k σ
-control (Call f k) σ = pc f (returning k σ)
-control Stop σ = halt
-control (Fault m p) σ = broken m p
+abbrev pub control : Result Moved Fault → List ℕ → flat.At
+control (Ok (Go k)) σ = onward k σ
+control (Ok (Call f k)) σ = pc f (returning k σ)
+control (Ok Stop) σ = halt
+control (Err f) σ = broken f.number f.place
+
+-- a fault by its number and its place
+abbrev pub fault : ℕ → ℕ → Fault
+fault m p = record { number = m; place = p }
 
 -- an instruction of an accepted text, which leads to no instruction 0
 pub record StepAt (records values decls carriers : List ℕ) (n : ℕ) : Type 0 where
@@ -38,11 +43,9 @@ pub record StepAt (records values decls carriers : List ℕ) (n : ℕ) : Type 0 
   pub leads : (g : ℕ) → Leads code (code.instr n) g → 0 < g
 
 -- "A faulting step .. changes nothing."
-abbrev pub Keeps : Moved → List ℕ → List ℕ → Type 0
-Keeps (Go k) before after = Unit {0}
-Keeps (Call f k) before after = Unit {0}
-Keeps Stop before after = Unit {0}
-Keeps (Fault m p) before after = after ≡ before
+abbrev pub Keeps : Result Moved Fault → List ℕ → List ℕ → Type 0
+Keeps (Ok m) before after = Unit {0}
+Keeps (Err f) before after = after ≡ before
 
 abbrev pub Activates : Instr → Type 0
 Activates (if_i e g k) = ⊥
@@ -53,13 +56,13 @@ Activates stop_i = ⊥
 Activates (move_i d e k) = ⊥
 
 -- just an activation leads into a body
-abbrev pub Into : Moved → Instr → Type 0
-Into (Go k) i = Activates i → ⊥
-Into (Call f k) i = Activates i
-Into Stop i = Activates i → ⊥
-Into (Fault m p) i = Activates i → ⊥
+abbrev pub Into : Result Moved Fault → Instr → Type 0
+Into (Ok (Go k)) i = Activates i → ⊥
+Into (Ok (Call f k)) i = Activates i
+Into (Ok Stop) i = Activates i → ⊥
+Into (Err f) i = Activates i → ⊥
 
-pub record StepAnswer {records values decls carriers : List ℕ} {n : ℕ} (v : StepAt records values decls carriers n) (after : List ℕ) (r : Moved) : Type 0 where
+pub record StepAnswer {records values decls carriers : List ℕ} {n : ℕ} (v : StepAt records values decls carriers n) (after : List ℕ) (r : Result Moved Fault) : Type 0 where
   pub comes : (σ : List ℕ)
       → step_m v.scene.table v.code n σ (words_of v.scene)
       ≡ put (words_of v.scene) (carrier_words (total_words v.scene.table) after) (control r σ)

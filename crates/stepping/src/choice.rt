@@ -3,7 +3,7 @@ ghost use Rattle.std.specs.Prelude.{◌≡◌};
 ghost use Rattle.rules.specs.Selectors.{any_matches, takes};
 ghost use Rattle.laws_orders.specs.Cited.Flat.{find};
 ghost use Rattle.patterns.specs.Stands.{ItemsView};
-ghost use Rattle.stepping.specs.Choice.{CaseView, ChoiceView, place_no};
+ghost use Rattle.stepping.specs.Choice.{CaseView, ChoiceView, place_of};
 
 use patterns::items::matches;
 use patterns::read::item_at;
@@ -51,19 +51,19 @@ fn takes_value(records: &[u8], values: &[u8], q: usize, number: u64, x: u64) -> 
     any_matches(records, values, q, x)
 }
 
-// Where the first of the alternatives from the separator p on that takes x leads, or 0.
-pub fn choose(records: &[u8], values: &[u8], p: usize, x: u64) -> usize
+// Where the first of the alternatives from the separator p on that takes x leads.
+pub fn choose(records: &[u8], values: &[u8], p: usize, x: u64) -> Option<usize>
     requires { ChoiceView records.now values.now p 0 }
-    ensures { (v : ChoiceView records.now values.now p 0) → result ≡ place_no (find v.entries x) }
+    ensures { (v : ChoiceView records.now values.now p 0) → result ≡ place_of (find v.entries x) }
 {
     let mut at = p;
     let mut number: u64 = 0;
     while kind_at(records, at) != END {
         if takes_value(records, values, at + 1, number, x) {
-            return inside_at(records, at);
+            return Some(inside_at(records, at));
         }
         number += 1;
         at = link_at(records, at);
     }
-    0
+    None
 }

@@ -26,12 +26,8 @@ fn store_part(carriers: &mut [u8], f: u64, rest: u32, v: u64, place: u32) -> Ent
     let piece = part(rest, size, v);
     store(carriers, word, low, size, piece);
     let value = get64(carriers, word);
-    let number = word as u32;
-    Entry {
-        place: place,
-        word: number,
-        value: value,
-    }
+    let word = word as u32;
+    Entry { place, word, value }
 }
 
 // The part k of a transfer is told: the first takes an entry of its word, and each further one the entry right behind.
@@ -64,12 +60,10 @@ pub fn store_all(
         → StoresTold s v place carriers.new (entries_in entries.now) room.old room.new }
 {
     let mut rest = bits;
-    let mut k: usize = 0;
-    while k < count {
+    for k in 0..count {
         let f = get64(fields, k);
         let x = store_part(carriers, f, rest, v, place);
         tell_part(room, entries, k, x);
         rest -= (f / 16777216 % 256) as u32;
-        k += 1;
     }
 }

@@ -8,13 +8,13 @@ ghost use Rattle.matching.specs.Room.{Sound};
 ghost use Rattle.storing.specs.Transfers.{FieldsTold, AssignTold, TransferTold};
 
 use crate::parts::store_all;
-use evaluation::transfers::{Gathered, Transferred, gather};
-use operands::accesses::Located;
-use operands::expressions::{Evaluated, access, expression};
+use evaluation::transfers::gather;
+use operands::accesses::{Field, Outside};
+use operands::expressions::{access, expression};
 use records::fields::{inside_at, place16_at};
 use rules::limits::DEEPEST;
 
-// A destination whose first field is known, and whose other accesses stand from p on, takes v.
+// A destination whose first field is known, and whose other accesses stand behind it, takes v.
 fn assign_fields(
     records: &[u8],
     values: &[u8],
@@ -22,27 +22,28 @@ fn assign_fields(
     fields: &mut [u8],
     room: &mut [u8],
     entries: &[u8],
-    word: usize,
-    low: u32,
-    size: u32,
-    p: usize,
+    first: Field,
     end: usize,
     v: u64,
     place: u32,
-) -> Transferred
-    requires { GatherAt records.now values.now carriers.old word low size p end × ((512 ≤ length fields.old)
+) -> Result<(), Outside>
+    requires { GatherAt records.now values.now carriers.old first.word first.low first.size first.next end × ((512 ≤ length fields.old)
         × ((length carriers.old ≤ 8 * most_words) × Sound (entries_in entries.now) room.old)) }
-    ensures { (g : GatherAt records.now values.now carriers.old word low size p end)
+    ensures { (g : GatherAt records.now values.now carriers.old first.word first.low first.size first.next end)
         → FieldsTold g v place carriers.new (entries_in entries.now) room.old room.new result }
 {
-    let gathered = gather(records, values, carriers, fields, word, low, size, p, end);
-    match gathered {
-        Gathered::Fault(q) => Transferred::Fault(q),
-        Gathered::Fields(count, bits) => {
-            store_all(carriers, fields, room, entries, count, bits, v, place);
-            Transferred::Stored
-        }
-    }
+    let gathered = gather(records, values, carriers, fields, first, end)?;
+    store_all(
+        carriers,
+        fields,
+        room,
+        entries,
+        gathered.count,
+        gathered.bits,
+        v,
+        place,
+    );
+    Ok(())
 }
 
 // The destination from the name n up to the `=` at end takes v.
@@ -56,20 +57,17 @@ fn assign(
     n: usize,
     end: usize,
     v: u64,
-) -> Transferred
+) -> Result<(), Outside>
     requires { AssignAt records.now values.now carriers.old n end × ((512 ≤ length fields.old)
         × ((length carriers.old ≤ 8 * most_words) × Sound (entries_in entries.now) room.old)) }
     ensures { (d : AssignAt records.now values.now carriers.old n end)
         → AssignTold d v carriers.new (entries_in entries.now) room.old room.new result }
 {
     let place = place16_at(records, n) as u32;
-    let first = access(records, values, carriers, n, DEEPEST);
-    match first {
-        Located::Fault(p) => Transferred::Fault(p),
-        Located::Field(word, low, size, next) => assign_fields(
-            records, values, carriers, fields, room, entries, word, low, size, next, end, v, place,
-        ),
-    }
+    let first = access(records, values, carriers, n, DEEPEST)?;
+    assign_fields(
+        records, values, carriers, fields, room, entries, first, end, v, place,
+    )
 }
 
 // The transfer at the instruction n. The scratch may hold anything afterwards.
@@ -81,18 +79,23 @@ pub fn transfer(
     room: &mut [u8],
     entries: &[u8],
     n: usize,
-) -> Transferred
+) -> Result<(), Outside>
     requires { TransferAt records.now values.now carriers.old n × ((512 ≤ length fields.old)
         × ((length carriers.old ≤ 8 * most_words) × Sound (entries_in entries.now) room.old)) }
     ensures { (t : TransferAt records.now values.now carriers.old n)
         → TransferTold t carriers.new (entries_in entries.now) room.old room.new result }
 {
     let equals = inside_at(records, n);
-    let right = expression(records, values, carriers, equals + 1, DEEPEST);
-    match right {
-        Evaluated::Fault(p) => Transferred::Fault(p),
-        Evaluated::Value(v, _, _) => assign(
-            records, values, carriers, fields, room, entries, n, equals, v,
-        ),
-    }
+    let right = expression(records, values, carriers, equals + 1, DEEPEST)?;
+    assign(
+        records,
+        values,
+        carriers,
+        fields,
+        room,
+        entries,
+        n,
+        equals,
+        right.number,
+    )
 }

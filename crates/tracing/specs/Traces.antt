@@ -1,5 +1,5 @@
 -- The whole run, over the table of an accepted text and the memory in which its tokens have their cells: what it comes to, and what the matching is told.
-use Rattle.std.specs.Prelude.{ℕ, ◌+◌, ◌*◌, ◌≤◌, ◌≡◌, List, length, take, drop}
+use Rattle.std.specs.Prelude.{ℕ, ◌+◌, ◌*◌, ◌≤◌, ◌≡◌, List, length, take, drop, Result, Ok, Err}
 use Rattle.std.proofs.Math.Option.{some}
 use Rattle.rules.specs.Text.Scan.{scan}
 use Rattle.rules.specs.Grammar.Trees.{Action, Description, flatten}
@@ -22,15 +22,16 @@ use Rattle.members.specs.Cells.{cells_in}
 use Rattle.matching.specs.Matching.{untold, told_all}
 use Rattle.matching.specs.Room.{Stands}
 use Rattle.runner.specs.declared.turns.Turned.{Turned}
-use Rattle.runner.specs.declared.turns.Turned.TheVariants.{At, Over, Stop, Fault}
+use Rattle.runner.specs.declared.turns.Turned.TheVariants.{At, Over, Stop}
+use Rattle.stepping.specs.declared.steps.Fault.{Fault}
 use Rattle.tracing.specs.Turns.{cells_at, grouping_at}
 
 -- how a run stands behind k steps and one that leads there
-abbrev pub ended_by : Turned → ℕ → Ended
-ended_by (At n d) k = Paused (k + 1)
-ended_by Over k = Done (k + 1)
-ended_by Stop k = Stopped (k + 1)
-ended_by (Fault m p) k = Failed m p k
+abbrev pub ended_by : Result Turned Fault → ℕ → Ended
+ended_by (Ok (At n d)) k = Paused (k + 1)
+ended_by (Ok Over) k = Done (k + 1)
+ended_by (Ok Stop) k = Stopped (k + 1)
+ended_by (Err f) k = Failed f.number f.place k
 
 -- an accepted text of n tokens whose MAIN begins at `start`; its carriers have `size` bytes, and nothing is told yet of the list in `entries`
 pub record TraceAt (records values decls memory room entries : List ℕ) (start n size : ℕ) : Type 0 where

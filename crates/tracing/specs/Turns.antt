@@ -1,5 +1,5 @@
 -- One turn of the run: a step, whose stores and whose way are told. The carriers are the first bytes of the memory, and the cells of tokens stand in it from `cells_at` on.
-use Rattle.std.specs.Prelude.{ℕ, ◌+◌, ◌*◌, ◌<◌, ◌≤◌, ◌≡◌, List, length, get_or, take, drop}
+use Rattle.std.specs.Prelude.{ℕ, ◌+◌, ◌*◌, ◌<◌, ◌≤◌, ◌≡◌, List, length, get_or, take, drop, Result, Ok, Err}
 use Rattle.rules.specs.Declarations.{total_words}
 use Rattle.rules.specs.Entries.{entries_in}
 use Rattle.laws_orders.specs.Cited.Flat.{pc, put}
@@ -14,7 +14,7 @@ use Rattle.room.specs.Trace.{most_groups}
 use Rattle.passing.specs.Ways.{grouping_in}
 use Rattle.passing.specs.Depth.{depth_after}
 use Rattle.runner.specs.declared.turns.Turned.{Turned}
-use Rattle.runner.specs.declared.turns.Turned.TheVariants.{At, Over, Stop, Fault}
+use Rattle.stepping.specs.declared.steps.Fault.{Fault}
 use Rattle.turning.specs.Ways.{Linked}
 use Rattle.runner.specs.Turns.{turned_to}
 
@@ -38,18 +38,16 @@ pub record TurnAt (records values decls memory room entries stack : List ℕ) (d
       ≤ most_groups
 
 -- "A faulting step .. changes nothing."
-abbrev pub Keeps : Turned → List ℕ → List ℕ → Type 0
-Keeps (At n d) before after = Unit {0}
-Keeps Over before after = Unit {0}
-Keeps Stop before after = Unit {0}
-Keeps (Fault m p) before after = after ≡ before
+abbrev pub Keeps : Result Turned Fault → List ℕ → List ℕ → Type 0
+Keeps (Ok t) before after = Unit {0}
+Keeps (Err f) before after = after ≡ before
 
 module _ {records values decls memory room entries stack : List ℕ} {depth n size now : ℕ} (v : TurnAt records values decls memory room entries stack depth n size now) where
   -- the step of the tracing machine
   abbrev pub stepped : Stepped
   stepped = step_t v.step.scene.table v.step.code (grouping_at memory n) now (stack_of stack depth) (words_of v.step.scene)
 
-  pub record TurnTold (memory' room' stack' : List ℕ) (r : Turned) : Type 0 where
+  pub record TurnTold (memory' room' stack' : List ℕ) (r : Result Turned Fault) : Type 0 where
     pub machine : stepped.machine
         ≡ put (words_of v.step.scene) (carrier_words (total_words v.step.scene.table) (take size memory')) (turned_to r stack')
     pub tells : Stands (entries_in entries) room' (told_all (groups_of stepped.reports) (matching_in (entries_in entries) room))

@@ -8,10 +8,9 @@ ghost use Rattle.stepping.specs.Steps.{StepAt};
 ghost use Rattle.matching.specs.Room.{Sound};
 ghost use Rattle.tracing.specs.Acts.{ActTold};
 
-use evaluation::transfers::Transferred;
 use records::fields::{kind_at, link_at};
 use rules::kinds::{LPAR, NAME};
-use stepping::steps::{Moved, step};
+use stepping::steps::{Fault, Moved, step};
 use storing::transfers::transfer;
 
 // The transfer at n.
@@ -23,19 +22,15 @@ fn transfer_act(
     room: &mut [u8],
     entries: &[u8],
     n: usize,
-) -> Moved
+) -> Result<Moved, Fault>
     requires { ((decls : List ℕ) × (StepAt records.now values.now decls carriers.old n × ((kind_byte records.now n ≡ kind_no Name) × (kind_byte records.now (n + 1) ≡ kind_no LPar → ⊥))))
         × ((512 ≤ length scratch.old) × ((length carriers.old ≤ 8 * most_words) × Sound (entries_in entries.now) room.old)) }
     ensures { (decls : List ℕ) (v : StepAt records.now values.now decls carriers.old n)
         → kind_byte records.now n ≡ kind_no Name → (kind_byte records.now (n + 1) ≡ kind_no LPar → ⊥)
         → ActTold v carriers.new (entries_in entries.now) room.old room.new result }
 {
-    let next = link_at(records, n);
-    let made = transfer(records, values, carriers, scratch, room, entries, n);
-    match made {
-        Transferred::Fault(p) => Moved::Fault(70, p),
-        Transferred::Stored => Moved::Go(next),
-    }
+    transfer(records, values, carriers, scratch, room, entries, n)?;
+    Ok(Moved::Go(link_at(records, n)))
 }
 
 // The instruction at n.
@@ -48,7 +43,7 @@ pub fn act(
     room: &mut [u8],
     entries: &[u8],
     n: usize,
-) -> Moved
+) -> Result<Moved, Fault>
     requires { StepAt records.now values.now decls.now carriers.old n
         × ((512 ≤ length scratch.old) × ((length carriers.old ≤ 8 * most_words) × Sound (entries_in entries.now) room.old)) }
     ensures { (v : StepAt records.now values.now decls.now carriers.old n)

@@ -1,5 +1,5 @@
 // The run from left to right, with a budget of steps, that tells the matching.
-ghost use Rattle.std.specs.Prelude.{◌≡◌, ◌<◌};
+ghost use Rattle.std.specs.Prelude.{◌≡◌, ◌<◌, Ok};
 ghost use Rattle.rules.specs.Limits.{most_steps};
 ghost use Rattle.tracing.specs.Traces.{ended_by, TraceAt, TraceTold};
 
@@ -18,13 +18,12 @@ const SCRATCH: usize = 512;
 // How a run stands behind so many steps and one that leads there: at an instruction it is paused.
 fn ended(turned: Turned, steps: u32) -> Ended
     requires { steps < most_steps }
-    ensures { result ≡ ended_by turned steps }
+    ensures { result ≡ ended_by (Ok turned) steps }
 {
     match turned {
         Turned::At(_, _) => Ended::Paused(steps + 1),
         Turned::Over => Ended::Done(steps + 1),
         Turned::Stop => Ended::Stopped(steps + 1),
-        Turned::Fault(number, place) => Ended::Fault(number, place, steps),
     }
 }
 
@@ -52,7 +51,7 @@ pub fn trace(
     let mut steps: u32 = 0;
     enter(room, &memory[CELLS..], n, start);
     while steps < budget {
-        let turned = turn(
+        let turned = match turn(
             records,
             values,
             decls,
@@ -65,7 +64,16 @@ pub fn trace(
             n,
             size,
             at,
-        );
+        ) {
+            Ok(turned) => turned,
+            Err(fault) => {
+                return Ended::Fault {
+                    number: fault.number,
+                    place: fault.place,
+                    steps,
+                };
+            }
+        };
         let Turned::At(next, high) = turned else {
             return ended(turned, steps);
         };

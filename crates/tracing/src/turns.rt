@@ -5,6 +5,7 @@ ghost use Rattle.tracing.specs.Turns.{TurnAt, TurnTold};
 use crate::acts::act;
 use crate::runs::CELLS;
 use runner::turns::Turned;
+use stepping::steps::Fault;
 use turning::ways::onward;
 
 // The turn at the instruction `at`, with so many activations that go on. There are n tokens.
@@ -21,7 +22,7 @@ pub fn turn(
     n: usize,
     size: usize,
     at: usize,
-) -> Turned
+) -> Result<Turned, Fault>
     requires { TurnAt records.now values.now decls.now memory.old room.old entries.now stack.old depth n size at × (512 ≤ length scratch.old) }
     ensures { (v : TurnAt records.now values.now decls.now memory.old room.old entries.now stack.old depth n size at)
         → TurnTold v memory.new room.new stack.new result }
@@ -35,6 +36,6 @@ pub fn turn(
         room,
         entries,
         at,
-    );
-    onward(records, &memory[CELLS..], room, stack, depth, n, at, moved)
+    )?;
+    Ok(onward(records, &memory[CELLS..], room, stack, depth, n, at, moved))
 }

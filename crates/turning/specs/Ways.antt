@@ -1,13 +1,14 @@
 -- The way that control takes behind an instruction, over the table and the cells of tokens. The stack has the instructions of the activations that go on, the
 -- newest of them last.
-use Rattle.std.specs.Prelude.{ℕ, zero, suc, ◌+◌, ◌*◌, ◌<◌, ◌≤◌, ◌≡◌, List, [], ◌∷◌, map, length, get_or}
+use Rattle.std.specs.Prelude.{ℕ, zero, suc, ◌+◌, ◌*◌, ◌<◌, ◌≤◌, ◌≡◌, List, [], ◌∷◌, map, length, get_or, Result, Ok, Err}
 use Rattle.rules.specs.Stores.{Entry}
 use Rattle.laws_orders.specs.Cited.Flat.{Link, at, exit, Code, pc, halt, broken}
 use Rattle.laws_orders.specs.Cited.Flat as flat
 use Rattle.records.specs.Holds.{link_cell}
 use Rattle.promise.specs.Instructions.{link_no}
 use Rattle.stepping.specs.declared.steps.Moved.{Moved}
-use Rattle.stepping.specs.declared.steps.Moved.TheVariants.{Go, Call, Stop, Fault}
+use Rattle.stepping.specs.declared.steps.Moved.TheVariants.{Go, Call, Stop}
+use Rattle.stepping.specs.declared.steps.Fault.{Fault}
 use Rattle.runner.specs.Runs.{stack_of}
 use Rattle.runner.specs.Turns.{turned_to}
 use Rattle.telling.specs.Cited.Passing.{Grouping, group_event, passage}
@@ -25,11 +26,11 @@ link_to zero = exit
 link_to (suc k) = at (suc k)
 
 -- the way of a step at the instruction n, with the activations κ
-abbrev pub way_of : ℕ → Moved → Code → Grouping → List ℕ → Told
-way_of n (Go k) C M κ = follow C M (M.around n) (link_to k) κ
-way_of n (Call f k) C M κ = told (pc f (n ∷ κ)) (passage M [] (M.around f))
-way_of n Stop C M κ = told halt []
-way_of n (Fault m p) C M κ = told (broken m p) []
+abbrev pub way_of : ℕ → Result Moved Fault → Code → Grouping → List ℕ → Told
+way_of n (Ok (Go k)) C M κ = follow C M (M.around n) (link_to k) κ
+way_of n (Ok (Call f k)) C M κ = told (pc f (n ∷ κ)) (passage M [] (M.around f))
+way_of n (Ok Stop) C M κ = told halt []
+way_of n (Err f) C M κ = told (broken f.number f.place) []
 
 -- the link behind an activation stands in the table
 pub record Linked (records : List ℕ) (C : Code) (m : ℕ) : Type 0 where
@@ -50,7 +51,7 @@ pub record WayAt (records cells room stack : List ℕ) (n depth : ℕ) (way : Co
 
 -- control has gone that way, and all that it passed is told
 pub record WayTold {records cells room stack : List ℕ} {n depth : ℕ} {way : Code → Grouping → List ℕ → Told}
-    (v : WayAt records cells room stack n depth way) (stack' room' : List ℕ) (r : Turned) : Type 0 where
+    (v : WayAt records cells room stack n depth way) (stack' room' : List ℕ) (r : Result Turned Fault) : Type 0 where
   pub control : turned_to r stack' ≡ (way v.code (grouping_in cells n) (stack_of stack depth)).control
   pub tells : Stands v.list room'
       (told_all (map group_event (way v.code (grouping_in cells n) (stack_of stack depth)).passed) (matching_in v.list room))

@@ -1,5 +1,5 @@
 // The way that control takes behind an instruction. What it passes is told.
-ghost use Rattle.std.specs.Prelude.{◌<◌, length};
+ghost use Rattle.std.specs.Prelude.{◌<◌, length, Ok};
 ghost use Rattle.telling.specs.Cited.Tracing.{return};
 ghost use Rattle.turning.specs.Ways.{way_of, WayAt, WayTold};
 
@@ -19,11 +19,9 @@ fn back(
 ) -> Turned
     requires { WayAt records.now cells.now room.old stack.now n depth return }
     ensures { (v : WayAt records.now cells.now room.old stack.now n depth return)
-        → WayTold v stack.now room.new result }
+        → WayTold v stack.now room.new (Ok result) }
 {
-    let mut top = depth;
-    while 0 < top {
-        top -= 1;
+    for top in (0..depth).rev() {
         let activation = stack[top];
         let behind = link_at(records, activation);
         if behind != 0 {
@@ -46,12 +44,11 @@ pub fn onward(
     at: usize,
     moved: Moved,
 ) -> Turned
-    requires { WayAt records.now cells.now room.old stack.old n depth (way_of at moved) × (depth < length stack.old) }
-    ensures { (v : WayAt records.now cells.now room.old stack.old n depth (way_of at moved))
-        → WayTold v stack.new room.new result }
+    requires { WayAt records.now cells.now room.old stack.old n depth (way_of at (Ok moved)) × (depth < length stack.old) }
+    ensures { (v : WayAt records.now cells.now room.old stack.old n depth (way_of at (Ok moved)))
+        → WayTold v stack.new room.new (Ok result) }
 {
     match moved {
-        Moved::Fault(number, place) => Turned::Fault(number, place),
         Moved::Stop => Turned::Stop,
         Moved::Call(first, _) => {
             enter(room, cells, n, first);

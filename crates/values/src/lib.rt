@@ -4,7 +4,7 @@
 pub mod fields;
 pub mod operators;
 
-ghost use Rattle.std.specs.Prelude.{◌≡◌, ◌≤◌, max};
+ghost use Rattle.std.specs.Prelude.{◌≡◌, ◌≤◌};
 ghost use Rattle.rules.specs.Values.{op_bits, op_number};
 ghost use Rattle.values.specs.Operands.{Operands};
 ghost use Rattle.values.specs.Operators.{op_at};
@@ -12,26 +12,16 @@ ghost use Rattle.values.specs.Operators.{op_at};
 use operators::{add, alike, both, differ, either, join, subtract, truth};
 use rules::kinds::{AND, AT, EQL, EQV, GTR, LEQ, LSS, MINUS, NEQ, OR, PLUS, XOR};
 
-fn longer(m: u32, n: u32) -> u32
-    ensures { result ≡ max m n }
-{
-    if m < n { n } else { m }
-}
-
 // The length of the result.
 pub fn operate_bits(op: u8, m: u32, n: u32) -> u32
     requires { (m ≤ 64) × (n ≤ 64) }
     ensures { result ≡ op_bits (op_at op) m n }
 {
-    let long = longer(m, n);
+    let long = m.max(n);
     match op {
         AT => m + n,
-        PLUS => long + 1,
-        MINUS => long + 1,
-        AND => long,
-        EQV => long,
-        OR => long,
-        XOR => long,
+        PLUS | MINUS => long + 1,
+        AND | EQV | OR | XOR => long,
         _ => 1,
     }
 }
@@ -44,9 +34,9 @@ pub fn operate(op: u8, m: u32, a: u64, n: u32, b: u64) -> u64
     match op {
         AT => join(n, a, b),
         PLUS => add(a, b),
-        MINUS => subtract(longer(m, n) + 1, a, b),
+        MINUS => subtract(m.max(n) + 1, a, b),
         AND => both(a, b),
-        EQV => alike(longer(m, n), a, b),
+        EQV => alike(m.max(n), a, b),
         OR => either(a, b),
         XOR => differ(a, b),
         EQL => truth(a == b),

@@ -20,7 +20,7 @@ pub fn subtract(n: u32, a: u64, b: u64) -> u64
     requires { n ≤ 64 }
     ensures { (m k : ℕ) → Fit m a k b → n ≡ op_bits minus m k → result ≡ op_number minus m a k b }
 {
-    low_bits(std::num::wrapping_sub_u64(a, b), n)
+    low_bits(a.wrapping_sub(b), n)
 }
 
 // The bits of a, then the n bits of b.

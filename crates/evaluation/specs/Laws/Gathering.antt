@@ -1,6 +1,6 @@
 -- Laws of gathering: what a turn of the loop keeps of the fields so far.
 -- Assumes nothing.
-use Rattle.std.specs.Prelude.{ℕ, ◌+◌, ◌-◌, ◌^◌, ◌<◌, ◌≤◌, ◌≡◌, true, length}
+use Rattle.std.specs.Prelude.{ℕ, ◌+◌, ◌-◌, ◌^◌, ◌<◌, ◌≤◌, ◌≡◌, true, length, Result, Ok, Err}
 use Rattle.std.proofs.Math.Path.{refl, sym, ap, subst}
 use Rattle.std.proofs.Common.{◌∙◌}
 use mathlib.Core.List.{List, [], ◌∷◌, ◌++◌, append_assoc, append-nil}
@@ -18,9 +18,8 @@ use Rattle.laws_grammar.specs.Cited.Nesting.{joined_nest}
 use Rattle.laws_accepted.proofs.Accepted.Declared.{few_words}
 use Rattle.laws_accepted.specs.Cited.Destinations.{SizedAccesses, all_bits}
 use Rattle.table.specs.Laws.Positions.{here, record_within}
-use Rattle.operands.specs.declared.accesses.Located.{Located}
-use Rattle.operands.specs.declared.accesses.Located.TheVariants.{Field as located, Fault as outside}
-use Rattle.evaluation.specs.declared.transfers.Gathered.TheVariants.{Fields, Fault}
+use Rattle.operands.specs.declared.accesses.Field.{Field as Located}
+use Rattle.operands.specs.declared.accesses.Outside.{Outside}
 use Rattle.table.specs.Operators.{ends_access}
 use Rattle.operands.specs.Cells.{cell_first, cell_low, cell_bits}
 use Rattle.operands.specs.Scene.{words_of, AccessAt, AccessAnswer}
@@ -119,7 +118,7 @@ module _ {records values carriers : List ℕ} {word low size p end : ℕ} {scrat
   g = told_gathering v
 
   -- the `=` is reached
-  pub gathered : q ≡ end → GatherAnswer v scratch (Fields count bits)
+  pub gathered : q ≡ end → GatherAnswer v scratch (Ok (record { count = count; bits = bits }))
   unfolding evaluate_accesses joined_accesses then
   gathered e = go g.left refl (sym (ap (λ i. drop i v.scene.tokens) e) ∙ g.reads)
     where
@@ -191,57 +190,57 @@ module _ {records values carriers : List ℕ} {word low size p end : ℕ} {scrat
           sized = sized_next.0;
         }
 
-    pub gather_faults : {r : Located} {o : ℕ} → AccessTold records values carriers (q + 1) deepest r → r ≡ outside o → GatherAnswer v scratch (Fault o)
+    pub gather_faults : {r : Result Located Outside} {o : Outside} → AccessTold records values carriers (q + 1) deepest r → r ≡ Err o → GatherAnswer v scratch (Err o)
     unfolding next_at evaluate_accesses joined_accesses then
     gather_faults h e =
         g.comes
         ∙ ap (λ j. then (evaluate_accesses v.scene.table (words_of v.scene) (joined_accesses j)) (λ fs. gives (g.done ++ fs))) n.are
         ∙ ap (λ o. then (then o (λ f. then (evaluate_accesses v.scene.table (words_of v.scene) (joined_accesses n.more)) (λ fs. gives (f ∷ fs)))) (λ fs. gives (g.done ++ fs))) (subst (AccessAnswer next_at) e (h next_at))
 
-    module _ {r : Located} {w l m next : ℕ} (h : AccessTold records values carriers (q + 1) deepest r) (e : r ≡ located w l m next) where
-      a : AccessAnswer next_at (located w l m next)
+    module _ {r : Result Located Outside} {f : Located} (h : AccessTold records values carriers (q + 1) deepest r) (e : r ≡ Ok f) where
+      a : AccessAnswer next_at (Ok f)
       a = subst (AccessAnswer next_at) e (h next_at)
 
-      f_within : Within v.scene.table (field_at w l m)
+      f_within : Within v.scene.table (field_at f.word f.low f.size)
       unfolding next_at access
-      f_within = access_within v.scene.declares (words_of v.scene) (access n.name n.subscript n.bits_of) (field_at w l m) sized_next.0 a.comes
+      f_within = access_within v.scene.declares (words_of v.scene) (access n.name n.subscript n.bits_of) (field_at f.word f.low f.size) sized_next.0 a.comes
 
-      f_short : bits + m + all_bits v.scene.outer v.scene.table (joined_accesses n.more) ≤ most_bits
+      f_short : bits + f.size + all_bits v.scene.outer v.scene.table (joined_accesses n.more) ≤ most_bits
       unfolding next_at access all_bits joined_accesses
       f_short =
           omega (
             arith,
             g.short,
             ap (λ j. all_bits v.scene.outer v.scene.table (joined_accesses j)) n.are,
-            access_size v.scene.declares (words_of v.scene) (access n.name n.subscript n.bits_of) (field_at w l m) sized_next.0 a.comes,
+            access_size v.scene.declares (words_of v.scene) (access n.name n.subscript n.bits_of) (field_at f.word f.low f.size) sized_next.0 a.comes,
           )
 
-      pub next_packable : (w < 65536) × ((l < 256) × (m < 256))
-      next_packable = packable v (field_at w l m) f_within
+      pub next_packable : (f.word < 65536) × ((f.low < 256) × (f.size < 256))
+      next_packable = packable v (field_at f.word f.low f.size) f_within
 
       pub gather_slot : count < 64
       gather_slot = omega (arith, g.many, f_short, f_within.some)
 
-      pub gather_sum : bits + m ≤ most_bits
+      pub gather_sum : bits + f.size ≤ most_bits
       gather_sum = omega (arith, f_short)
 
-      pub gather_falls : length records - next < length records - q
+      pub gather_falls : length records - f.next < length records - q
       gather_falls = omega (arith, a.past, gather_room)
 
-      pub gather_turn : {after : List ℕ} {c : ℕ} → 512 ≤ length scratch → c < 2 ^ 64 → (cell_first c ≡ w) × ((cell_low c ≡ l) × (cell_bits c ≡ m))
-          → after ≡ put_cell 8 scratch count c → Gathering v after (count + 1) (bits + m) next
+      pub gather_turn : {after : List ℕ} {c : ℕ} → 512 ≤ length scratch → c < 2 ^ 64 → (cell_first c ≡ f.word) × ((cell_low c ≡ f.low) × (cell_bits c ≡ f.size))
+          → after ≡ put_cell 8 scratch count c → Gathering v after (count + 1) (bits + f.size) f.next
       unfolding next_at evaluate_accesses joined_accesses then
       gather_turn {after} {c} room fits k put = record {
-        done = g.done ++ (field_at w l m ∷ []);
+        done = g.done ++ (field_at f.word f.low f.size ∷ []);
         left = n.more;
-        counts = omega (arith, g.counts, length-append g.done (field_at w l m ∷ []));
-        total_bits = omega (arith, g.total_bits, total_end g.done (field_at w l m));
+        counts = omega (arith, g.counts, length-append g.done (field_at f.word f.low f.size ∷ []));
+        total_bits = omega (arith, g.total_bits, total_end g.done (field_at f.word f.low f.size));
         many = omega (arith, g.many, f_within.some);
         short = f_short;
         kept =
-            subst (λ b. Kept b 0 (g.done ++ (field_at w l m ∷ []))) (sym put)
-            (kept_more scratch g.done (field_at w l m) count c g.counts (omega (arith, gather_slot)) fits (record { word = k.0; low = k.1.0; size = k.1.1 }) g.kept);
-        within = all_end g.done (field_at w l m) g.within f_within;
+            subst (λ b. Kept b 0 (g.done ++ (field_at f.word f.low f.size ∷ []))) (sym put)
+            (kept_more scratch g.done (field_at f.word f.low f.size) count c g.counts (omega (arith, gather_slot)) fits (record { word = k.0; low = k.1.0; size = k.1.1 }) g.kept);
+        within = all_end g.done (field_at f.word f.low f.size) g.within f_within;
         reads = a.behind ∙ sym (behind n.more v.equals v.rest).reads;
         shallow = omega (arith, g.shallow, ap joined_nest n.are);
         sized = sized_next.1;
@@ -249,6 +248,6 @@ module _ {records values carriers : List ℕ} {word low size p end : ℕ} {scrat
             g.comes
             ∙ ap (λ j. then (evaluate_accesses v.scene.table (words_of v.scene) (joined_accesses j)) (λ fs. gives (g.done ++ fs))) n.are
             ∙ ap (λ o. then (then o (λ f. then (evaluate_accesses v.scene.table (words_of v.scene) (joined_accesses n.more)) (λ fs. gives (f ∷ fs)))) (λ fs. gives (g.done ++ fs))) a.comes
-            ∙ then_then (evaluate_accesses v.scene.table (words_of v.scene) (joined_accesses n.more)) (λ fs. gives (field_at w l m ∷ fs)) (λ fs. gives (g.done ++ fs))
-            ∙ then_same (evaluate_accesses v.scene.table (words_of v.scene) (joined_accesses n.more)) _ _ (λ fs. ap gives (sym (append_assoc g.done (field_at w l m ∷ []) fs)));
+            ∙ then_then (evaluate_accesses v.scene.table (words_of v.scene) (joined_accesses n.more)) (λ fs. gives (field_at f.word f.low f.size ∷ fs)) (λ fs. gives (g.done ++ fs))
+            ∙ then_same (evaluate_accesses v.scene.table (words_of v.scene) (joined_accesses n.more)) _ _ (λ fs. ap gives (sym (append_assoc g.done (field_at f.word f.low f.size ∷ []) fs)));
       }

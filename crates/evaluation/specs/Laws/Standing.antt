@@ -1,6 +1,6 @@
 -- What the promise says of expressions and destinations, as the walk takes it: their constants fit, so what has no fault is sized.
 -- Assumes nothing.
-use Rattle.std.specs.Prelude.{ℕ, suc, ◌<◌, ◌≡◌, List, [], ◌∷◌, ◌++◌, length, take, drop}
+use Rattle.std.specs.Prelude.{ℕ, suc, ◌<◌, ◌≡◌, List, [], ◌∷◌, ◌++◌, length, take, drop, Result, Ok, Err}
 use Rattle.std.proofs.Common.{sym, ◌∙◌, subst, arith, take-append-drop, length-drop}
 use Rattle.std.proofs.Math.Path.{ap}
 use Rattle.rules.specs.Text.Tokens.{Name, Const, Info, Token, tk}
@@ -18,8 +18,8 @@ use Rattle.laws_accepted.specs.Cited.Destinations.{SizedDestination}
 use Rattle.records.specs.Holds.{token_at}
 use Rattle.table.specs.Laws.Positions.{here}
 use Rattle.promise.specs.Instructions.{ExpressionStands}
-use Rattle.operands.specs.declared.expressions.Evaluated.{Evaluated}
-use Rattle.operands.specs.declared.expressions.Evaluated.TheVariants.{Value as worked, Fault as faulted}
+use Rattle.operands.specs.declared.accesses.Outside.{Outside}
+use Rattle.operands.specs.declared.expressions.Value.{Value as Worked}
 use Rattle.evaluation.specs.Laws.Kinds.{ends_here}
 use Rattle.nots.specs.Laws.Nots.{operand_first}
 use Rattle.operands.specs.Scene.{Scene, words_of, ExpressionAt, ExpressionAnswer}
@@ -62,12 +62,12 @@ module _ {records values carriers : List ℕ} (s : Scene records values carriers
         sized = subst (Sized s.outer s.table) v.is (sized s.declares e (subst BitsOk (sym v.is) ok) v.sound);
       }
 
-  pub expression_stood : (i j : ℕ) (e : Expr) (v : ExpressionStands s.tokens s.outer s.table i j e) (r : Evaluated)
+  pub expression_stood : (i j : ℕ) (e : Expr) (v : ExpressionStands s.tokens s.outer s.table i j e) (r : Result Worked Outside)
       → ExpressionAnswer (expression_at i j e v) r → Stood s j e r
   unfolding expression_at
-  expression_stood i j e v (worked x n q) a =
-      (ap (evaluate s.table (words_of s)) v.is ∙ a.comes, same_place s.tokens q j _ _ a.behind (v.behind ∙ v.ends.is))
-  expression_stood i j e v (faulted q) a = ap (evaluate s.table (words_of s)) v.is ∙ a
+  expression_stood i j e v (Ok w) a =
+      (ap (evaluate s.table (words_of s)) v.is ∙ a.comes, same_place s.tokens w.next j _ _ a.behind (v.behind ∙ v.ends.is))
+  expression_stood i j e v (Err o) a = ap (evaluate s.table (words_of s)) v.is ∙ a
 
   pub expression_small : (i j : ℕ) (e : Expr) → ExpressionStands s.tokens s.outer s.table i j e → i < most_tokens
   expression_small i j e v = omega (arith, (here s.tokens i _ _ (v.reads ∙ operand_first v.operand (tail_tokens v.tail v.rest))).within, s.holds.few)

@@ -1,8 +1,9 @@
 -- Laws of the test of an IF or a DECODE.
 -- Assumes nothing.
-use Rattle.std.specs.Prelude.{ℕ, ◌+◌, ◌<◌, List}
+use Rattle.std.specs.Prelude.{ℕ, ◌+◌, ◌<◌, List, Result}
 use Rattle.rules.specs.Limits.{deepest, most_tokens}
-use Rattle.operands.specs.declared.expressions.Evaluated.{Evaluated}
+use Rattle.operands.specs.declared.accesses.Outside.{Outside}
+use Rattle.operands.specs.declared.expressions.Value.{Value as Worked}
 use Rattle.operands.specs.Scene.{ExpressionAt}
 use Rattle.operands.specs.Laws.Scene.{ExpressionTold}
 use Rattle.evaluation.specs.Laws.Standing.{expression_at, expression_stood, expression_small}
@@ -15,6 +16,6 @@ module _ {records values carriers : List ℕ} {n : ℕ} (v : TestAt records valu
   pub test_at : ExpressionAt records values carriers (n + 1) deepest
   test_at = expression_at v.scene (n + 1) v.behind v.expression v.stands
 
-  pub test_answer : (r : Evaluated) → ExpressionTold records values carriers (n + 1) deepest r → TestAnswer v r
+  pub test_answer : (r : Result Worked Outside) → ExpressionTold records values carriers (n + 1) deepest r → TestAnswer v r
   unfolding test_at
   test_answer r f = expression_stood v.scene (n + 1) v.behind v.expression v.stands r (f test_at)

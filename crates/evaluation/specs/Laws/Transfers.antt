@@ -1,6 +1,6 @@
 -- Laws of transfers: each step from the right side to the stores, and its faults.
 -- Assumes nothing.
-use Rattle.std.specs.Prelude.{ℕ, ◌+◌, ◌*◌, ◌<◌, ◌≤◌, ◌≡◌, List, [], ◌∷◌, length}
+use Rattle.std.specs.Prelude.{ℕ, ◌+◌, ◌*◌, ◌<◌, ◌≤◌, ◌≡◌, List, [], ◌∷◌, length, ⊤, Result, Ok, Err}
 use Rattle.std.proofs.Math.Path.{refl, sym, ap}
 use Rattle.std.proofs.Common.{◌∙◌, subst, arith}
 use Rattle.std.proofs.Math.ListN.{drop}
@@ -13,14 +13,10 @@ use Rattle.rules.specs.Steps.Actions.{access, joined_accesses}
 use Rattle.rules.specs.Steps.Evaluation.{Carriers, Outcome, gives, faulty, then, evaluate, evaluate_accesses, store_all, transferred}
 use Rattle.table.specs.Laws.Positions.{here, record_within}
 use Rattle.promise.specs.Instructions.{ExpressionStands, DestinationStands}
-use Rattle.operands.specs.declared.accesses.Located.{Located}
-use Rattle.operands.specs.declared.accesses.Located.TheVariants.{Field as located, Fault as outside}
-use Rattle.operands.specs.declared.expressions.Evaluated.{Evaluated}
-use Rattle.operands.specs.declared.expressions.Evaluated.TheVariants.{Value as worked, Fault as faulted}
-use Rattle.evaluation.specs.declared.transfers.Gathered.{Gathered}
-use Rattle.evaluation.specs.declared.transfers.Gathered.TheVariants.{Fields, Fault as missed}
-use Rattle.evaluation.specs.declared.transfers.Transferred.{Transferred}
-use Rattle.evaluation.specs.declared.transfers.Transferred.TheVariants.{Stored, Fault}
+use Rattle.operands.specs.declared.accesses.Field.{Field as Located}
+use Rattle.operands.specs.declared.accesses.Outside.{Outside}
+use Rattle.operands.specs.declared.expressions.Value.{Value as Worked}
+use Rattle.evaluation.specs.declared.transfers.Fields.{Fields}
 use Rattle.operands.specs.Scene.{Scene, words_of, ExpressionAt, ExpressionAnswer, AccessAt, AccessAnswer}
 use Rattle.operands.specs.Laws.Scene.{ExpressionTold, AccessTold}
 use Rattle.operands.specs.Worths.{Within}
@@ -34,29 +30,29 @@ use Rattle.evaluation.specs.Laws.Gathering.{behind}
 use Rattle.records.specs.Holds.{inside_cell}
 use Rattle.evaluation.specs.Transfers.{Becomes, JoinedAnswer, AssignAt, AssignAnswer, assigned, TransferAt, TransferAnswer}
 
-becomes_by : {records values carriers : List ℕ} (s : Scene records values carriers) {o o' : Outcome Carriers} → o ≡ o' → (after : List ℕ) (r : Transferred)
+becomes_by : {records values carriers : List ℕ} (s : Scene records values carriers) {o o' : Outcome Carriers} → o ≡ o' → (after : List ℕ) (r : Result ⊤ Outside)
     → Becomes s o' after r → Becomes s o after r
-becomes_by s e after Stored b = (e ∙ b.0, b.1)
-becomes_by s e after (Fault p) b = (e ∙ b.0, b.1)
+becomes_by s e after (Ok u) b = (e ∙ b.0, b.1)
+becomes_by s e after (Err o) b = (e ∙ b.0, b.1)
 
 module _ {records values carriers : List ℕ} {word low size p end : ℕ} (g : GatherAt records values carriers word low size p end) where
   -- what is told of gathering its fields
-  abbrev GatherTold : List ℕ → Gathered → Type 0
+  abbrev GatherTold : List ℕ → Result Fields Outside → Type 0
   GatherTold scratch r = (v : GatherAt records values carriers word low size p end) → GatherAnswer v scratch r
 
-  pub joined_faults : (x : ℕ) (scratch : List ℕ) {r : Gathered} {q : ℕ} → GatherTold scratch r → r ≡ missed q → JoinedAnswer g x carriers (Fault q)
+  pub joined_faults : (x : ℕ) (scratch : List ℕ) {r : Result Fields Outside} {o : Outside} → GatherTold scratch r → r ≡ Err o → JoinedAnswer g x carriers (Err o)
   unfolding then
   joined_faults x scratch f e =
       (ap (λ o. then o (λ fs. gives (store_all (words_of g.scene) fs (cut (sizes fs) x)))) (subst (GatherAnswer g scratch) e (f g)), refl)
 
-  module _ (scratch : List ℕ) {r : Gathered} {count bits : ℕ} (f : GatherTold scratch r) (e : r ≡ Fields count bits) where
-    pub gathers : Gathers g scratch count bits
+  module _ (scratch : List ℕ) {r : Result Fields Outside} {all : Fields} (f : GatherTold scratch r) (e : r ≡ Ok all) where
+    pub gathers : Gathers g scratch all.count all.bits
     gathers = subst (GatherAnswer g scratch) e (f g)
 
-    pub stores_room : 512 ≤ length scratch → 8 * count ≤ length scratch
+    pub stores_room : 512 ≤ length scratch → 8 * all.count ≤ length scratch
     stores_room room = omega (arith, gathers.many, gathers.short)
 
-    unfoldable pub stores_at : StoresAt carriers scratch count bits
+    unfoldable pub stores_at : StoresAt carriers scratch all.count all.bits
     stores_at = record {
       table = g.scene.table;
       words = g.scene.words;
@@ -68,7 +64,7 @@ module _ {records values carriers : List ℕ} {word low size p end : ℕ} (g : G
       within = gathers.within;
     }
 
-    pub joined_stored : (x : ℕ) (after : List ℕ) → ((s : StoresAt carriers scratch count bits) → StoresAnswer s x after) → JoinedAnswer g x after Stored
+    pub joined_stored : (x : ℕ) (after : List ℕ) → ((s : StoresAt carriers scratch all.count all.bits) → StoresAnswer s x after) → JoinedAnswer g x after (Ok tt)
     unfolding then stores_at
     joined_stored x after h =
         let a = h stores_at in
@@ -92,7 +88,7 @@ module _ {records values carriers : List ℕ} {n end : ℕ} (d : AssignAt record
         sized = d.sized.parts.0;
       }
 
-  pub assign_faults : (x : ℕ) {r : Located} {p : ℕ} → AccessTold records values carriers n deepest r → r ≡ outside p → AssignAnswer d x carriers (Fault p)
+  pub assign_faults : (x : ℕ) {r : Result Located Outside} {o : Outside} → AccessTold records values carriers n deepest r → r ≡ Err o → AssignAnswer d x carriers (Err o)
   unfolding first_at then evaluate_accesses
   assign_faults x f e = (
     ap (λ o. then (then o (λ f. then (evaluate_accesses d.scene.table (words_of d.scene) (joined_accesses d.more)) (λ fs. gives (f ∷ fs))))
@@ -100,39 +96,39 @@ module _ {records values carriers : List ℕ} {n end : ℕ} (d : AssignAt record
     refl,
   )
 
-  module _ {r : Located} {w l m next : ℕ} (f : AccessTold records values carriers n deepest r) (e : r ≡ located w l m next) where
-    pub first_located : AccessAnswer first_at (located w l m next)
+  module _ {r : Result Located Outside} {at : Located} (f : AccessTold records values carriers n deepest r) (e : r ≡ Ok at) where
+    pub first_located : AccessAnswer first_at (Ok at)
     first_located = subst (AccessAnswer first_at) e (f first_at)
 
-    inside : Within d.scene.table (field_at w l m)
+    inside : Within d.scene.table (field_at at.word at.low at.size)
     unfolding first_at access
-    inside = access_within d.scene.declares (words_of d.scene) (access d.name d.subscript d.bits) (field_at w l m) d.sized.parts.0 first_located.comes
+    inside = access_within d.scene.declares (words_of d.scene) (access d.name d.subscript d.bits) (field_at at.word at.low at.size) d.sized.parts.0 first_located.comes
 
-    pub more_reads : drop next d.scene.tokens ≡ joined_tokens d.more (tk Equals d.equals ∷ d.rest)
+    pub more_reads : drop at.next d.scene.tokens ≡ joined_tokens d.more (tk Equals d.equals ∷ d.rest)
     unfolding first_at
     more_reads = first_located.behind ∙ sym (behind d.more d.equals d.rest).reads
 
-    pub assign_fits : (8 * w + 8 ≤ length carriers) × ((l < most_bits) × (l + m ≤ most_bits))
+    pub assign_fits : (8 * at.word + 8 ≤ length carriers) × ((at.low < most_bits) × (at.low + at.size ≤ most_bits))
     assign_fits = (omega (arith, inside.word, d.scene.words), (omega (arith, inside.some, inside.fits), inside.fits))
 
     -- the only access
-    pub assign_single : (x : ℕ) {after : List ℕ} → next ≡ end → Put carriers after w l m x → AssignAnswer d x after Stored
+    pub assign_single : (x : ℕ) {after : List ℕ} → at.next ≡ end → Put carriers after at.word at.low at.size x → AssignAnswer d x after (Ok tt)
     unfolding first_at then evaluate_accesses joined_accesses
     assign_single x {after} is p = go d.more refl (sym (ap (λ i. drop i d.scene.tokens) is) ∙ more_reads)
       where
-        go : (j : Joined) → d.more ≡ j → drop end d.scene.tokens ≡ joined_tokens j (tk Equals d.equals ∷ d.rest) → AssignAnswer d x after Stored
+        go : (j : Joined) → d.more ≡ j → drop end d.scene.tokens ≡ joined_tokens j (tk Equals d.equals ∷ d.rest) → AssignAnswer d x after (Ok tt)
         go alone z q = (
           ap (λ j. assigned d.scene.table (words_of d.scene) (access d.name d.subscript d.bits ∷ joined_accesses j) x) z
               ∙ ap (λ o. then (then o (λ f. gives (f ∷ []))) (λ fs. gives (store_all (words_of d.scene) fs (cut (sizes fs) x)))) first_located.comes
-              ∙ ap gives (single_store (words_of d.scene) (field_at w l m) x
-              ∙ sym (put_writes (total_words d.scene.table) carriers after (field_at w l m) x p inside.word (omega (arith, d.scene.words)))),
-          put_length (total_words d.scene.table) carriers after (field_at w l m) x p,
+              ∙ ap gives (single_store (words_of d.scene) (field_at at.word at.low at.size) x
+              ∙ sym (put_writes (total_words d.scene.table) carriers after (field_at at.word at.low at.size) x p inside.word (omega (arith, d.scene.words)))),
+          put_length (total_words d.scene.table) carriers after (field_at at.word at.low at.size) x p,
         )
         go (joined b n s c j) z q =
             let clash = ap (λ (t : Token). kind_no t.kind) (sym (here _ end _ _ q).token ∙ (here _ end _ _ d.behind).token) in absurd (omega arith)
 
     -- more follow
-    unfoldable pub gather_at : GatherAt records values carriers w l m next end
+    unfoldable pub gather_at : GatherAt records values carriers at.word at.low at.size at.next end
     unfolding first_at
     gather_at = record {
       scene = d.scene;
@@ -147,8 +143,8 @@ module _ {records values carriers : List ℕ} {n end : ℕ} (d : AssignAt record
       comes = first_located.comes;
     }
 
-    pub assign_joined : (x : ℕ) (after : List ℕ) (q : Transferred)
-        → ((g : GatherAt records values carriers w l m next end) → JoinedAnswer g x after q) → AssignAnswer d x after q
+    pub assign_joined : (x : ℕ) (after : List ℕ) (q : Result ⊤ Outside)
+        → ((g : GatherAt records values carriers at.word at.low at.size at.next end) → JoinedAnswer g x after q) → AssignAnswer d x after q
     unfolding gather_at
     assign_joined x after q h = becomes_by d.scene refl after q (h gather_at)
 
@@ -171,22 +167,22 @@ module _ {records values carriers : List ℕ} {n : ℕ} (t : TransferAt records 
     right_at = expression_at t.scene (k + 1) t.behind t.right right_here
 
     -- the right side
-    module _ {r : Evaluated} (f : ExpressionTold records values carriers (k + 1) deepest r) where
-      right_stands : (q : Evaluated) → r ≡ q → Stood t.scene t.behind t.right q
+    module _ {r : Result Worked Outside} (f : ExpressionTold records values carriers (k + 1) deepest r) where
+      right_stands : (q : Result Worked Outside) → r ≡ q → Stood t.scene t.behind t.right q
       unfolding right_at
       right_stands q e = expression_stood t.scene (k + 1) t.behind t.right right_here q (subst (ExpressionAnswer right_at) e (f right_at))
 
-      right_faults : {p : ℕ} → r ≡ faulted p → evaluate t.scene.table (words_of t.scene) t.right ≡ faulty 70 p
-      right_faults {p} e = right_stands (faulted p) e
+      right_faults : {o : Outside} → r ≡ Err o → evaluate t.scene.table (words_of t.scene) t.right ≡ faulty 70 o.place
+      right_faults {o} e = right_stands (Err o) e
 
-      pub right_gives : {x m p : ℕ} → r ≡ worked x m p → evaluate t.scene.table (words_of t.scene) t.right ≡ gives (value m x)
-      right_gives {x} {m} {p} e = (right_stands (worked x m p) e).0
+      pub right_gives : {w : Worked} → r ≡ Ok w → evaluate t.scene.table (words_of t.scene) t.right ≡ gives (value w.bits w.number)
+      right_gives {w} e = (right_stands (Ok w) e).0
 
     -- the stores that follow it
     abbrev following : Outcome Value → Outcome Carriers
     following o = then o (λ v. assigned t.scene.table (words_of t.scene) t.to v.number)
 
-    pub transfer_faults : {r : Evaluated} {p : ℕ} → ExpressionTold records values carriers (k + 1) deepest r → r ≡ faulted p → TransferAnswer t carriers (Fault p)
+    pub transfer_faults : {r : Result Worked Outside} {o : Outside} → ExpressionTold records values carriers (k + 1) deepest r → r ≡ Err o → TransferAnswer t carriers (Err o)
     unfolding transferred then
     transfer_faults f e = (ap following (right_faults f e), refl)
 
@@ -212,8 +208,8 @@ module _ {records values carriers : List ℕ} {n : ℕ} (t : TransferAt records 
     unfolding assign_at
     assign_to = destination_here.is
 
-    pub transfer_assigned : {r : Evaluated} {x m p : ℕ} → ExpressionTold records values carriers (k + 1) deepest r → r ≡ worked x m p
-        → (after : List ℕ) (q : Transferred) → ((d : AssignAt records values carriers n k) → AssignAnswer d x after q) → TransferAnswer t after q
+    pub transfer_assigned : {r : Result Worked Outside} {w : Worked} → ExpressionTold records values carriers (k + 1) deepest r → r ≡ Ok w
+        → (after : List ℕ) (q : Result ⊤ Outside) → ((d : AssignAt records values carriers n k) → AssignAnswer d w.number after q) → TransferAnswer t after q
     unfolding transferred then assign_at
-    transfer_assigned {x = x} f e after q h =
-        becomes_by t.scene (ap following (right_gives f e) ∙ ap (λ to. assigned t.scene.table (words_of t.scene) to x) assign_to) after q (h assign_at)
+    transfer_assigned {w = w} f e after q h =
+        becomes_by t.scene (ap following (right_gives f e) ∙ ap (λ to. assigned t.scene.table (words_of t.scene) to w.number) assign_to) after q (h assign_at)

@@ -1,6 +1,6 @@
 -- An access: its cell, and what stands behind its name, a subscript or not.
 -- Assumes nothing.
-use Rattle.std.specs.Prelude.{ℕ, ◌+◌, ◌-◌, ◌*◌, ◌<◌, ◌≤◌, ◌≡◌, not, List, [], ◌∷◌, ◌++◌, length, drop}
+use Rattle.std.specs.Prelude.{ℕ, ◌+◌, ◌-◌, ◌*◌, ◌<◌, ◌≤◌, ◌≡◌, not, List, [], ◌∷◌, ◌++◌, length, drop, Result, Ok, Err}
 use Rattle.std.proofs.Math.Path.{refl, ap}
 use Rattle.std.proofs.Common.{sym, ◌∙◌, subst, arith}
 use Rattle.std.proofs.Math.Bool.{true}
@@ -24,10 +24,9 @@ use Rattle.records.specs.Holds.{kind_byte, value_cell_of}
 use Rattle.table.specs.Laws.Positions.{Here, here, behind_far, kind_here, record_within, value_within}
 use Rattle.table.specs.Bits.{BitsView}
 use Rattle.promise.specs.Accesses.{left_name, right_name, access_cell}
-use Rattle.operands.specs.declared.accesses.Located.{Located}
-use Rattle.operands.specs.declared.accesses.Located.TheVariants.{Field as located, Fault as outside}
-use Rattle.operands.specs.declared.expressions.Evaluated.{Evaluated}
-use Rattle.operands.specs.declared.expressions.Evaluated.TheVariants.{Value as worked, Fault as faulted}
+use Rattle.operands.specs.declared.accesses.Field.{Field as Located}
+use Rattle.operands.specs.declared.accesses.Outside.{Outside}
+use Rattle.operands.specs.declared.expressions.Value.{Value as Worked}
 use Rattle.table.specs.Laws.Operators as kinds
 use Rattle.operands.specs.Cells.{Parts, located_at}
 use Rattle.operands.specs.Laws.Cells.{words_named, cell_parts}
@@ -118,7 +117,7 @@ module _ {records values carriers : List ℕ} {i depth : ℕ} (v : AccessAt reco
   -- without a subscript
   record Plain : Type 0 where
     behind : BitsAt records (i + 1)
-    answer : {n : ℕ} {r : Located} → SizeTold records (i + 1) n → r ≡ located_at (value_cell_of values i) 0 (i + 1 + n) → AccessAnswer v r
+    answer : {n : ℕ} {f : Located} → SizeTold records (i + 1) n → f ≡ located_at (value_cell_of values i) 0 (i + 1 + n) → AccessAnswer v (Ok f)
 
   plain : {k : ℕ} → k ≡ kind_byte records (i + 1) → (k ≡ kind_no LBra → ⊥) → Plain
   unfolding second index_of evaluate_access evaluate_index access then field_in word_of
@@ -147,7 +146,7 @@ module _ {records values carriers : List ℕ} {i depth : ℕ} (v : AccessAt reco
           = ap (λ (w : Option Names). then (word_of v.name.place w 0) (λ k. gives (record { word = r.first + k; low = access_low r v.bits; size = access_bits r v.bits }))) bare in
           record {
             behind = behind;
-            answer = λ size is. subst (AccessAnswer v) (sym is) (record {
+            answer = λ size is. subst (λ f. AccessAnswer v (Ok f)) (sym is) (record {
               comes =
                   ap (λ s. then (evaluate_index v.scene.table (words_of v.scene) (index_of s)) (λ n. field_of v.scene.table v.name v.bits n)) q
                   ∙ field_here 0 ∙ one ∙ same 0 parts_here.first parts_here.low parts_here.bits;
@@ -164,19 +163,19 @@ module _ {records values carriers : List ℕ} {i depth : ℕ} (v : AccessAt reco
     pub plain_small : {m : ℕ} → SizeTold records (i + 1) m → i + 1 + m < most_tokens
     plain_small f = bits_small (plain is n).behind f
 
-    pub plain_answer : {m : ℕ} {r : Located} → SizeTold records (i + 1) m → r ≡ located_at (value_cell_of values i) 0 (i + 1 + m) → AccessAnswer v r
+    pub plain_answer : {m : ℕ} {g : Located} → SizeTold records (i + 1) m → g ≡ located_at (value_cell_of values i) 0 (i + 1 + m) → AccessAnswer v (Ok g)
     plain_answer f e = (plain is n).answer f e
 
   -- with one
   record Indexed : Type 0 where
     deep : 0 < depth
     view : ExpressionAt records values carriers (i + 2) (depth - 1)
-    small : {r : Evaluated} {x n p : ℕ} → ExpressionTold records values carriers (i + 2) (depth - 1) r → r ≡ worked x n p → p < most_tokens
-    inside : {r : Evaluated} {x n p : ℕ} → ExpressionTold records values carriers (i + 2) (depth - 1) r → r ≡ worked x n p
-        → SubscriptedAt records values i x (p + 1)
-    answer : {r : Evaluated} {x n p : ℕ} (f : ExpressionTold records values carriers (i + 2) (depth - 1) r) (e : r ≡ worked x n p) (q : Located)
-        → ((s : SubscriptedAt records values i x (p + 1)) → SubscriptedAnswer s q) → AccessAnswer v q
-    faults : {r : Evaluated} {p : ℕ} → ExpressionTold records values carriers (i + 2) (depth - 1) r → r ≡ faulted p → AccessAnswer v (outside p)
+    small : {r : Result Worked Outside} {w : Worked} → ExpressionTold records values carriers (i + 2) (depth - 1) r → r ≡ Ok w → w.next < most_tokens
+    inside : {r : Result Worked Outside} {w : Worked} → ExpressionTold records values carriers (i + 2) (depth - 1) r → r ≡ Ok w
+        → SubscriptedAt records values i w.number (w.next + 1)
+    answer : {r : Result Worked Outside} {w : Worked} (f : ExpressionTold records values carriers (i + 2) (depth - 1) r) (e : r ≡ Ok w) (q : Result Located Outside)
+        → ((s : SubscriptedAt records values i w.number (w.next + 1)) → SubscriptedAnswer s q) → AccessAnswer v q
+    faults : {r : Result Worked Outside} {o : Outside} → ExpressionTold records values carriers (i + 2) (depth - 1) r → r ≡ Err o → AccessAnswer v (Err o)
 
   indexed : kind_byte records (i + 1) ≡ kind_no LBra → Indexed
   unfolding second index_of expr_of evaluate_access evaluate_index access then
@@ -213,7 +212,7 @@ module _ {records values carriers : List ℕ} {i depth : ℕ} (v : AccessAt reco
             shallow = omega arith;
             sized = subst (λ t. SizedIndex v.scene.outer ds (index_of t)) q v.sized.2;
           } in
-          let inside : (x n p : ℕ) → ExpressionAnswer view (worked x n p) → SubscriptedAt records values i x (p + 1) = λ x n p a.
+          let inside : (w : Worked) → ExpressionAnswer view (Ok w) → SubscriptedAt records values i w.number (w.next + 1) = λ w a.
           record {
             behind = record {
               text = v.scene.text;
@@ -223,7 +222,7 @@ module _ {records values carriers : List ℕ} {i depth : ℕ} (v : AccessAt reco
               bits = v.bits;
               next = v.next;
               rest = v.rest;
-              reads = (here v.scene.tokens p _ _ a.behind).behind;
+              reads = (here v.scene.tokens w.next _ _ a.behind).behind;
               ends = v.ends;
             };
             name = v.name;
@@ -242,18 +241,18 @@ module _ {records values carriers : List ℕ} {i depth : ℕ} (v : AccessAt reco
           record {
             deep = omega arith;
             view = view;
-            small = λ {r} {x} {n} {p} f e.
-                omega (arith, (here v.scene.tokens p _ _ (subst (ExpressionAnswer view) e (f view)).behind).within, v.scene.holds.few);
-            inside = λ {r} {x} {n} {p} f e. inside x n p (subst (ExpressionAnswer view) e (f view));
-            answer = λ {r} {x} {n} {p} f e d g.
-                let a = subst (ExpressionAnswer view) e (f view) in by d (whole ∙ ap chosen a.comes ∙ field_here x) (g (inside x n p a));
-            faults = λ {r} {p} f e. whole ∙ ap chosen (subst (ExpressionAnswer view) e (f view));
+            small = λ {r} {w} f e.
+                omega (arith, (here v.scene.tokens w.next _ _ (subst (ExpressionAnswer view) e (f view)).behind).within, v.scene.holds.few);
+            inside = λ {r} {w} f e. inside w (subst (ExpressionAnswer view) e (f view));
+            answer = λ {r} {w} f e d g.
+                let a = subst (ExpressionAnswer view) e (f view) in by d (whole ∙ ap chosen a.comes ∙ field_here w.number) (g (inside w a));
+            faults = λ {r} {o} f e. whole ∙ ap chosen (subst (ExpressionAnswer view) e (f view));
           }
         where
-          by : {o : Outcome Field} (r : Located) → evaluate_access v.scene.table (words_of v.scene) (access v.name v.subscript v.bits) ≡ o
+          by : {o : Outcome Field} (r : Result Located Outside) → evaluate_access v.scene.table (words_of v.scene) (access v.name v.subscript v.bits) ≡ o
               → Locates v.scene.tokens (v.next ∷ v.rest) i o r → AccessAnswer v r
-          by (located w l n p) e a = record { comes = e ∙ a.comes; past = a.past; behind = a.behind }
-          by (outside p) e a = e ∙ a
+          by (Ok f) e a = record { comes = e ∙ a.comes; past = a.past; behind = a.behind }
+          by (Err o) e a = e ∙ a
 
   module _ (n : kind_byte records (i + 1) ≡ kind_no LBra) where
     pub index_deep : 0 < depth
@@ -262,15 +261,15 @@ module _ {records values carriers : List ℕ} {i depth : ℕ} (v : AccessAt reco
     pub index_view : ExpressionAt records values carriers (i + 2) (depth - 1)
     index_view = (indexed n).view
 
-    pub index_faults : {r : Evaluated} {p : ℕ} → ExpressionTold records values carriers (i + 2) (depth - 1) r → r ≡ faulted p → AccessAnswer v (outside p)
+    pub index_faults : {r : Result Worked Outside} {o : Outside} → ExpressionTold records values carriers (i + 2) (depth - 1) r → r ≡ Err o → AccessAnswer v (Err o)
     index_faults f e = (indexed n).faults f e
 
-    module _ {r : Evaluated} {x m p : ℕ} (f : ExpressionTold records values carriers (i + 2) (depth - 1) r) (e : r ≡ worked x m p) where
-      pub index_small : p < most_tokens
+    module _ {r : Result Worked Outside} {w : Worked} (f : ExpressionTold records values carriers (i + 2) (depth - 1) r) (e : r ≡ Ok w) where
+      pub index_small : w.next < most_tokens
       index_small = (indexed n).small f e
 
-      pub index_inside : SubscriptedAt records values i x (p + 1)
+      pub index_inside : SubscriptedAt records values i w.number (w.next + 1)
       index_inside = (indexed n).inside f e
 
-      pub index_answer : (q : Located) → ((s : SubscriptedAt records values i x (p + 1)) → SubscriptedAnswer s q) → AccessAnswer v q
+      pub index_answer : (q : Result Located Outside) → ((s : SubscriptedAt records values i w.number (w.next + 1)) → SubscriptedAnswer s q) → AccessAnswer v q
       index_answer q g = (indexed n).answer f e q g

@@ -1,6 +1,6 @@
 -- Laws of an expression as a chain: its first operand, then operators with their operands.
 -- Assumes nothing.
-use Rattle.std.specs.Prelude.{ℕ, ◌+◌, ◌*◌, ◌<◌, ◌≤◌, ◌≡◌, refl, true, List, ◌∷◌, length, drop}
+use Rattle.std.specs.Prelude.{ℕ, ◌+◌, ◌*◌, ◌<◌, ◌≤◌, ◌≡◌, refl, true, List, ◌∷◌, length, drop, Ok}
 use Rattle.std.proofs.Common.{sym, ap, ◌∙◌, arith}
 use Rattle.rules.specs.Text.Tokens.{Info, Token, tk, Op, op_kind, kind_no}
 use Rattle.rules.specs.Limits.{most_tokens}
@@ -10,7 +10,7 @@ use Rattle.laws_grammar.specs.Cited.Nesting.{operand_nest}
 use Rattle.laws_accepted.specs.Cited.Lengths.{SizedFactor}
 use Rattle.records.specs.Holds.{kind_byte}
 use Rattle.table.specs.Laws.Positions.{here, kind_here, record_within}
-use Rattle.operands.specs.declared.expressions.Evaluated.TheVariants.{Value as worked}
+use Rattle.operands.specs.declared.expressions.Value.{Value as Worked}
 use Rattle.table.specs.Operators.{tightness_at, ends_access, ends_expression}
 use Rattle.table.specs.Laws.Operators.{tightness_at_lem, tightness_range, no_operator, ends_access_lem, operator_ends}
 use Rattle.operands.specs.Scene.{Scene, OperandAt, OperandAnswer}
@@ -104,7 +104,7 @@ module _ {records values carriers : List ℕ} {s : Scene records values carriers
         sized = v.sized;
       }
 
-  unfoldable pub tail_at : {x n q : ℕ} → OperandAnswer operand_at (worked x n q) → TailAt s q
+  unfoldable pub tail_at : {w : Worked} → OperandAnswer operand_at (Ok w) → TailAt s w.next
   tail_at a = record {
     tail = v.tail;
     next = v.next;

@@ -1,6 +1,6 @@
 -- Laws of an expression of one operand, of two, and of the chain of more.
 -- Assumes nothing.
-use Rattle.std.specs.Prelude.{ℕ, ◌+◌, ◌*◌, ◌<◌, ◌≤◌, ◌≡◌, refl, length}
+use Rattle.std.specs.Prelude.{ℕ, ◌+◌, ◌*◌, ◌<◌, ◌≤◌, ◌≡◌, refl, length, Result, Ok, Err}
 use Rattle.std.proofs.Common.{sym, ◌∙◌, arith}
 use Rattle.std.proofs.Math.Path.{ap, ap₂, subst}
 use mathlib.Core.List.{List, [], ◌∷◌}
@@ -19,8 +19,8 @@ use Rattle.table.specs.Laws.Positions.{here, kind_here, record_within}
 use Rattle.values.specs.Operands.{Operands}
 use Rattle.values.specs.Operators.{op_at}
 use Rattle.values.specs.Laws.Operators.{op_at_kind}
-use Rattle.operands.specs.declared.expressions.Evaluated.{Evaluated}
-use Rattle.operands.specs.declared.expressions.Evaluated.TheVariants.{Value as worked, Fault as faulted}
+use Rattle.operands.specs.declared.accesses.Outside.{Outside}
+use Rattle.operands.specs.declared.expressions.Value.{Value as Worked}
 use Rattle.table.specs.Operators.{tightness_at}
 use Rattle.operands.specs.Scene.{Scene, words_of, ExpressionAt, ExpressionAnswer, OperandAt, OperandAnswer}
 use Rattle.operands.specs.Laws.Scene.{OperandTold}
@@ -89,19 +89,19 @@ module _ {records values carriers : List ℕ} {i depth : ℕ} (v : ExpressionAt 
   pub first_operand : OperandAt records values carriers i depth
   first_operand = operand_at first_in_lem
 
-  pub expression_faults : {r : Evaluated} {p : ℕ} → OperandTold records values carriers i depth r → r ≡ faulted p → ExpressionAnswer v (faulted p)
-  expression_faults {r} {p} f e = first_faults v.scene v.first v.tail p (subst (OperandAnswer (operand_at first_in_lem)) e (f (operand_at first_in_lem)))
+  pub expression_faults : {r : Result Worked Outside} {o : Outside} → OperandTold records values carriers i depth r → r ≡ Err o → ExpressionAnswer v (Err o)
+  expression_faults {r} {o} f e = first_faults v.scene v.first v.tail o.place (subst (OperandAnswer (operand_at first_in_lem)) e (f (operand_at first_in_lem)))
 
-  module _ {r : Evaluated} {a m at : ℕ} (f : OperandTold records values carriers i depth r) (e : r ≡ worked a m at) where
-    first_known : OperandAnswer (operand_at first_in_lem) (worked a m at)
+  module _ {r : Result Worked Outside} {w : Worked} (f : OperandTold records values carriers i depth r) (e : r ≡ Ok w) where
+    first_known : OperandAnswer (operand_at first_in_lem) (Ok w)
     first_known = subst (OperandAnswer (operand_at first_in_lem)) e (f (operand_at first_in_lem))
 
-    pub first_room : 8 * at + 8 ≤ length records
+    pub first_room : 8 * w.next + 8 ≤ length records
     first_room = tail_room (tail_at first_in_lem first_known)
 
-    module _ {k t : ℕ} (is : k ≡ kind_byte records at) (binds : t ≡ tightness_at k) where
+    module _ {k t : ℕ} (is : k ≡ kind_byte records w.next) (binds : t ≡ tightness_at k) where
       -- no operator stands behind it
-      pub expression_single : t ≡ 0 → ExpressionAnswer v (worked a m at)
+      pub expression_single : t ≡ 0 → ExpressionAnswer v (Ok w)
       unfolding evaluate tail_at
       expression_single z =
           let over = tail_over (tail_at first_in_lem first_known) (sym (looked is binds) ∙ z) in
@@ -117,7 +117,7 @@ module _ {records values carriers : List ℕ} {i depth : ℕ} (v : ExpressionAt 
         o : Operator (tail_at first_in_lem first_known)
         o = tail_operator (tail_at first_in_lem first_known) (λ z. nz (looked is binds ∙ z))
 
-        pub pair_at : PairAt records values carriers a m at depth
+        pub pair_at : PairAt records values carriers w.number w.bits w.next depth
         unfolding tail_at
         pair_at = record {
           scene = v.scene;
@@ -135,7 +135,7 @@ module _ {records values carriers : List ℕ} {i depth : ℕ} (v : ExpressionAt 
           left = first_known.comes;
         }
 
-        pub pair_answers : (q : Evaluated) → ((x : PairAt records values carriers a m at depth) → PairAnswer x q) → ExpressionAnswer v q
+        pub pair_answers : (q : Result Worked Outside) → ((x : PairAt records values carriers w.number w.bits w.next depth) → PairAnswer x q) → ExpressionAnswer v q
         unfolding pair_at tail_at
         pair_answers q g = by q (g pair_at)
           where
@@ -143,9 +143,9 @@ module _ {records values carriers : List ℕ} {i depth : ℕ} (v : ExpressionAt 
                 ≡ evaluate v.scene.table (words_of v.scene) (expr_of v.first (with_op o.op o.info o.right o.more))
             same = ap (λ t. evaluate v.scene.table (words_of v.scene) (expr_of v.first t)) o.are
 
-            by : (q : Evaluated) → PairAnswer pair_at q → ExpressionAnswer v q
-            by (worked x n p) a = record { comes = same ∙ a.comes; past = omega (arith, first_known.past, a.past); behind = a.behind }
-            by (faulted p) a = same ∙ a
+            by : (q : Result Worked Outside) → PairAnswer pair_at q → ExpressionAnswer v q
+            by (Ok u) a = record { comes = same ∙ a.comes; past = omega (arith, first_known.past, a.past); behind = a.behind }
+            by (Err y) a = same ∙ a
 
 -- the second operand
 module _ {records values carriers : List ℕ} {a m at depth : ℕ} (v : PairAt records values carriers a m at depth) where
@@ -173,15 +173,15 @@ module _ {records values carriers : List ℕ} {a m at depth : ℕ} (v : PairAt r
   pub second_operand : OperandAt records values carriers (at + 1) depth
   second_operand = operand_at second_in
 
-  pub pair_faults : {r : Evaluated} {p : ℕ} → OperandTold records values carriers (at + 1) depth r → r ≡ faulted p → PairAnswer v (faulted p)
-  pair_faults {r} {p} f e =
-      second_faults v.scene v.first v.op v.info v.right v.more m a p v.left (subst (OperandAnswer (operand_at second_in)) e (f (operand_at second_in)))
+  pub pair_faults : {r : Result Worked Outside} {o : Outside} → OperandTold records values carriers (at + 1) depth r → r ≡ Err o → PairAnswer v (Err o)
+  pair_faults {r} {o} f e =
+      second_faults v.scene v.first v.op v.info v.right v.more m a o.place v.left (subst (OperandAnswer (operand_at second_in)) e (f (operand_at second_in)))
 
-  module _ {r : Evaluated} {b n next : ℕ} (f : OperandTold records values carriers (at + 1) depth r) (e : r ≡ worked b n next) where
-    second_known : OperandAnswer (operand_at second_in) (worked b n next)
+  module _ {r : Result Worked Outside} {w : Worked} (f : OperandTold records values carriers (at + 1) depth r) (e : r ≡ Ok w) where
+    second_known : OperandAnswer (operand_at second_in) (Ok w)
     second_known = subst (OperandAnswer (operand_at second_in)) e (f (operand_at second_in))
 
-    pub second_room : 8 * next + 8 ≤ length records
+    pub second_room : 8 * w.next + 8 ≤ length records
     second_room = tail_room (tail_at second_in second_known)
 
     module _ {op : ℕ} (here_op : op ≡ kind_byte records at) where
@@ -189,7 +189,7 @@ module _ {records values carriers : List ℕ} {a m at depth : ℕ} (v : PairAt r
       op_is = ap op_at (here_op ∙ operator_here) ∙ op_at_kind v.op
 
       -- no more follows
-      module _ {k t : ℕ} (is : k ≡ kind_byte records next) (binds : t ≡ tightness_at k) (z : t ≡ 0) where
+      module _ {k t : ℕ} (is : k ≡ kind_byte records w.next) (binds : t ≡ tightness_at k) (z : t ≡ 0) where
         more_none : v.more ≡ no_more
         unfolding tail_at
         more_none = tail_over (tail_at second_in second_known) (sym (looked is binds) ∙ z)
@@ -200,30 +200,31 @@ module _ {records values carriers : List ℕ} {a m at depth : ℕ} (v : PairAt r
         alone_sized : Sized v.scene.outer v.scene.table (node v.op v.info (leaf (factor_of v.first)) (leaf (factor_of v.right)))
         alone_sized = subst (Sized v.scene.outer v.scene.table) alone v.sized
 
-        pub pair_operands : Operands (op_at op) m a n b
+        pub pair_operands : Operands (op_at op) m a w.bits w.number
         unfolding evaluate
         pair_operands =
-            rw op_is (node_operands v.scene.declares (words_of v.scene) v.op v.info (leaf (factor_of v.first)) (leaf (factor_of v.right)) m a n b
+            rw op_is (node_operands v.scene.declares (words_of v.scene) v.op v.info (leaf (factor_of v.first)) (leaf (factor_of v.right)) m a w.bits w.number
             v.left second_known.comes alone_sized)
 
-        pub pair_lengths : (m ≤ most_bits) × (n ≤ most_bits)
+        pub pair_lengths : (m ≤ most_bits) × (w.bits ≤ most_bits)
         pair_lengths = (
           (factor_bits v.scene.declares (words_of v.scene) (factor_of v.first) m a alone_sized.1 v.left).length.short,
-          (factor_bits v.scene.declares (words_of v.scene) (factor_of v.right) n b alone_sized.2 second_known.comes).length.short,
+          (factor_bits v.scene.declares (words_of v.scene) (factor_of v.right) w.bits w.number alone_sized.2 second_known.comes).length.short,
         )
 
-        pub pair_answer : {x l : ℕ} → x ≡ op_number (op_at op) m a n b → l ≡ op_bits (op_at op) m n → PairAnswer v (worked x l next)
+        pub pair_answer : {x l : ℕ} → x ≡ op_number (op_at op) m a w.bits w.number → l ≡ op_bits (op_at op) m w.bits
+            → PairAnswer v (Ok (record { number = x; bits = l; next = w.next }))
         unfolding evaluate tail_at
         pair_answer {x} {l} ex el = record {
           comes = ap (evaluate v.scene.table (words_of v.scene)) alone
-              ∙ node_comes v.scene.declares (words_of v.scene) v.op v.info (leaf (factor_of v.first)) (leaf (factor_of v.right)) m a n b v.left second_known.comes
-              ∙ ap₂ (λ l x. gives (value l x)) (sym (el ∙ ap (λ o. op_bits o m n) op_is)) (sym (ex ∙ ap (λ o. op_number o m a n b) op_is));
+              ∙ node_comes v.scene.declares (words_of v.scene) v.op v.info (leaf (factor_of v.first)) (leaf (factor_of v.right)) m a w.bits w.number v.left second_known.comes
+              ∙ ap₂ (λ l x. gives (value l x)) (sym (el ∙ ap (λ o. op_bits o m w.bits) op_is)) (sym (ex ∙ ap (λ o. op_number o m a w.bits w.number) op_is));
           past = omega (arith, second_known.past);
           behind = (tail_at second_in second_known).reads ∙ ap (λ t. tail_tokens t (v.next ∷ v.rest)) more_none;
         }
 
       -- more follows
-      pub chain_at : ChainAt records values carriers op a m b n next depth
+      pub chain_at : ChainAt records values carriers op a m w.number w.bits w.next depth
       unfolding tail_at
       chain_at = record {
         scene = v.scene;
@@ -241,6 +242,6 @@ module _ {records values carriers : List ℕ} {a m at depth : ℕ} (v : PairAt r
         known = second_known.comes;
       }
 
-      pub chain_answers : (q : Evaluated) → ((x : ChainAt records values carriers op a m b n next depth) → ChainAnswer x q) → PairAnswer v q
+      pub chain_answers : (q : Result Worked Outside) → ((x : ChainAt records values carriers op a m w.number w.bits w.next depth) → ChainAnswer x q) → PairAnswer v q
       unfolding chain_at tail_at
       chain_answers q g = g chain_at

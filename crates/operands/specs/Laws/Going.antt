@@ -1,6 +1,6 @@
 -- The loop over a chain: some operators wait, an operand is worked out, and the rest of the chain builds the tree on.
 -- Assumes nothing.
-use Rattle.std.specs.Prelude.{ℕ, ◌+◌, ◌-◌, ◌*◌, ◌<◌, ◌≤◌, ◌≡◌, refl, List, [], ◌∷◌, length, drop}
+use Rattle.std.specs.Prelude.{ℕ, ◌+◌, ◌-◌, ◌*◌, ◌<◌, ◌≤◌, ◌≡◌, refl, List, [], ◌∷◌, length, drop, Result, Ok, Err}
 use Rattle.std.proofs.Common.{sym, ◌∙◌, arith}
 use Rattle.std.proofs.Math.Path.{ap, subst}
 use Rattle.std.proofs.Math.ListN.{length-set}
@@ -14,8 +14,8 @@ use Rattle.laws_grammar.specs.Grammar.Shunting.{waiting, chain}
 use Rattle.laws_grammar.specs.Cited.Shunting.{looser, settled}
 use Rattle.laws_accepted.specs.Cited.Lengths.{Sized, SizedFactor}
 use Rattle.records.specs.Holds.{kind_byte}
-use Rattle.operands.specs.declared.expressions.Evaluated.{Evaluated}
-use Rattle.operands.specs.declared.expressions.Evaluated.TheVariants.{Value as worked, Fault as faulted}
+use Rattle.operands.specs.declared.accesses.Outside.{Outside}
+use Rattle.operands.specs.declared.expressions.Value.{Value as Worked}
 use Rattle.table.specs.Operators.{tightness_at}
 use Rattle.table.specs.Laws.Operators.{tightness_at_lem, tightness_range}
 use Rattle.operands.specs.Scene.{words_of, OperandAt, OperandAnswer}
@@ -123,7 +123,7 @@ module _ {records values carriers : List ℕ} {k a m b n p depth : ℕ} {ops num
     abbrev SettlesTold : ℕ → ℕ → ℕ → Type 0
     SettlesTold count' x' l' = (a : SettleAt ops numbers lengths count x l tight) → Settles a count' x' l'
 
-    pub going_ends : tight ≡ 0 → {count' x' l' : ℕ} → SettlesTold count' x' l' → ChainAnswer v (worked x' l' q)
+    pub going_ends : tight ≡ 0 → {count' x' l' : ℕ} → SettlesTold count' x' l' → ChainAnswer v (Ok (record { number = x'; bits = l'; next = q }))
     unfolding links_of chain settle_at
     going_ends z f =
         let r = f settle_at in
@@ -185,11 +185,11 @@ module _ {records values carriers : List ℕ} {k a m b n p depth : ℕ} {ops num
       next_operand = operand_at next_in
 
       -- it comes to a value
-      module _ {r : Evaluated} {y z q' : ℕ} (h : OperandTold records values carriers (q + 1) depth r) (e : r ≡ worked y z q') where
-        next_known : OperandAnswer (operand_at next_in) (worked y z q')
+      module _ {r : Result Worked Outside} {w : Worked} (h : OperandTold records values carriers (q + 1) depth r) (e : r ≡ Ok w) where
+        next_known : OperandAnswer (operand_at next_in) (Ok w)
         next_known = subst (OperandAnswer (operand_at next_in)) e (h (operand_at next_in))
 
-        pub going_falls : length records - q' < length records - q
+        pub going_falls : length records - w.next < length records - q
         going_falls = omega (arith, next_known.past, going_room)
 
       module _ {count' x' l' : ℕ} (f : SettlesTold count' x' l') where
@@ -201,19 +201,19 @@ module _ {records values carriers : List ℕ} {k a m b n p depth : ℕ} {ops num
         slot =
             omega (arith, it_settles.left, under_few (tightness o.op) (tree_left tight g.waits g.tree) (tightness_range o.op).0 left_under, (tightness_range o.op).1)
 
-        pub going_faults : {a : Evaluated} {y : ℕ} → OperandTold records values carriers (q + 1) depth a → a ≡ faulted y → ChainAnswer v (faulted y)
+        pub going_faults : {a : Result Worked Outside} {y : Outside} → OperandTold records values carriers (q + 1) depth a → a ≡ Err y → ChainAnswer v (Err y)
         unfolding evaluate settle_at next_in
         going_faults {a} {y} h e =
             ap (evaluate v.scene.table (words_of v.scene)) (sym next_builds)
-            ∙ tree_faults v.scene.table (words_of v.scene) 70 y (links_of o.more) waits_next (leaf (factor_of o.right))
+            ∙ tree_faults v.scene.table (words_of v.scene) 70 y.place (links_of o.more) waits_next (leaf (factor_of o.right))
             ((value l' x', it_settles.comes), waits_given v.scene.table (words_of v.scene) ops numbers lengths (tree_left tight g.waits g.tree) left_waits)
             (subst (OperandAnswer (operand_at next_in)) e (h (operand_at next_in)))
 
-        pub going_turn : {ops' numbers' lengths' : List ℕ} → Waited ops numbers lengths count' x' l' c ops' numbers' lengths' → {a : Evaluated} {y z q' : ℕ}
-            → OperandTold records values carriers (q + 1) depth a → a ≡ worked y z q'
-            → Going v ops' numbers' lengths' (count' + 1) y z q'
+        pub going_turn : {ops' numbers' lengths' : List ℕ} → Waited ops numbers lengths count' x' l' c ops' numbers' lengths' → {a : Result Worked Outside} {u : Worked}
+            → OperandTold records values carriers (q + 1) depth a → a ≡ Ok u
+            → Going v ops' numbers' lengths' (count' + 1) u.number u.bits u.next
         unfolding evaluate settle_at next_in tail_at
-        going_turn w {a} {y} {z} {q'} h e = rw (w.op, w.number, w.bits) (record {
+        going_turn w {a} {u} h e = rw (w.op, w.number, w.bits) (record {
           waits = waits_next;
           tree = leaf (factor_of o.right);
           tail = o.more;

@@ -1,6 +1,6 @@
 -- Laws of an operand, told by the kind of its first token: an access, a constant, a parenthesis or a NOT.
 -- Assumes nothing.
-use Rattle.std.specs.Prelude.{ℕ, suc, ◌+◌, ◌-◌, ◌*◌, ◌<◌, ◌≤◌, max, ◌≡◌, refl, Bool, true, false, List, ◌∷◌, eqb}
+use Rattle.std.specs.Prelude.{ℕ, suc, ◌+◌, ◌-◌, ◌*◌, ◌<◌, ◌≤◌, max, ◌≡◌, refl, Bool, true, false, List, ◌∷◌, eqb, Result, Ok, Err}
 use Rattle.std.proofs.Math.Path.{sym, ap, subst}
 use Rattle.std.proofs.Common.{◌∙◌, arith, eq-eqb, ne_eqb}
 use Rattle.std.proofs.Math.ListN.{length}
@@ -16,10 +16,9 @@ use Rattle.laws_grammar.specs.Cited.Nesting.{operand_nest, tail_nest}
 use Rattle.laws_accepted.specs.Cited.Lengths.{SizedFactor}
 use Rattle.records.specs.Holds.{kind_byte, size_byte, value_cell_of}
 use Rattle.table.specs.Laws.Positions.{Here, here, kind_here, record_within, value_within}
-use Rattle.operands.specs.declared.accesses.Located.{Located}
-use Rattle.operands.specs.declared.accesses.Located.TheVariants.{Field as located, Fault as outside}
-use Rattle.operands.specs.declared.expressions.Evaluated.{Evaluated}
-use Rattle.operands.specs.declared.expressions.Evaluated.TheVariants.{Value as worked, Fault as faulted}
+use Rattle.operands.specs.declared.accesses.Field.{Field as Located}
+use Rattle.operands.specs.declared.accesses.Outside.{Outside}
+use Rattle.operands.specs.declared.expressions.Value.{Value as Worked}
 use Rattle.operands.specs.Answers.{Readable, read_at, Closable, closed, Invertible, inverted}
 use Rattle.operands.specs.Scene.{words_of, ExpressionAt, ExpressionAnswer, OperandAt, OperandAnswer, AccessAt, AccessAnswer}
 use Rattle.operands.specs.Laws.Scene.{ExpressionTold, OperandTold, AccessTold}
@@ -57,12 +56,13 @@ module _ {records values carriers : List ℕ} {i depth : ℕ} (v : OperandAt rec
   -- an access
   record Named : Type 0 where
     view : AccessAt records values carriers i depth
-    readable : (r : Located) → AccessTold records values carriers i depth r → Readable carriers r
-    answer : (r : Located) {q : Evaluated} → AccessTold records values carriers i depth r → q ≡ read_at carriers r → OperandAnswer v q
+    readable : (f : Located) → AccessAnswer view (Ok f) → Readable carriers f
+    answer : (f : Located) → AccessAnswer view (Ok f) → OperandAnswer v (Ok (read_at carriers f))
+    faults : (o : Outside) → AccessAnswer view (Err o) → OperandAnswer v (Err o)
 
   named : {k : ℕ} → k ≡ kind_byte records i → k ≡ kind_no Name → Named
   unfolding factor_of actions.access
-  named e n = record { view = view; readable = λ r f. readable r (f view); answer = λ r f q. subst (OperandAnswer v) (sym q) (answer r (f view)) }
+  named e n = record { view = view; readable = readable; answer = answer; faults = faults }
     where
       q : (n : Info) × (s : Subscript) × (b : Bits) × (v.operand ≡ access n s b)
       q = an_access v.operand (sym first_kind ∙ sym e ∙ n)
@@ -84,18 +84,17 @@ module _ {records values carriers : List ℕ} {i depth : ℕ} (v : OperandAt rec
       within : (f : Field) → evaluate_access v.scene.table (words_of v.scene) (actions.access q.0 q.1 q.2) ≡ gives f → Within v.scene.table f
       within f = access_within v.scene.declares (words_of v.scene) (actions.access q.0 q.1 q.2) f view.sized
 
-      readable : (r : Located) → AccessAnswer view r → Readable carriers r
-      readable (located w l n p) a =
-          let g = within (record { word = w; low = l; size = n }) a.comes in
+      readable : (f : Located) → AccessAnswer view (Ok f) → Readable carriers f
+      readable f a =
+          let g = within (record { word = f.word; low = f.low; size = f.size }) a.comes in
           (omega (arith, g.word, v.scene.words), (omega (arith, g.some, g.fits), g.fits))
-      readable (outside p) a = tt
 
       whole : evaluate_factor v.scene.table (words_of v.scene) (factor_of v.operand) ≡ evaluate_factor v.scene.table (words_of v.scene) (factor_of (access q.0 q.1 q.2))
       whole = ap (λ o. evaluate_factor v.scene.table (words_of v.scene) (factor_of o)) q.3
 
-      answer : (r : Located) → AccessAnswer view r → OperandAnswer v (read_at carriers r)
-      answer (located w l n p) a =
-          let f : Field = record { word = w; low = l; size = n } in
+      answer : (r : Located) → AccessAnswer view (Ok r) → OperandAnswer v (Ok (read_at carriers r))
+      answer r a =
+          let f : Field = record { word = r.word; low = r.low; size = r.size } in
           record {
             comes =
                 whole ∙ read_comes v.scene.table (words_of v.scene) q.0 q.1 q.2 f a.comes
@@ -103,23 +102,30 @@ module _ {records values carriers : List ℕ} {i depth : ℕ} (v : OperandAt rec
             past = a.past;
             behind = a.behind;
           }
-      answer (outside p) a = whole ∙ read_faults v.scene.table (words_of v.scene) q.0 q.1 q.2 70 p a
+
+      faults : (o : Outside) → AccessAnswer view (Err o) → OperandAnswer v (Err o)
+      faults o a = whole ∙ read_faults v.scene.table (words_of v.scene) q.0 q.1 q.2 70 o.place a
 
   module _ {k : ℕ} (e : k ≡ kind_byte records i) (n : k ≡ kind_no Name) where
     pub name_view : AccessAt records values carriers i depth
     name_view = (named e n).view
 
-    pub name_readable : (r : Located) → AccessTold records values carriers i depth r → Readable carriers r
-    name_readable r f = (named e n).readable r f
+    module _ {r : Result Located Outside} (told : AccessTold records values carriers i depth r) where
+      pub name_readable : {f : Located} → r ≡ Ok f → Readable carriers f
+      name_readable {f} is = (named e n).readable f (subst (AccessAnswer (named e n).view) is (told (named e n).view))
 
-    pub name_answer : (r : Located) {q : Evaluated} → AccessTold records values carriers i depth r → q ≡ read_at carriers r → OperandAnswer v q
-    name_answer r f q = (named e n).answer r f q
+      pub name_answer : {f : Located} {q : Worked} → r ≡ Ok f → q ≡ read_at carriers f → OperandAnswer v (Ok q)
+      name_answer {f} is q =
+          subst (λ q. OperandAnswer v (Ok q)) (sym q) ((named e n).answer f (subst (AccessAnswer (named e n).view) is (told (named e n).view)))
+
+      pub name_faults : {o : Outside} → r ≡ Err o → OperandAnswer v (Err o)
+      name_faults {o} is = (named e n).faults o (subst (AccessAnswer (named e n).view) is (told (named e n).view))
 
   -- a constant
   pub value_room : 8 * i + 8 ≤ length values
   value_room = value_within v.scene.holds i first_here.within
 
-  pub constant_answer : {k : ℕ} → k ≡ kind_byte records i → k ≡ kind_no Const → {x n : ℕ} → x ≡ value_cell_of values i → n ≡ size_byte records i → OperandAnswer v (worked x n (i + 1))
+  pub constant_answer : {k : ℕ} → k ≡ kind_byte records i → k ≡ kind_no Const → {x n : ℕ} → x ≡ value_cell_of values i → n ≡ size_byte records i → OperandAnswer v (Ok (record { number = x; bits = n; next = i + 1 }))
   unfolding factor_of evaluate_factor
   constant_answer e c {x} {n} d m =
       let q = a_constant v.operand (sym first_kind ∙ sym e ∙ c) in
@@ -138,16 +144,18 @@ module _ {records values carriers : List ℕ} {i depth : ℕ} (v : OperandAt rec
   record Group : Type 0 where
     deep : 0 < depth
     view : ExpressionAt records values carriers (i + 1) (depth - 1)
-    closable : (r : Evaluated) → ExpressionTold records values carriers (i + 1) (depth - 1) r → Closable r
-    answer : (r : Evaluated) {q : Evaluated} → ExpressionTold records values carriers (i + 1) (depth - 1) r → q ≡ closed r → OperandAnswer v q
+    closable : (w : Worked) → ExpressionAnswer view (Ok w) → Closable w
+    answer : (w : Worked) → ExpressionAnswer view (Ok w) → OperandAnswer v (Ok (closed w))
+    faults : (o : Outside) → ExpressionAnswer view (Err o) → OperandAnswer v (Err o)
 
   group : {k : ℕ} → k ≡ kind_byte records i → k ≡ kind_no LPar → Group
   unfolding factor_of evaluate_factor expr_of
   group e c = record {
     deep = omega (arith, nest);
     view = view;
-    closable = λ r f. closable r (f view);
-    answer = λ r f q. subst (OperandAnswer v) (sym q) (answer r (f view));
+    closable = closable;
+    answer = answer;
+    faults = λ o a. whole ∙ a;
   }
     where
       q : (l : Info) × (p : Operand) × (t : Tail) × (r : Info) × (v.operand ≡ parens l p t r)
@@ -173,13 +181,11 @@ module _ {records values carriers : List ℕ} {i depth : ℕ} (v : OperandAt rec
           ≡ evaluate_factor v.scene.table (words_of v.scene) (factor_of (parens q.0 q.1 q.2 q.3))
       whole = ap (λ o. evaluate_factor v.scene.table (words_of v.scene) (factor_of o)) q.4
 
-      closable : (r : Evaluated) → ExpressionAnswer view r → Closable r
-      closable (worked x n p) a = omega (arith, (here v.scene.tokens p _ _ a.behind).within, v.scene.holds.few)
-      closable (faulted p) a = tt
+      closable : (w : Worked) → ExpressionAnswer view (Ok w) → Closable w
+      closable w a = omega (arith, (here v.scene.tokens w.next _ _ a.behind).within, v.scene.holds.few)
 
-      answer : (r : Evaluated) → ExpressionAnswer view r → OperandAnswer v (closed r)
-      answer (worked x n p) a = record { comes = whole ∙ a.comes; past = omega (arith, a.past); behind = (here v.scene.tokens p _ _ a.behind).behind }
-      answer (faulted p) a = whole ∙ a
+      answer : (w : Worked) → ExpressionAnswer view (Ok w) → OperandAnswer v (Ok (closed w))
+      answer w a = record { comes = whole ∙ a.comes; past = omega (arith, a.past); behind = (here v.scene.tokens w.next _ _ a.behind).behind }
 
   -- NOTs
   abbrev pub operand_in : OperandIn records i
@@ -197,8 +203,9 @@ module _ {records values carriers : List ℕ} {i depth : ℕ} (v : OperandAt rec
     before : i ≤ p
     falls : not_first records p < not_first records i
     view : OperandAt records values carriers p depth
-    invertible : (r : Evaluated) → OperandTold records values carriers p depth r → Invertible r
-    answer : (r : Evaluated) {q : Evaluated} → OperandTold records values carriers p depth r → q ≡ inverted (p - i) r → OperandAnswer v q
+    invertible : (w : Worked) → OperandAnswer view (Ok w) → Invertible w
+    answer : (w : Worked) → OperandAnswer view (Ok w) → OperandAnswer v (Ok (inverted (p - i) w))
+    faults : (o : Outside) → OperandAnswer view (Err o) → OperandAnswer v (Err o)
 
   all_nots : (kind_byte records i ≡ kind_no Name → ⊥) → (kind_byte records i ≡ kind_no Const → ⊥) → {k : ℕ} → k ≡ kind_byte records i → (k ≡ kind_no LPar → ⊥)
       → {p : ℕ} → ((o : OperandIn records i) → Bared o p) → Negated p
@@ -206,8 +213,9 @@ module _ {records values carriers : List ℕ} {i depth : ℕ} (v : OperandAt rec
     before = omega (arith, b.past);
     falls = falls;
     view = view;
-    invertible = λ r g. invertible r (g view);
-    answer = λ r g q. subst (OperandAnswer v) (sym q) (answer r (g view));
+    invertible = invertible;
+    answer = answer;
+    faults = λ o a. nots_faulty v.scene.table (words_of v.scene) v.operand 70 o.place a;
   }
     where
       b : Bared operand_in p
@@ -240,21 +248,19 @@ module _ {records values carriers : List ℕ} {i depth : ℕ} (v : OperandAt rec
         sized = bare_sized v.scene.outer v.scene.table v.operand v.sized;
       }
 
-      invertible : (r : Evaluated) → OperandAnswer view r → Invertible r
-      invertible (worked x n q) a =
-          let w = factor_bits v.scene.declares (words_of v.scene) (factor_of (bare v.operand)) n x view.sized a.comes in
-          (w.length.short, w.fits)
-      invertible (faulted q) a = tt
+      invertible : (w : Worked) → OperandAnswer view (Ok w) → Invertible w
+      invertible w a =
+          let f = factor_bits v.scene.declares (words_of v.scene) (factor_of (bare v.operand)) w.bits w.number view.sized a.comes in
+          (f.length.short, f.fits)
 
-      answer : (r : Evaluated) → OperandAnswer view r → OperandAnswer v (inverted (p - i) r)
-      answer (worked x n q) a =
+      answer : (w : Worked) → OperandAnswer view (Ok w) → OperandAnswer v (Ok (inverted (p - i) w))
+      answer w a =
           let so_many : p - i ≡ nots v.operand = omega (arith, b.past) in
           record {
-            comes = rw so_many (nots_given v.scene.table (words_of v.scene) v.operand n x (invertible (worked x n q) a).1 a.comes);
+            comes = rw so_many (nots_given v.scene.table (words_of v.scene) v.operand w.bits w.number (invertible w a).1 a.comes);
             past = omega (arith, a.past, b.past);
             behind = a.behind;
           }
-      answer (faulted q) a = nots_faulty v.scene.table (words_of v.scene) v.operand 70 q a
 
 module _ {records values carriers : List ℕ} {i depth : ℕ} (v : NestedAt records values carriers i depth) where
   pub nested_room : 8 * i + 8 ≤ length records
@@ -273,11 +279,19 @@ module _ {records values carriers : List ℕ} {i depth : ℕ} (v : NestedAt reco
     pub group_view : ExpressionAt records values carriers (i + 1) (depth - 1)
     group_view = (group v.view e c).view
 
-    pub group_closable : (r : Evaluated) → ExpressionTold records values carriers (i + 1) (depth - 1) r → Closable r
-    group_closable r f = (group v.view e c).closable r f
+    module _ {r : Result Worked Outside} (told : ExpressionTold records values carriers (i + 1) (depth - 1) r) where
+      pub group_closable : {w : Worked} → r ≡ Ok w → Closable w
+      unfolding group group_view
+      group_closable {w} is = (group v.view e c).closable w (subst (ExpressionAnswer group_view) is (told group_view))
 
-    pub group_answer : (r : Evaluated) {q : Evaluated} → ExpressionTold records values carriers (i + 1) (depth - 1) r → q ≡ closed r → OperandAnswer v.view q
-    group_answer r f q = (group v.view e c).answer r f q
+      pub group_answer : {w q : Worked} → r ≡ Ok w → q ≡ closed w → OperandAnswer v.view (Ok q)
+      unfolding group group_view
+      group_answer {w} is q =
+          subst (λ q. OperandAnswer v.view (Ok q)) (sym q) ((group v.view e c).answer w (subst (ExpressionAnswer group_view) is (told group_view)))
+
+      pub group_faults : {o : Outside} → r ≡ Err o → OperandAnswer v.view (Err o)
+      unfolding group group_view
+      group_faults {o} is = (group v.view e c).faults o (subst (ExpressionAnswer group_view) is (told group_view))
 
   module _ {k p : ℕ} (e : k ≡ kind_byte records i) (l : k ≡ kind_no LPar → ⊥) (f : (o : OperandIn records i) → Bared o p) where
     negated_by : Negated v.view p
@@ -292,17 +306,24 @@ module _ {records values carriers : List ℕ} {i depth : ℕ} (v : NestedAt reco
     pub nots_view : OperandAt records values carriers p depth
     nots_view = negated_by.view
 
-    pub nots_invertible : (r : Evaluated) → OperandTold records values carriers p depth r → Invertible r
-    nots_invertible r g = negated_by.invertible r g
+    module _ {r : Result Worked Outside} (told : OperandTold records values carriers p depth r) where
+      pub nots_invertible : {w : Worked} → r ≡ Ok w → Invertible w
+      unfolding negated_by nots_view
+      nots_invertible {w} is = negated_by.invertible w (subst (OperandAnswer nots_view) is (told nots_view))
 
-    pub nots_answer : (r : Evaluated) {q : Evaluated} → OperandTold records values carriers p depth r → q ≡ inverted (p - i) r → OperandAnswer v.view q
-    nots_answer r g q = negated_by.answer r g q
+      pub nots_answer : {w q : Worked} → r ≡ Ok w → q ≡ inverted (p - i) w → OperandAnswer v.view (Ok q)
+      unfolding negated_by nots_view
+      nots_answer {w} is q = subst (λ q. OperandAnswer v.view (Ok q)) (sym q) (negated_by.answer w (subst (OperandAnswer nots_view) is (told nots_view)))
+
+      pub nots_faults : {o : Outside} → r ≡ Err o → OperandAnswer v.view (Err o)
+      unfolding negated_by nots_view
+      nots_faults {o} is = negated_by.faults o (subst (OperandAnswer nots_view) is (told nots_view))
 
 module _ {records values carriers : List ℕ} {i depth : ℕ} (v : OperandAt records values carriers i depth) {k : ℕ} (e : k ≡ kind_byte records i)
     (n : k ≡ kind_no Name → ⊥) (c : k ≡ kind_no Const → ⊥) where
   pub nested_at : NestedAt records values carriers i depth
   nested_at = record { view = v; no_name = λ z. n (e ∙ z); no_constant = λ z. c (e ∙ z) }
 
-  pub nested_answers : (r : Evaluated) → ((x : NestedAt records values carriers i depth) → OperandAnswer x.view r) → OperandAnswer v r
+  pub nested_answers : (r : Result Worked Outside) → ((x : NestedAt records values carriers i depth) → OperandAnswer x.view r) → OperandAnswer v r
   unfolding nested_at
   nested_answers r f = f nested_at

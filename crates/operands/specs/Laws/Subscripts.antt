@@ -1,6 +1,7 @@
 -- Laws of an access whose subscript is worked out: it lies outside of the words, or there is its word with its bits.
 -- Assumes nothing.
-use Rattle.std.specs.Prelude.{ℕ, ◌+◌, ◌-◌, ◌*◌, ◌<◌, ◌≤◌, min, max, ◌≡◌, Bool, true, false, ◌&&◌, List, ◌∷◌, leb, length, drop}
+use Rattle.std.specs.Prelude.{ℕ, ◌+◌, ◌-◌, ◌*◌, ◌<◌, ◌≤◌, min, max, ◌≡◌, Bool, true, false, ◌&&◌, List, ◌∷◌, leb, length, drop, Some, None, Ok, Err}
+use Rattle.std.specs.Prelude.{Option as Maybe}
 use Rattle.std.proofs.Math.Path.{refl, ap, subst}
 use Rattle.std.proofs.Common.{sym, ap₂, ◌∙◌, arith, length-drop, leb-true}
 use Rattle.std.proofs.Math.Option.{Option, none, some}
@@ -17,10 +18,8 @@ use Rattle.table.specs.Bits as table
 use Rattle.table.specs.Bits.{BitsView, bits_size}
 use Rattle.table.specs.Laws.Bits.{access_bits_lem, bits_length}
 use Rattle.promise.specs.Accesses.{left_name, right_name}
-use Rattle.operands.specs.declared.accesses.Located.{Located}
-use Rattle.operands.specs.declared.accesses.Located.TheVariants.{Fault as outside}
-use Rattle.operands.specs.declared.accesses.Word.{Word}
-use Rattle.operands.specs.declared.accesses.Word.TheVariants.{Number, Outside}
+use Rattle.operands.specs.declared.accesses.Field.{Field as Located}
+use Rattle.operands.specs.declared.accesses.Outside.{Outside}
 use Rattle.table.specs.Laws.Operators.{no_bits}
 use Rattle.operands.specs.Cells.{cell_left, cell_right, shown_word, located_at}
 use Rattle.operands.specs.Subscripts.{BitsAt, SubscriptedAt, SubscriptedAnswer}
@@ -100,36 +99,36 @@ module _ {records values : List ℕ} {i n p : ℕ} (v : SubscriptedAt records va
       ∙ ap (λ (o : Option ℕ). then (word_or70 v.name.place o) (λ k. gives (record { word = v.reached.first + k; low = access_low v.reached v.behind.bits; size = access_bits v.reached v.behind.bits }))) q
 
   -- the word is looked for between the names that the cell has
-  module _ {l r : ℕ} {w : Word} (el : l ≡ cell_left (value_cell_of values i)) (er : r ≡ cell_right (value_cell_of values i)) (e : w ≡ shown_word (from_left (names l r) n)) where
+  module _ {l r : ℕ} {w : Maybe ℕ} (el : l ≡ cell_left (value_cell_of values i)) (er : r ≡ cell_right (value_cell_of values i)) (e : w ≡ shown_word (from_left (names l r) n)) where
     found : w ≡ shown_word (from_left v.words n)
     found =
         e ∙ ap₂ (λ l r. shown_word (from_left (names l r) n)) (el ∙ v.parts.left ∙ ap left_name v.has) (er ∙ v.parts.right ∙ ap right_name v.has)
 
-    pub outside_answer : w ≡ Outside → {q : ℕ} → q ≡ place_cell records i → SubscriptedAnswer v (outside q)
+    pub outside_answer : w ≡ None → {q : ℕ} → q ≡ place_cell records i → SubscriptedAnswer v (Err (record { place = q }))
     unfolding then word_or70
     outside_answer o {q} at = by (from_left v.words n) refl (sym found ∙ o)
       where
         place : q ≡ v.name.place
         place = at ∙ (v.behind.holds.entry i v.within).place ∙ ap (λ (t : Token). t.info.place) v.here
 
-        by : (m : Option ℕ) → from_left v.words n ≡ m → shown_word m ≡ Outside → SubscriptedAnswer v (outside q)
+        by : (m : Option ℕ) → from_left v.words n ≡ m → shown_word m ≡ None → SubscriptedAnswer v (Err (record { place = q }))
         by none f z = as_field none f ∙ ap (faulty 70) (sym place)
         by (some k) f z = impossible (cc)
 
-    module _ {k : ℕ} (o : w ≡ Number k) where
+    module _ {k : ℕ} (o : w ≡ Some k) where
       is_at : from_left v.words n ≡ some k
       is_at = by (from_left v.words n) (sym found ∙ o)
         where
-          by : (m : Option ℕ) → shown_word m ≡ Number k → m ≡ some k
+          by : (m : Option ℕ) → shown_word m ≡ Some k → m ≡ some k
           by none z = impossible (cc)
           by (some j) z = let h : j ≡ k = cc in ap some h
 
       pub word_small : k < 65536
       word_small = far v.words n k v.left_small v.right_small is_at
 
-      pub word_answer : {q : ℕ} {d : Located} → SizeTold records p q → d ≡ located_at (value_cell_of values i) k (p + q) → SubscriptedAnswer v d
+      pub word_answer : {q : ℕ} {d : Located} → SizeTold records p q → d ≡ located_at (value_cell_of values i) k (p + q) → SubscriptedAnswer v (Ok d)
       unfolding then word_or70
-      word_answer {q} size is = subst (SubscriptedAnswer v) (sym is) (record {
+      word_answer {q} size is = subst (λ d. SubscriptedAnswer v (Ok d)) (sym is) (record {
         comes = as_field (some k) is_at ∙ same k v.parts.first v.parts.low v.parts.bits;
         past = let b = v.before in omega arith;
         behind = behind_bits v.behind size;

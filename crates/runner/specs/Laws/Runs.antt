@@ -1,6 +1,6 @@
 -- Laws of the run with a budget: what a turn of its loop keeps.
 -- Assumes nothing.
-use Rattle.std.specs.Prelude.{ℕ, zero, suc, ◌+◌, ◌-◌, ◌<◌, ◌≤◌, ◌≡◌, refl, List, [], ◌∷◌, length, get_or, set}
+use Rattle.std.specs.Prelude.{ℕ, zero, suc, ◌+◌, ◌-◌, ◌<◌, ◌≤◌, ◌≡◌, refl, List, [], ◌∷◌, length, get_or, set, Result, Ok, Err}
 use Rattle.std.proofs.Math.Path.{sym, ap}
 use Rattle.std.proofs.Common.{◌∙◌, subst, add-one, get_or-set_same, get_or-set_other}
 use native.Mathlib.Omega.{arith}
@@ -16,10 +16,11 @@ use Rattle.promise.specs.Laws.Reached.{AllReached, reached_next}
 use Rattle.operands.specs.Scene.{carrier_words}
 use Rattle.runner.specs.declared.runs.Ended.TheVariants.{Done, Stopped, Paused, Fault as Broken}
 use Rattle.stepping.specs.declared.steps.Moved.{Moved}
-use Rattle.stepping.specs.declared.steps.Moved.TheVariants.{Go, Call, Stop, Fault}
+use Rattle.stepping.specs.declared.steps.Moved.TheVariants.{Go, Call, Stop}
+use Rattle.stepping.specs.declared.steps.Fault.{Fault}
 use Rattle.stepping.specs.Steps.{returning, control, Keeps, StepAt, StepAnswer}
 use Rattle.runner.specs.declared.turns.Turned.{Turned}
-use Rattle.runner.specs.declared.turns.Turned.TheVariants.{At, Over, Stop as Standing, Fault as Faulty}
+use Rattle.runner.specs.declared.turns.Turned.TheVariants.{At, Over, Stop as Standing}
 use Rattle.runner.specs.Runs.{stack_of, RunAt, RunAnswer}
 use Rattle.runner.specs.Turns.{turned_to, Room, Turns}
 
@@ -78,13 +79,13 @@ from_after s t f (gives w) n σ e = (w.number, from_put s w.carriers t (f w.numb
 from_after s t f (faulty m p) n σ e = absurd (let z : ◌≡◌ {A = ℕ} 0 1 = cc in omega arith)
 
 -- just a fault leads to a fault, and there the carriers are kept
-faulted_kept : {before after : List ℕ} (r : Moved) (σ : List ℕ) {m p : ℕ} → Keeps r before after → control r σ ≡ broken m p → after ≡ before
-faulted_kept (Go zero) [] k e = absurd (let z : ◌≡◌ {A = ℕ} 0 1 = cc in omega arith)
-faulted_kept (Go zero) (n ∷ σ) k e = absurd (let z : ◌≡◌ {A = ℕ} 0 1 = cc in omega arith)
-faulted_kept (Go (suc n)) σ k e = absurd (let z : ◌≡◌ {A = ℕ} 0 1 = cc in omega arith)
-faulted_kept (Call f b) σ k e = absurd (let z : ◌≡◌ {A = ℕ} 0 1 = cc in omega arith)
-faulted_kept Stop σ k e = absurd (let z : ◌≡◌ {A = ℕ} 0 1 = cc in omega arith)
-faulted_kept (Fault m p) σ k e = k
+faulted_kept : {before after : List ℕ} (r : Result Moved Fault) (σ : List ℕ) {m p : ℕ} → Keeps r before after → control r σ ≡ broken m p → after ≡ before
+faulted_kept (Ok (Go zero)) [] k e = absurd (let z : ◌≡◌ {A = ℕ} 0 1 = cc in omega arith)
+faulted_kept (Ok (Go zero)) (n ∷ σ) k e = absurd (let z : ◌≡◌ {A = ℕ} 0 1 = cc in omega arith)
+faulted_kept (Ok (Go (suc n))) σ k e = absurd (let z : ◌≡◌ {A = ℕ} 0 1 = cc in omega arith)
+faulted_kept (Ok (Call f b)) σ k e = absurd (let z : ◌≡◌ {A = ℕ} 0 1 = cc in omega arith)
+faulted_kept (Ok Stop) σ k e = absurd (let z : ◌≡◌ {A = ℕ} 0 1 = cc in omega arith)
+faulted_kept (Err f) σ k e = k
 
 -- THE LOOP: at an instruction, with a stack, the machine has the rest of the run to do
 pub record Running {records values decls before : List ℕ} {start : ℕ} (v : RunAt records values decls before start) (budget : ℕ) (carriers σ : List ℕ) (at steps : ℕ) : Type 0 where
@@ -139,7 +140,7 @@ module _ {records values decls before : List ℕ} {start : ℕ} (v : RunAt recor
         }
 
     -- the steps, by what each comes to
-    module _ (more : steps < budget) {after : List ℕ} {r : Moved} (told : (u : StepAt records values decls carriers at) → StepAnswer u after r) where
+    module _ (more : steps < budget) {after : List ℕ} {r : Result Moved Fault} (told : (u : StepAt records values decls carriers at) → StepAnswer u after r) where
       abbrev now_words : Carriers
       now_words = carrier_words (total_words v.table) carriers
 
@@ -172,7 +173,7 @@ module _ {records values decls before : List ℕ} {start : ℕ} (v : RunAt recor
           }
 
       -- an activation that leaves a return address
-      calls_on : (f b : ℕ) → r ≡ Call f b → (b ≡ 0 → ⊥) → Running v budget after (b ∷ σ) f (steps + 1)
+      calls_on : (f b : ℕ) → r ≡ Ok (Call f b) → (b ≡ 0 → ⊥) → Running v budget after (b ∷ σ) f (steps + 1)
       calls_on f b e z = runs_on (ap (λ r. control r σ) e ∙ ap (pc f) (pushes b σ z))
 
     pub pauses : budget ≤ steps → steps ≤ budget → RunAnswer v budget carriers (Paused steps)
@@ -185,7 +186,7 @@ module _ {records values decls before : List ℕ} {start : ℕ} (v : RunAt recor
 
   -- the return address of a step finds room
   pub turn_room : {carriers : List ℕ} {at steps : ℕ} (links : List ℕ) (depth : ℕ) → Running v budget carriers (stack_of links depth) at steps → length carriers ≡ length before
-      → steps < budget → {after : List ℕ} {r : Moved} → ((u : StepAt records values decls carriers at) → StepAnswer u after r) → length after ≡ length carriers → length links ≡ 16
+      → steps < budget → {after : List ℕ} {r : Result Moved Fault} → ((u : StepAt records values decls carriers at) → StepAnswer u after r) → length after ≡ length carriers → length links ≡ 16
       → Room links r depth
   turn_room links depth g long more told same size = record {
     long = size;
@@ -195,27 +196,27 @@ module _ {records values decls before : List ℕ} {start : ℕ} (v : RunAt recor
 
   -- a turn, by where control is then
   module _ {links : List ℕ} {depth : ℕ} {carriers : List ℕ} {at steps : ℕ} (g : Running v budget carriers (stack_of links depth) at steps) (long : length carriers ≡ length before)
-      (more : steps < budget) {after : List ℕ} {r : Moved} (told : (u : StepAt records values decls carriers at) → StepAnswer u after r) {stack : List ℕ} {t : Turned}
+      (more : steps < budget) {after : List ℕ} {r : Result Moved Fault} (told : (u : StepAt records values decls carriers at) → StepAnswer u after r) {stack : List ℕ} {t : Result Turned Fault}
       (turns : Turns links r depth stack t) where
-    control_is : {u : Turned} → t ≡ u → control r (stack_of links depth) ≡ turned_to u stack
+    control_is : {u : Result Turned Fault} → t ≡ u → control r (stack_of links depth) ≡ turned_to u stack
     control_is e = sym turns.to ∙ ap (λ t. turned_to t stack) e
 
-    comes_to : (u : Turned) → t ≡ u → run v.table v.main budget words₀ ≡ onward_m v.table v.code (budget - (steps + 1)) steps
+    comes_to : (u : Result Turned Fault) → t ≡ u → run v.table v.main budget words₀ ≡ onward_m v.table v.code (budget - (steps + 1)) steps
         (put (carrier_words (total_words v.table) carriers) (carrier_words (total_words v.table) after) (turned_to u stack))
     comes_to u e = goes_on g long more told ∙ ap (λ x. onward_m v.table v.code (budget - (steps + 1)) steps (put (carrier_words (total_words v.table) carriers)
         (carrier_words (total_words v.table) after) x)) (control_is e)
 
-    pub faults_there : {m p : ℕ} → t ≡ Faulty m p → RunAnswer v budget after (Broken m p steps)
+    pub faults_there : {f : Fault} → t ≡ Err f → RunAnswer v budget after (Broken f.number f.place steps)
     unfolding step_at
-    faults_there {m} {p} e =
+    faults_there {f} e =
         let k : after ≡ carriers = faulted_kept r (stack_of links depth) (told (step_at g long)).kept (control_is e) in
-        record { same = comes_to (Faulty m p) e ∙ ap (λ c. run_with (faulted m p) steps (carrier_words (total_words v.table) c)) (sym k) }
+        record { same = comes_to (Err f) e ∙ ap (λ c. run_with (faulted f.number f.place) steps (carrier_words (total_words v.table) c)) (sym k) }
 
-    pub stops_there : t ≡ Standing → RunAnswer v budget after (Stopped (steps + 1))
-    stops_there e = record { same = comes_to Standing e ∙ ap (λ k. run_with halted k (carrier_words (total_words v.table) after)) (sym (add-one steps)) }
+    pub stops_there : t ≡ Ok Standing → RunAnswer v budget after (Stopped (steps + 1))
+    stops_there e = record { same = comes_to (Ok Standing) e ∙ ap (λ k. run_with halted k (carrier_words (total_words v.table) after)) (sym (add-one steps)) }
 
-    pub ends_there : t ≡ Over → RunAnswer v budget after (Done (steps + 1))
-    ends_there e = record { same = comes_to Over e ∙ ap (λ k. run_with done k (carrier_words (total_words v.table) after)) (sym (add-one steps)) }
+    pub ends_there : t ≡ Ok Over → RunAnswer v budget after (Done (steps + 1))
+    ends_there e = record { same = comes_to (Ok Over) e ∙ ap (λ k. run_with done k (carrier_words (total_words v.table) after)) (sym (add-one steps)) }
 
-    pub goes_there : {n d : ℕ} → t ≡ At n d → Running v budget after (stack_of stack d) n (steps + 1)
+    pub goes_there : {n d : ℕ} → t ≡ Ok (At n d) → Running v budget after (stack_of stack d) n (steps + 1)
     goes_there e = runs_on g long more told (control_is e)

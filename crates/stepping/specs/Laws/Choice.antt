@@ -1,6 +1,6 @@
 -- Laws of the choice: alternatives are passed until one takes the value or none is left.
 -- Assumes nothing.
-use Rattle.std.specs.Prelude.{ℕ, zero, suc, ◌+◌, ◌*◌, ◌<◌, ◌≤◌, ◌≡◌, Bool, false, ◌||◌, List, [], ◌∷◌, length, drop}
+use Rattle.std.specs.Prelude.{ℕ, zero, suc, ◌+◌, ◌*◌, ◌<◌, ◌≤◌, ◌≡◌, Bool, false, ◌||◌, List, [], ◌∷◌, length, drop, Option, Some, None}
 use Rattle.std.proofs.Math.Path.{refl, sym, ap}
 use Rattle.std.proofs.Common.{◌∙◌, subst, arith, add-one}
 use Rattle.std.proofs.Math.Bool.{true, cond}
@@ -20,7 +20,7 @@ use Rattle.patterns.specs.Stands.{Held, ItemsView, ItemsFrom}
 use Rattle.patterns.specs.Laws.Lists as lists
 use Rattle.selectors.specs.Laws.Alternatives.{SeenItems, otherwise_seen, brackets_seen, item_seen, see_items}
 use Rattle.selectors.specs.Laws.Trees.{selector_at}
-use Rattle.stepping.specs.Choice.{CaseView, ChoiceView, place_no}
+use Rattle.stepping.specs.Choice.{CaseView, ChoiceView, place_of}
 
 pub some_matches : (x : ℕ) (is : List Item) → lists.some (λ i. matches i x) is ≡ any_matches is x
 unfolding lists.some any_matches
@@ -223,29 +223,29 @@ module _ {records values : List ℕ} {p number : ℕ} (v : ChoiceView records va
         unfolding find case_view
         by_front = ap (λ t. find t x) ahead.is ∙ ap (λ b. cond b (some ahead.goes) (find ahead.tail x)) (sym (answer case_view))
 
-        pub found_here : r ≡ true → inside_cell records p ≡ place_no (find v.entries x)
-        found_here e = ahead.inside ∙ sym (ap place_no (by_front ∙ ap (λ b. cond b (some ahead.goes) (find ahead.tail x)) e))
+        pub found_here : r ≡ true → Some (inside_cell records p) ≡ place_of (find v.entries x)
+        found_here e = ap Some ahead.inside ∙ sym (ap place_of (by_front ∙ ap (λ b. cond b (some ahead.goes) (find ahead.tail x)) e))
 
         pub passed : r ≡ false → find v.entries x ≡ find ahead.tail x
         passed e = by_front ∙ ap (λ b. cond b (some ahead.goes) (find ahead.tail x)) e
 
 -- THE WALK: the answer is that of the alternatives left
-pub record Left (records values : List ℕ) (x found at number : ℕ) : Type 0 where
+pub record Left (records values : List ℕ) (x : ℕ) (found : Option ℕ) (at number : ℕ) : Type 0 where
   pub rest : ChoiceView records values at number
-  pub same : place_no (find rest.entries x) ≡ found
+  pub same : place_of (find rest.entries x) ≡ found
 
-module _ {records values : List ℕ} {x found at number : ℕ} (l : Left records values x found at number) {k : ℕ} (is_kind : k ≡ kind_byte records at) where
-  pub walk_ends : k ≡ kind_no END → 0 ≡ found
-  walk_ends e = sym (ap place_no (nothing_left l.rest is_kind x e)) ∙ l.same
+module _ {records values : List ℕ} {x : ℕ} {found : Option ℕ} {at number : ℕ} (l : Left records values x found at number) {k : ℕ} (is_kind : k ≡ kind_byte records at) where
+  pub walk_ends : k ≡ kind_no END → None ≡ found
+  walk_ends e = sym (ap place_of (nothing_left l.rest is_kind x e)) ∙ l.same
 
   module _ (n : k ≡ kind_no END → ⊥) {r : Bool} (answer : (u : CaseView records values (at + 1) number) → r ≡ takes u.case x) where
-    pub walk_finds : r ≡ true → {g : ℕ} → g ≡ inside_cell records at → g ≡ found
-    walk_finds e q = q ∙ found_here l.rest is_kind n x answer e ∙ l.same
+    pub walk_finds : r ≡ true → {g : ℕ} → g ≡ inside_cell records at → Some g ≡ found
+    walk_finds e q = ap Some q ∙ found_here l.rest is_kind n x answer e ∙ l.same
 
     pub walk_goes_on : r ≡ false → {next : ℕ} → next ≡ link_cell records at → Left records values x found next (number + 1)
     walk_goes_on e q =
         let f = front l.rest is_kind n in
         rw (q, add-one) (record {
           rest = record { tokens = l.rest.tokens; held = l.rest.held; entries = f.tail; stand = f.tail_stand; counted = f.tail_counted };
-          same = ap place_no (sym (passed l.rest is_kind n x answer e)) ∙ l.same;
+          same = ap place_of (sym (passed l.rest is_kind n x answer e)) ∙ l.same;
         })

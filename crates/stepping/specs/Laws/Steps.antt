@@ -1,6 +1,7 @@
 -- Laws of one instruction in the table: what each kind of step comes to.
 -- Assumes nothing.
-use Rattle.std.specs.Prelude.{ℕ, zero, suc, ◌+◌, ◌*◌, ◌<◌, ◌≤◌, ◌≡◌, List, [], ◌∷◌, ◌⊎◌, Bool, true, false, cond, length, drop}
+use Rattle.std.specs.Prelude.{ℕ, zero, suc, ◌+◌, ◌*◌, ◌<◌, ◌≤◌, ◌≡◌, List, [], ◌∷◌, ◌⊎◌, Bool, true, false, cond, length, drop, ⊤, Some, None, Result, Ok, Err}
+use Rattle.std.specs.Prelude.{Option as Place}
 use Rattle.std.proofs.Math.Path.{refl, ap, subst}
 use Rattle.std.proofs.Common.{sym, ◌∙◌, inl, inr, arith}
 use Rattle.std.proofs.Math.Option.{Option, none, some}
@@ -20,21 +21,21 @@ use Rattle.rules.specs.Steps.Runs.{moved, tested, perform}
 use Rattle.laws_grammar.specs.Cited.Kinds.{kind_at}
 use Rattle.laws_grammar.specs.Grammar.Kinds.{kind_at_kind_no}
 use Rattle.laws_orders.specs.Cited.Flat.{Link, at, exit, Entries, no_entry, entry, Instr, if_i, decode_i, go_i, call_i, stop_i, move_i, pc, broken, go, push, find, picked, work_m, next_m, Machine, put, put_after}
+use Rattle.laws_orders.proofs.Orders.Tests.{impossible}
 use Rattle.records.specs.Holds.{kind_byte, place_cell, token_at, inside_cell, link_cell}
 use Rattle.table.specs.Laws.Positions.{here, record_within}
 use Rattle.promise.specs.Instructions.{link_no, ExpressionStands, DestinationStands, Counted, EntriesStand, Jump, a_repeat, a_leave, a_restart, a_no_op, InstructionHolds}
 use Rattle.promise.specs.Reached.{Leads, EntryAt}
 use Rattle.operands.specs.Scene.{carrier_words, words_of}
-use Rattle.operands.specs.declared.expressions.Evaluated.{Evaluated}
-use Rattle.operands.specs.declared.expressions.Evaluated.TheVariants.{Value as worked, Fault as faulted}
-use Rattle.evaluation.specs.declared.transfers.Transferred.{Transferred}
-use Rattle.evaluation.specs.declared.transfers.Transferred.TheVariants.{Stored, Fault as unstored}
+use Rattle.operands.specs.declared.accesses.Outside.{Outside}
+use Rattle.operands.specs.declared.expressions.Value.{Value as Worked}
 use Rattle.evaluation.specs.Tests.{TestAt, TestAnswer}
 use Rattle.evaluation.specs.Transfers.{TransferAt, TransferAnswer}
 use Rattle.stepping.specs.declared.steps.Moved.{Moved}
-use Rattle.stepping.specs.declared.steps.Moved.TheVariants.{Go, Call, Stop, Fault}
-use Rattle.stepping.specs.Choice.{place_no, ChoiceView}
-use Rattle.stepping.specs.Steps.{onward, returning, StepAt, control, Keeps, Into, StepAnswer}
+use Rattle.stepping.specs.declared.steps.Moved.TheVariants.{Go, Call, Stop}
+use Rattle.stepping.specs.declared.steps.Fault.{Fault}
+use Rattle.stepping.specs.Choice.{place_of, ChoiceView}
+use Rattle.stepping.specs.Steps.{onward, returning, StepAt, control, Keeps, Into, StepAnswer, fault}
 
 -- LINKS
 link_goes : (k : Link) → ((g : ℕ) → k ≡ at g → 0 < g) → (σ : List ℕ) → go k σ ≡ onward (link_no k) σ
@@ -185,7 +186,7 @@ module _ {records values decls carriers : List ℕ} {n : ℕ} (v : StepAt record
       by (move_i d e l) q h = absurd (omega (arith, kind_of, ap kind_no h.0))
 
   -- ANSWERS
-  answer : (i : Instr) → v.code.instr n ≡ i → (after : List ℕ) (r : Moved)
+  answer : (i : Instr) → v.code.instr n ≡ i → (after : List ℕ) (r : Result Moved Fault)
       → ((σ : List ℕ) → step_i σ i ≡ put words (carrier_words (total_words v.scene.table) after) (control r σ)) → Keeps r carriers after → Into r i → StepAnswer v after r
   answer i q after r e k a = record { comes = λ σ. ap (step_i σ) q ∙ e σ; kept = k; into = subst (Into r) (sym q) a }
 
@@ -193,45 +194,45 @@ module _ {records values decls carriers : List ℕ} {n : ℕ} (v : StepAt record
   leads_by q g l = v.leads g (subst (λ i. Leads v.code i g) (sym q) l)
 
   pub go_answer : (kind_byte records n ≡ kind_no Name → ⊥) → (kind_byte records n ≡ kind_no IF → ⊥) → (kind_byte records n ≡ kind_no DECODE → ⊥) → (kind_byte records n ≡ kind_no STOP → ⊥)
-      → {l : ℕ} → l ≡ link_cell records n → StepAnswer v carriers (Go l)
+      → {l : ℕ} → l ≡ link_cell records n → StepAnswer v carriers (Ok (Go l))
   go_answer n₀ n₂₂ n₂₃ n₂₉ {l} e =
       let a = a_go n₀ n₂₂ n₂₃ n₂₉ in
-      answer _ a.is carriers (Go l) (λ σ. ap (put words words) (link_goes a.behind (leads_by a.is) σ ∙ ap (λ k. onward k σ) (sym (e ∙ a.link)))) tt (λ x. x)
+      answer _ a.is carriers (Ok (Go l)) (λ σ. ap (put words words) (link_goes a.behind (leads_by a.is) σ ∙ ap (λ k. onward k σ) (sym (e ∙ a.link)))) tt (λ x. x)
 
-  pub stop_answer : kind_byte records n ≡ kind_no STOP → StepAnswer v carriers Stop
-  stop_answer k = answer stop_i (a_stop k) carriers Stop (λ σ. refl) tt (λ x. x)
+  pub stop_answer : kind_byte records n ≡ kind_no STOP → StepAnswer v carriers (Ok Stop)
+  stop_answer k = answer stop_i (a_stop k) carriers (Ok Stop) (λ σ. refl) tt (λ x. x)
 
   module _ (k : kind_byte records n ≡ kind_no IF) where
     pub if_test : TestAt records values carriers n
     if_test = let a = an_if k in record { scene = v.scene; behind = a.end; expression = a.test; stands = a.stands }
 
-    module _ {r : Evaluated} (told : (t : TestAt records values carriers n) → TestAnswer t r) where
-      pub if_faults : {p : ℕ} → r ≡ faulted p → StepAnswer v carriers (Fault 70 p)
+    module _ {r : Result Worked Outside} (told : (t : TestAt records values carriers n) → TestAnswer t r) where
+      pub if_faults : {o : Outside} → r ≡ Err o → StepAnswer v carriers (Err (fault 70 o.place))
       unfolding if_test
-      if_faults {p} e =
+      if_faults {o} e =
           let a = an_if k in
-          let t : TestAnswer if_test (faulted p) = subst (TestAnswer if_test) e (told if_test) in
-          answer _ a.is carriers (Fault 70 p) (λ σ. ap (λ o. put_after words (next_m v.code (if_i a.test a.goes a.behind) σ) (tested words o)) t) refl (λ x. x)
+          let t : TestAnswer if_test (Err o) = subst (TestAnswer if_test) e (told if_test) in
+          answer _ a.is carriers (Err (fault 70 o.place)) (λ σ. ap (λ o. put_after words (next_m v.code (if_i a.test a.goes a.behind) σ) (tested words o)) t) refl (λ x. x)
 
-      if_value : {x m q : ℕ} → r ≡ worked x m q → (σ : List ℕ)
+      if_value : {w : Worked} → r ≡ Ok w → (σ : List ℕ)
           → step_i σ (if_i (an_if k).test (an_if k).goes (an_if k).behind)
-          ≡ put words words (next_m v.code (if_i (an_if k).test (an_if k).goes (an_if k).behind) σ x)
+          ≡ put words words (next_m v.code (if_i (an_if k).test (an_if k).goes (an_if k).behind) σ w.number)
       unfolding if_test
-      if_value {x} {m} {q} e σ =
+      if_value {w} e σ =
           let a = an_if k in
-          let t : TestAnswer if_test (worked x m q) = subst (TestAnswer if_test) e (told if_test) in
+          let t : TestAnswer if_test (Ok w) = subst (TestAnswer if_test) e (told if_test) in
           ap (λ o. put_after words (next_m v.code (if_i a.test a.goes a.behind) σ) (tested words o)) t.0
 
-      pub if_passes : {x m q l : ℕ} → r ≡ worked x m q → x ≡ 0 → l ≡ link_cell records n → StepAnswer v carriers (Go l)
-      if_passes {x} {m} {q} {l} e z f =
+      pub if_passes : {w : Worked} {l : ℕ} → r ≡ Ok w → w.number ≡ 0 → l ≡ link_cell records n → StepAnswer v carriers (Ok (Go l))
+      if_passes {w} {l} e z f =
           let a = an_if k in
-          answer _ a.is carriers (Go l) (λ σ. if_value e σ ∙ ap (put words words) (ap (next_m v.code (if_i a.test a.goes a.behind) σ) z
+          answer _ a.is carriers (Ok (Go l)) (λ σ. if_value e σ ∙ ap (put words words) (ap (next_m v.code (if_i a.test a.goes a.behind) σ) z
           ∙ link_goes a.behind (λ g s. leads_by a.is g (inr s)) σ ∙ ap (λ k. onward k σ) (sym (f ∙ a.link)))) tt (λ x. x)
 
-      pub if_acts : {x m q l : ℕ} → r ≡ worked x m q → (x ≡ 0 → ⊥) → l ≡ inside_cell records n → StepAnswer v carriers (Go l)
-      if_acts {x} {m} {q} {l} e z f =
+      pub if_acts : {w : Worked} {l : ℕ} → r ≡ Ok w → (w.number ≡ 0 → ⊥) → l ≡ inside_cell records n → StepAnswer v carriers (Ok (Go l))
+      if_acts {w} {l} e z f =
           let a = an_if k in
-          answer _ a.is carriers (Go l) (λ σ. if_value e σ ∙ ap (put words words) (acts x z σ
+          answer _ a.is carriers (Ok (Go l)) (λ σ. if_value e σ ∙ ap (put words words) (acts w.number z σ
           ∙ place_goes a.goes (leads_by a.is a.goes (inl refl)) σ ∙ ap (λ k. onward k σ) (sym (f ∙ a.inside)))) tt (λ x. x)
         where
           acts : (x : ℕ) → (x ≡ 0 → ⊥) → (σ : List ℕ) → next_m v.code (if_i (an_if k).test (an_if k).goes (an_if k).behind) σ x ≡ pc (an_if k).goes σ
@@ -242,30 +243,30 @@ module _ {records values decls carriers : List ℕ} {n : ℕ} (v : StepAt record
     pub decode_test : TestAt records values carriers n
     decode_test = let a = a_decode k in record { scene = v.scene; behind = a.end; expression = a.test; stands = a.stands }
 
-    module _ {r : Evaluated} (told : (t : TestAt records values carriers n) → TestAnswer t r) where
-      pub decode_faults : {p : ℕ} → r ≡ faulted p → StepAnswer v carriers (Fault 70 p)
+    module _ {r : Result Worked Outside} (told : (t : TestAt records values carriers n) → TestAnswer t r) where
+      pub decode_faults : {o : Outside} → r ≡ Err o → StepAnswer v carriers (Err (fault 70 o.place))
       unfolding decode_test
-      decode_faults {p} e =
+      decode_faults {o} e =
           let a = a_decode k in
-          let t : TestAnswer decode_test (faulted p) = subst (TestAnswer decode_test) e (told decode_test) in
-          answer _ a.is carriers (Fault 70 p) (λ σ. ap (λ o. put_after words (next_m v.code (decode_i a.place a.test a.entries) σ) (tested words o)) t) refl (λ x. x)
+          let t : TestAnswer decode_test (Err o) = subst (TestAnswer decode_test) e (told decode_test) in
+          answer _ a.is carriers (Err (fault 70 o.place)) (λ σ. ap (λ o. put_after words (next_m v.code (decode_i a.place a.test a.entries) σ) (tested words o)) t) refl (λ x. x)
 
-      module _ {x m q : ℕ} (e : r ≡ worked x m q) where
-        decode_told : TestAnswer decode_test (worked x m q)
+      module _ {w : Worked} (e : r ≡ Ok w) where
+        decode_told : TestAnswer decode_test (Ok w)
         decode_told = subst (TestAnswer decode_test) e (told decode_test)
 
-        behind_is : q ≡ (a_decode k).end
+        behind_is : w.next ≡ (a_decode k).end
         unfolding decode_test
         behind_is = decode_told.1
 
         decode_value : (σ : List ℕ) → step_i σ (decode_i (a_decode k).place (a_decode k).test (a_decode k).entries)
-            ≡ put words words (picked (a_decode k).place σ (find (a_decode k).entries x))
+            ≡ put words words (picked (a_decode k).place σ (find (a_decode k).entries w.number))
         unfolding decode_test
         decode_value σ =
             let a = a_decode k in
             ap (λ o. put_after words (next_m v.code (decode_i a.place a.test a.entries) σ) (tested words o)) decode_told.0
 
-        pub decode_choice : ChoiceView records values (q + 1) 0
+        pub decode_choice : ChoiceView records values (w.next + 1) 0
         decode_choice =
             let a = a_decode k in
             record {
@@ -276,36 +277,36 @@ module _ {records values decls carriers : List ℕ} {n : ℕ} (v : StepAt record
               counted = a.counted;
             }
 
-        module _ {g : ℕ} (chosen : (c : ChoiceView records values (q + 1) 0) → g ≡ place_no (find c.entries x)) where
-          place_chosen : g ≡ place_no (find (a_decode k).entries x)
+        module _ {found : Place ℕ} (chosen : (c : ChoiceView records values (w.next + 1) 0) → found ≡ place_of (find c.entries w.number)) where
+          place_chosen : found ≡ place_of (find (a_decode k).entries w.number)
           unfolding decode_choice
           place_chosen = chosen decode_choice
 
-          none_chosen : g ≡ 0 → find (a_decode k).entries x ≡ none
-          none_chosen z = by (find (a_decode k).entries x) refl place_chosen
+          none_chosen : found ≡ None → find (a_decode k).entries w.number ≡ none
+          none_chosen z = by (find (a_decode k).entries w.number) refl (sym place_chosen ∙ z)
             where
-              by : (o : Option ℕ) → find (a_decode k).entries x ≡ o → g ≡ place_no o → find (a_decode k).entries x ≡ none
-              by none e w = e
-              by (some h) e w = absurd (omega (arith, leads_by (a_decode k).is h (chosen_leads (a_decode k).entries x h e)))
+              by : (o : Option ℕ) → find (a_decode k).entries w.number ≡ o → place_of o ≡ None → find (a_decode k).entries w.number ≡ none
+              by none e q = e
+              by (some h) e q = impossible (cc)
 
-          some_chosen : (g ≡ 0 → ⊥) → find (a_decode k).entries x ≡ some g
-          some_chosen z = by (find (a_decode k).entries x) refl place_chosen
+          some_chosen : {g : ℕ} → found ≡ Some g → find (a_decode k).entries w.number ≡ some g
+          some_chosen {g} z = by (find (a_decode k).entries w.number) refl (sym place_chosen ∙ z)
             where
-              by : (o : Option ℕ) → find (a_decode k).entries x ≡ o → g ≡ place_no o → find (a_decode k).entries x ≡ some g
-              by none e w = absurd (z w)
-              by (some h) e w = e ∙ ap some (sym w)
+              by : (o : Option ℕ) → find (a_decode k).entries w.number ≡ o → place_of o ≡ Some g → find (a_decode k).entries w.number ≡ some g
+              by none e q = impossible (cc)
+              by (some h) e q = let same : h ≡ g = cc in e ∙ ap some same
 
-          pub decode_none : g ≡ 0 → {p : ℕ} → p ≡ place_cell records n → StepAnswer v carriers (Fault 71 p)
-          decode_none z {p} w =
+          pub decode_none : found ≡ None → {p : ℕ} → p ≡ place_cell records n → StepAnswer v carriers (Err (fault 71 p))
+          decode_none z {p} q =
               let a = a_decode k in
-              answer _ a.is carriers (Fault 71 p) (λ σ.
-              decode_value σ ∙ ap (λ o. put words words (picked a.place σ o)) (none_chosen z) ∙ ap (λ p. put words words (broken 71 p)) (sym (w ∙ a.placed))) refl (λ x. x)
+              answer _ a.is carriers (Err (fault 71 p)) (λ σ.
+              decode_value σ ∙ ap (λ o. put words words (picked a.place σ o)) (none_chosen z) ∙ ap (λ p. put words words (broken 71 p)) (sym (q ∙ a.placed))) refl (λ x. x)
 
-          pub decode_goes : (g ≡ 0 → ⊥) → StepAnswer v carriers (Go g)
-          decode_goes z =
+          pub decode_goes : {g : ℕ} → found ≡ Some g → StepAnswer v carriers (Ok (Go g))
+          decode_goes {g} z =
               let a = a_decode k in
-              answer _ a.is carriers (Go g) (λ σ. decode_value σ ∙ ap (λ o. put words words (picked a.place σ o)) (some_chosen z)
-              ∙ ap (put words words) (place_goes g (leads_by a.is g (chosen_leads a.entries x g (some_chosen z))) σ)) tt (λ x. x)
+              answer _ a.is carriers (Ok (Go g)) (λ σ. decode_value σ ∙ ap (λ o. put words words (picked a.place σ o)) (some_chosen z)
+              ∙ ap (put words words) (place_goes g (leads_by a.is g (chosen_leads a.entries w.number g (some_chosen z))) σ)) tt (λ x. x)
 
   -- an activation
   record ACall : Type 0 where
@@ -400,10 +401,10 @@ module _ {records values decls carriers : List ℕ} {n : ℕ} (v : StepAt record
       pub call_body : 8 * cell 2 decls (inside_cell records n) + 8 ≤ length records
       call_body = record_within v.scene.holds (cell 2 decls (inside_cell records n)) (a_call k o).within
 
-      pub call_answer : {f l : ℕ} → f ≡ link_cell records (cell 2 decls (inside_cell records n)) → l ≡ link_cell records n → StepAnswer v carriers (Call f l)
+      pub call_answer : {f l : ℕ} → f ≡ link_cell records (cell 2 decls (inside_cell records n)) → l ≡ link_cell records n → StepAnswer v carriers (Ok (Call f l))
       call_answer {f} {l} e w =
           let a = a_call k o in
-          answer _ a.is carriers (Call f l) (λ σ. ap (put words words) (ap (λ f. pc f (push a.behind σ)) (sym (e ∙ a.first))
+          answer _ a.is carriers (Ok (Call f l)) (λ σ. ap (put words words) (ap (λ f. pc f (push a.behind σ)) (sym (e ∙ a.first))
           ∙ ap (pc f) (link_pushes a.behind (λ g s. leads_by a.is g (inr s)) σ ∙ ap (λ l. returning l σ) (sym (w ∙ a.link))))) tt tt
 
     module _ (o : kind_byte records (n + 1) ≡ kind_no LPar → ⊥) where
@@ -416,18 +417,18 @@ module _ {records values decls carriers : List ℕ} {n : ℕ} (v : StepAt record
       unfolding move_at
       move_made = ap (λ (i : Instr). made v.scene.table (work_m i) (words_of v.scene)) (sym (a_move k o).is)
 
-      module _ {after : List ℕ} {r : Transferred} (told : (t : TransferAt records values carriers n) → TransferAnswer t after r) where
-        pub move_faults : {p : ℕ} → r ≡ unstored p → StepAnswer v after (Fault 70 p)
+      module _ {after : List ℕ} {r : Result ⊤ Outside} (told : (t : TransferAt records values carriers n) → TransferAnswer t after r) where
+        pub move_faults : {out : Outside} → r ≡ Err out → StepAnswer v after (Err (fault 70 out.place))
         unfolding move_at
-        move_faults {p} e =
+        move_faults {out} e =
             let a = a_move k o in
-            let t : TransferAnswer move_at after (unstored p) = subst (TransferAnswer move_at after) e (told move_at) in
-            answer _ a.is after (Fault 70 p) (λ σ. ap (λ o. put_after words (next_m v.code (move_i a.to a.right a.behind) σ) (moved o)) t.0) t.1 (λ x. x)
+            let t : TransferAnswer move_at after (Err out) = subst (TransferAnswer move_at after) e (told move_at) in
+            answer _ a.is after (Err (fault 70 out.place)) (λ σ. ap (λ o. put_after words (next_m v.code (move_i a.to a.right a.behind) σ) (moved o)) t.0) t.1 (λ x. x)
 
-        pub move_goes : {l : ℕ} → r ≡ Stored → l ≡ link_cell records n → StepAnswer v after (Go l)
+        pub move_goes : {u : ⊤} {l : ℕ} → r ≡ Ok u → l ≡ link_cell records n → StepAnswer v after (Ok (Go l))
         unfolding move_at
-        move_goes {l} e w =
+        move_goes {u} {l} e w =
             let a = a_move k o in
-            let t : TransferAnswer move_at after Stored = subst (TransferAnswer move_at after) e (told move_at) in
-            answer _ a.is after (Go l) (λ σ. ap (λ o. put_after words (next_m v.code (move_i a.to a.right a.behind) σ) (moved o)) t.0
+            let t : TransferAnswer move_at after (Ok u) = subst (TransferAnswer move_at after) e (told move_at) in
+            answer _ a.is after (Ok (Go l)) (λ σ. ap (λ o. put_after words (next_m v.code (move_i a.to a.right a.behind) σ) (moved o)) t.0
             ∙ ap (put words _) (link_goes a.behind (leads_by a.is) σ ∙ ap (λ k. onward k σ) (sym (w ∙ a.link)))) tt (λ x. x)

@@ -1,6 +1,6 @@
 -- Laws of transfers that are told: each step from the right side to the stores. A fault tells nothing.
 -- Assumes nothing.
-use Rattle.std.specs.Prelude.{ℕ, ◌+◌, ◌*◌, ◌≤◌, ◌≡◌, refl, List, [], ◌∷◌, length}
+use Rattle.std.specs.Prelude.{ℕ, ◌+◌, ◌*◌, ◌≤◌, ◌≡◌, refl, List, [], ◌∷◌, length, ⊤, Result, Ok, Err}
 use Rattle.std.proofs.Common.{sym, ◌∙◌, arith}
 use Rattle.std.proofs.Math.Path.{ap, subst}
 use Rattle.rules.specs.Text.Tokens.{Token}
@@ -14,16 +14,12 @@ use Rattle.rules.specs.Steps.Control.{moves}
 use Rattle.rules.specs.Steps.Evaluation.{Carriers, Outcome, gives, faulty, then, Field, evaluate, evaluate_accesses, transferred}
 use Rattle.records.specs.Holds.{place_cell, inside_cell}
 use Rattle.table.specs.Laws.Positions.{here, record_within}
-use Rattle.operands.specs.declared.accesses.Located.{Located}
-use Rattle.operands.specs.declared.accesses.Located.TheVariants.{Field as located, Fault as outside}
-use Rattle.operands.specs.declared.expressions.Evaluated.{Evaluated}
-use Rattle.operands.specs.declared.expressions.Evaluated.TheVariants.{Value as worked, Fault as faulted}
+use Rattle.operands.specs.declared.accesses.Field.{Field as Located}
+use Rattle.operands.specs.declared.accesses.Outside.{Outside}
+use Rattle.operands.specs.declared.expressions.Value.{Value as Worked}
 use Rattle.operands.specs.Scene.{words_of}
 use Rattle.operands.specs.Laws.Scene.{ExpressionTold, AccessTold}
-use Rattle.evaluation.specs.declared.transfers.Gathered.{Gathered}
-use Rattle.evaluation.specs.declared.transfers.Gathered.TheVariants.{Fields, Fault as missed}
-use Rattle.evaluation.specs.declared.transfers.Transferred.{Transferred}
-use Rattle.evaluation.specs.declared.transfers.Transferred.TheVariants.{Stored, Fault}
+use Rattle.evaluation.specs.declared.transfers.Fields.{Fields}
 use Rattle.evaluation.specs.Stores.{sizes, StoresAt}
 use Rattle.evaluation.specs.Gathering.{GatherAt, GatherAnswer}
 use Rattle.evaluation.specs.Transfers.{assigned, AssignAt, TransferAt}
@@ -59,12 +55,12 @@ module _ {records values carriers : List ℕ} {word low size p end : ℕ} (g : G
   abbrev entries_by : List Field → List Entry
   entries_by fs = entries_of place (words_of g.scene) fs (cut (sizes fs) x)
 
-  module _ (l : List Entry) (room scratch : List ℕ) {r : Gathered} (f : (v : GatherAt records values carriers word low size p end) → GatherAnswer v scratch r) where
-    pub fields_fault : {q : ℕ} → r ≡ missed q → Sound l room → FieldsTold g x place carriers l room room (Fault q)
+  module _ (l : List Entry) (room scratch : List ℕ) {r : Result Fields Outside} (f : (v : GatherAt records values carriers word low size p end) → GatherAnswer v scratch r) where
+    pub fields_fault : {o : Outside} → r ≡ Err o → Sound l room → FieldsTold g x place carriers l room room (Err o)
     fields_fault e s = let h = joined_faults g x scratch f e in (h, tells_nothing (none_entered _ _ entries_by h.0) s)
 
-    pub fields_stored : {count bits : ℕ} → r ≡ Fields count bits → (after room' : List ℕ)
-        → ((s : StoresAt carriers scratch count bits) → StoresTold s x place after l room room') → FieldsTold g x place after l room room' Stored
+    pub fields_stored : {all : Fields} → r ≡ Ok all → (after room' : List ℕ)
+        → ((s : StoresAt carriers scratch all.count all.bits) → StoresTold s x place after l room room') → FieldsTold g x place after l room room' (Ok tt)
     unfolding then stores_at
     fields_stored e after room' h = (
       joined_stored g scratch f e x after (λ s. (h s).0),
@@ -84,14 +80,14 @@ module _ {records values carriers : List ℕ} {n end : ℕ} (d : AssignAt record
       let h = here d.scene.tokens n _ _ d.reads in
       (d.scene.holds.entry n h.within).place ∙ ap (λ (t : Token). t.info.place) h.token
 
-  module _ (x : ℕ) (l : List Entry) (room : List ℕ) {r : Located} (f : AccessTold records values carriers n deepest r) where
-    pub assign_fault : {p : ℕ} → r ≡ outside p → Sound l room → AssignTold d x carriers l room room (Fault p)
+  module _ (x : ℕ) (l : List Entry) (room : List ℕ) {r : Result Located Outside} (f : AccessTold records values carriers n deepest r) where
+    pub assign_fault : {o : Outside} → r ≡ Err o → Sound l room → AssignTold d x carriers l room room (Err o)
     assign_fault e s =
         let h = assign_faults d x f e in
         (h, tells_nothing (none_entered _ _ (λ fs. entries_of (transfer_place to) (words_of d.scene) fs (cut (sizes fs) x)) h.0) s)
 
-    pub assign_told : {word low size next place : ℕ} → r ≡ located word low size next → place ≡ place_cell records n → (after room' : List ℕ) (q : Transferred)
-        → ((g : GatherAt records values carriers word low size next end) → FieldsTold g x place after l room room' q) → AssignTold d x after l room room' q
+    pub assign_told : {at : Located} {place : ℕ} → r ≡ Ok at → place ≡ place_cell records n → (after room' : List ℕ) (q : Result ⊤ Outside)
+        → ((g : GatherAt records values carriers at.word at.low at.size at.next end) → FieldsTold g x place after l room room' q) → AssignTold d x after l room room' q
     unfolding gather_at
     assign_told e is after room' q h = (
       assign_joined d f e x after q (λ g. (h g).0),
@@ -103,19 +99,19 @@ module _ {records values carriers : List ℕ} {n : ℕ} (t : TransferAt records 
   abbrev stored_by : Outcome Value → List Entry
   stored_by o = if_given (then o (λ v. entered (transfer_place t.to) t.scene.table (words_of t.scene) t.to v.number))
 
-  module _ {k : ℕ} (equals : k ≡ inside_cell records n) (l : List Entry) (room : List ℕ) {r : Evaluated}
+  module _ {k : ℕ} (equals : k ≡ inside_cell records n) (l : List Entry) (room : List ℕ) {r : Result Worked Outside}
       (f : ExpressionTold records values carriers (k + 1) deepest r) where
-    pub transfer_fault : {p : ℕ} → r ≡ faulted p → Sound l room → TransferTold t carriers l room room (Fault p)
+    pub transfer_fault : {o : Outside} → r ≡ Err o → Sound l room → TransferTold t carriers l room room (Err o)
     transfer_fault e s =
         let h = transfer_faults t equals f e in
         (h, tells_nothing (fault_makes_nothing t.scene.table (words_of t.scene) t.to t.right h.0) s)
 
-    pub transfer_told : {x m p : ℕ} → r ≡ worked x m p → (after room' : List ℕ) (q : Transferred)
-        → ((d : AssignAt records values carriers n k) → AssignTold d x after l room room' q) → TransferTold t after l room room' q
+    pub transfer_told : {w : Worked} → r ≡ Ok w → (after room' : List ℕ) (q : Result ⊤ Outside)
+        → ((d : AssignAt records values carriers n k) → AssignTold d w.number after l room room' q) → TransferTold t after l room room' q
     unfolding stored then assign_at
-    transfer_told {x} e after room' q h = (
+    transfer_told {w} e after room' q h = (
       transfer_assigned t equals f e after q (λ d. (h d).0),
       subst (Tells l room room')
           (sym (ap stored_by (right_gives t equals f e)
-          ∙ ap (λ to. if_given (entered (transfer_place to) t.scene.table (words_of t.scene) to x)) (assign_to t equals))) (h (assign_at t equals)).1,
+          ∙ ap (λ to. if_given (entered (transfer_place to) t.scene.table (words_of t.scene) to w.number)) (assign_to t equals))) (h (assign_at t equals)).1,
     )

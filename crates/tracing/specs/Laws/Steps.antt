@@ -1,6 +1,6 @@
 -- A step of the tracing machine, by what the step of the flat machine comes to: it goes the same way, with the activations on its stack.
 -- Assumes nothing.
-use Rattle.std.specs.Prelude.{ℕ, zero, suc, ◌≡◌, refl, false, List, [], ◌∷◌, map}
+use Rattle.std.specs.Prelude.{ℕ, zero, suc, ◌≡◌, refl, false, List, [], ◌∷◌, map, Result, Ok, Err}
 use Rattle.std.proofs.Common.{sym, ◌∙◌, ap, ap₂, subst}
 use Rattle.std.proofs.Math.Option.{Option, none, some}
 use Rattle.rules.specs.Declarations.{Table}
@@ -14,8 +14,9 @@ use Rattle.rules.specs.Values.{cut}
 use Rattle.laws_orders.specs.Cited.Flat.{Link, at, exit, Instr, if_i, decode_i, go_i, call_i, stop_i, move_i, Code, At, pc, over, halt, broken, go, find, picked, work_m, next_m, put, put_after, step_m}
 use Rattle.laws_orders.proofs.Orders.Tests.{impossible}
 use Rattle.stepping.specs.declared.steps.Moved.{Moved}
-use Rattle.stepping.specs.declared.steps.Moved.TheVariants.{Go, Call, Stop, Fault}
-use Rattle.stepping.specs.Steps.{onward, returning, control, Activates, Into}
+use Rattle.stepping.specs.declared.steps.Moved.TheVariants.{Go, Call, Stop}
+use Rattle.stepping.specs.declared.steps.Fault.{Fault}
+use Rattle.stepping.specs.Steps.{onward, returning, control, Activates, Into, fault}
 use Rattle.telling.specs.Cited.Passing.{Grouping, passage}
 use Rattle.telling.specs.Cited.Tracing.{Told, told, follow, picked_t, next_t, put_t, after_t, step_t}
 use Rattle.telling.proofs.Taken.{activates, next_stays, next_over}
@@ -116,11 +117,11 @@ module _ (C : Code) (M : Grouping) (n : ℕ) (κ : List ℕ) where
 
 module _ (ds : Table) (C : Code) (M : Grouping) (n : ℕ) (κ : List ℕ) (s u : Carriers) where
   -- the step of the tracing machine, where the flat one is at r
-  pub record Takes (r : Moved) : Type 0 where
+  pub record Takes (r : Result Moved Fault) : Type 0 where
     pub is : step_t ds C M n κ s ≡ put_t s (made ds (work_m (C.instr n)) s) u (way_of n r C M κ)
     pub by : (n' : ℕ) (κ' : List ℕ) → (way_of n r C M κ).control ≡ pc n' κ' → (x : ℕ) × (next_t C M n (C.instr n) κ x ≡ way_of n r C M κ)
 
-  calm_takes : (o : Outcome Worked) → perform ds (work_m (C.instr n)) s ≡ o → (r : Moved) → Calm (control r [])
+  calm_takes : (o : Outcome Worked) → perform ds (work_m (C.instr n)) s ≡ o → (r : Result Moved Fault) → Calm (control r [])
       → ((x : ℕ) → next_m C (C.instr n) [] x ≡ control r [] → next_t C M n (C.instr n) κ x ≡ way_of n r C M κ)
       → put_after s (next_m C (C.instr n) []) o ≡ put s u (control r []) → Takes r
   calm_takes (gives w) g r h f e =
@@ -134,7 +135,7 @@ module _ (ds : Table) (C : Code) (M : Grouping) (n : ℕ) (κ : List ℕ) (s u :
   calm_takes (faulty m p) g r h f e = absurd (fault_put s u (control r []) m p h e)
 
   fault_takes : (o : Outcome Worked) → perform ds (work_m (C.instr n)) s ≡ o → (m p : ℕ)
-      → put_after s (next_m C (C.instr n) []) o ≡ put s u (broken m p) → Takes (Fault m p)
+      → put_after s (next_m C (C.instr n) []) o ≡ put s u (broken m p) → Takes (Err (fault m p))
   fault_takes (gives w) g m p e =
       let way = next_ends C M n κ (C.instr n) w.number (broken m p) (λ x. x) (put_broken s w.carriers u (next_m C (C.instr n) [] w.number) m p e) in
       record {
@@ -151,12 +152,12 @@ module _ (ds : Table) (C : Code) (M : Grouping) (n : ℕ) (κ : List ℕ) (s u :
       }
 
   -- By whatever the flat machine comes to with any stack, the tracing one goes that way.
-  pub takes : (r : Moved) → Into r (C.instr n) → ((σ : List ℕ) → step_m ds C n σ s ≡ put s u (control r σ)) → Takes r
-  takes (Go k) i e = calm_takes _ refl (Go k) (by k) (λ x q. next_goes C M n κ (C.instr n) x k i q) (e [])
+  pub takes : (r : Result Moved Fault) → Into r (C.instr n) → ((σ : List ℕ) → step_m ds C n σ s ≡ put s u (control r σ)) → Takes r
+  takes (Ok (Go k)) i e = calm_takes _ refl (Ok (Go k)) (by k) (λ x q. next_goes C M n κ (C.instr n) x k i q) (e [])
     where
       by : (k : ℕ) → Calm (onward k [])
       by zero = tt
       by (suc k) = tt
-  takes (Call f k) i e = calm_takes _ refl (Call f k) tt (λ x q. next_calls C M n κ (C.instr n) x f k i q) (e [])
-  takes Stop i e = calm_takes _ refl Stop tt (λ x q. next_ends C M n κ (C.instr n) x halt (λ x. x) q) (e [])
-  takes (Fault m p) i e = fault_takes _ refl m p (e [])
+  takes (Ok (Call f k)) i e = calm_takes _ refl (Ok (Call f k)) tt (λ x q. next_calls C M n κ (C.instr n) x f k i q) (e [])
+  takes (Ok Stop) i e = calm_takes _ refl (Ok Stop) tt (λ x q. next_ends C M n κ (C.instr n) x halt (λ x. x) q) (e [])
+  takes (Err f) i e = fault_takes _ refl f.number f.place (e [])

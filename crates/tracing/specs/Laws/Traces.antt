@@ -1,6 +1,6 @@
 -- Laws of the whole run: what a turn of its loop keeps.
 -- Assumes nothing.
-use Rattle.std.specs.Prelude.{ℕ, suc, ◌+◌, ◌-◌, ◌*◌, ◌<◌, ◌≤◌, ◌≡◌, refl, take, drop}
+use Rattle.std.specs.Prelude.{ℕ, suc, ◌+◌, ◌-◌, ◌*◌, ◌<◌, ◌≤◌, ◌≡◌, refl, take, drop, Result, Ok, Err}
 use Rattle.std.proofs.Math.Path.{sym, ap, subst}
 use Rattle.std.proofs.Common.{◌∙◌, inr, add-one, length-drop, length-take-le, take_all}
 use mathlib.Core.List.{List, [], ◌∷◌, ◌++◌, map}
@@ -40,7 +40,8 @@ use Rattle.passing.specs.Ways.{grouping_in, into}
 use Rattle.passing.specs.Depth.{depth_after}
 use Rattle.passing.specs.Laws.Depth.{depth_told}
 use Rattle.runner.specs.declared.turns.Turned.{Turned}
-use Rattle.runner.specs.declared.turns.Turned.TheVariants.{At, Over, Stop as Stood, Fault as Broken}
+use Rattle.runner.specs.declared.turns.Turned.TheVariants.{At, Over, Stop as Stood}
+use Rattle.stepping.specs.declared.steps.Fault.{Fault}
 use Rattle.turning.specs.Ways.{Linked}
 use Rattle.runner.specs.Turns.{turned_to}
 use Rattle.tracing.specs.Turns.{cells_at, grouping_at, TurnAt, Keeps, TurnTold}
@@ -272,7 +273,7 @@ module _ {records values decls memory room entries : List ℕ} {start n size : �
           → depth_after (next_t (code_of v) M now ((code_of v).instr now) κ x).passed (length (matching_in list room').groups) ≤ most_groups) same_members few_there;
     }
 
-    module _ (more : steps < budget) {after room'' stack'' : List ℕ} {r : Turned}
+    module _ (more : steps < budget) {after room'' stack'' : List ℕ} {r : Result Turned Fault}
         (turned : (u : TurnAt records values decls memory' room' entries stack depth n size now) → TurnTold u after room'' stack'' r) where
       abbrev step_here : Stepped
       step_here = step_t (table_of v) (code_of v) M now κ (words_in v memory')
@@ -315,37 +316,37 @@ module _ {records values decls memory room entries : List ℕ} {start n size : �
       unfolding told_all
       ends_with z e c q = record { run = sym c.run ∙ q; tells = record { sound = told_is.sound; is = c.told } }
 
-      ends_over : r ≡ Over → TraceTold v budget after room'' (Done (steps + 1))
+      ends_over : r ≡ Ok Over → TraceTold v budget after room'' (Done (steps + 1))
       ends_over e =
           ends_with (run_with done (suc steps) (words_in v after)) (Done (steps + 1))
           (rest_comes (ended (words_in v after)) (machine_is ∙ ap (λ r. put (words_in v memory') (words_in v after) (turned_to r stack'')) e))
           (ap (λ k. run_with done k (words_in v after)) (sym (add-one steps)))
 
-      ends_stopped : r ≡ Stood → TraceTold v budget after room'' (Stopped (steps + 1))
+      ends_stopped : r ≡ Ok Stood → TraceTold v budget after room'' (Stopped (steps + 1))
       ends_stopped e =
           ends_with (run_with halted (suc steps) (words_in v after)) (Stopped (steps + 1))
           (rest_comes (stood (words_in v after)) (machine_is ∙ ap (λ r. put (words_in v memory') (words_in v after) (turned_to r stack'')) e))
           (ap (λ k. run_with halted k (words_in v after)) (sym (add-one steps)))
 
-      ends_failed : {m p : ℕ} → r ≡ Broken m p → TraceTold v budget after room'' (Failed m p steps)
-      ends_failed {m} {p} e =
+      ends_failed : {f : Fault} → r ≡ Err f → TraceTold v budget after room'' (Failed f.number f.place steps)
+      ends_failed {f} e =
           let k : take size after ≡ take size memory' = subst (λ r. Keeps r (take size memory') (take size after)) e kept_is in
-          ends_with (run_with (faulted m p) steps (words_in v memory')) (Failed m p steps)
-          (rest_comes (broke m p (words_in v memory')) (machine_is ∙ ap (λ r. put (words_in v memory') (words_in v after) (turned_to r stack'')) e))
-          (ap (λ c. run_with (faulted m p) steps (carrier_words (total_words (table_of v)) c)) (sym k))
+          ends_with (run_with (faulted f.number f.place) steps (words_in v memory')) (Failed f.number f.place steps)
+          (rest_comes (broke f.number f.place (words_in v memory')) (machine_is ∙ ap (λ r. put (words_in v memory') (words_in v after) (turned_to r stack'')) e))
+          (ap (λ c. run_with (faulted f.number f.place) steps (carrier_words (total_words (table_of v)) c)) (sym k))
 
       -- control is at no instruction
-      pub ends : {e : Ended} → ((n d : ℕ) → r ≡ At n d → ⊥) → e ≡ ended_by r steps → TraceTold v budget after room'' e
+      pub ends : {e : Ended} → ((n d : ℕ) → r ≡ Ok (At n d) → ⊥) → e ≡ ended_by r steps → TraceTold v budget after room'' e
       ends off q = subst (TraceTold v budget after room'') (sym q) (by r refl)
         where
-          by : (t : Turned) → r ≡ t → TraceTold v budget after room'' (ended_by t steps)
-          by (At n d) e = absurd (off n d e)
-          by Over e = ends_over e
-          by Stood e = ends_stopped e
-          by (Broken m p) e = ends_failed e
+          by : (t : Result Turned Fault) → r ≡ t → TraceTold v budget after room'' (ended_by t steps)
+          by (Ok (At n d)) e = absurd (off n d e)
+          by (Ok Over) e = ends_over e
+          by (Ok Stood) e = ends_stopped e
+          by (Err f) e = ends_failed e
 
       -- control is at another instruction
-      pub goes_on : {n' d : ℕ} → r ≡ At n' d → Tracing after room'' (stack_of stack'' d) n' (steps + 1)
+      pub goes_on : {n' d : ℕ} → r ≡ Ok (At n' d) → Tracing after room'' (stack_of stack'' d) n' (steps + 1)
       goes_on {n'} {d} e =
           let q : step_here.machine ≡ runs n' (stack_of stack'' d) (words_in v after)
           = machine_is ∙ ap (λ r. put (words_in v memory') (words_in v after) (turned_to r stack'')) e in

@@ -1,6 +1,6 @@
 -- Laws of one turn: the step in the memory, and then its way, are the step of the tracing machine with what it reports.
 -- Assumes nothing.
-use Rattle.std.specs.Prelude.{ℕ, zero, suc, ◌+◌, ◌-◌, ◌≤◌, ◌≡◌, refl, length, take, drop}
+use Rattle.std.specs.Prelude.{ℕ, zero, suc, ◌+◌, ◌-◌, ◌≤◌, ◌≡◌, refl, length, take, drop, Result, Ok, Err}
 use Rattle.std.proofs.Math.Path.{sym, ap, ap₂, subst}
 use Rattle.std.proofs.Common.{◌∙◌, arith, length-drop, length-take-le, take_all, take_at, drop-drop}
 use mathlib.Core.List.{List, [], ◌∷◌, ◌++◌, map, map-append}
@@ -12,7 +12,8 @@ use Rattle.laws_orders.specs.Cited.Flat.{Link, at, exit, Code, work_m, put}
 use Rattle.laws_orders.proofs.Orders.Tests.{impossible}
 use Rattle.operands.specs.Scene.{carrier_words, words_of}
 use Rattle.stepping.specs.declared.steps.Moved.{Moved}
-use Rattle.stepping.specs.declared.steps.Moved.TheVariants.{Go, Call, Stop, Fault}
+use Rattle.stepping.specs.declared.steps.Moved.TheVariants.{Go, Call, Stop}
+use Rattle.stepping.specs.declared.steps.Fault.{Fault}
 use Rattle.stepping.specs.Steps as runner
 use Rattle.stepping.specs.Steps.{StepAt}
 use Rattle.runner.specs.Runs.{stack_of}
@@ -26,7 +27,7 @@ use Rattle.room.specs.Trace.{most_groups}
 use Rattle.passing.specs.Depth.{depth_after}
 use Rattle.passing.specs.Laws.Telling.{told_append}
 use Rattle.runner.specs.declared.turns.Turned.{Turned}
-use Rattle.runner.specs.declared.turns.Turned.TheVariants.{At, Over, Stop as Stood, Fault as Broken}
+use Rattle.runner.specs.declared.turns.Turned.TheVariants.{At, Over, Stop as Stood}
 use Rattle.tracing.specs.Acts.{ActTold}
 use Rattle.turning.specs.Ways.{link_to, way_of, WayAt, WayTold}
 use Rattle.runner.specs.Turns.{turned_to}
@@ -82,15 +83,13 @@ module _ (C : Code) (M : Grouping) where
   follow_calm xs zero κ = return_calm κ
   follow_calm xs (suc k) κ = tt
 
-  keeps_by : (r : Turned) (stack : List ℕ) (n : ℕ) (moved : Moved) (κ before after : List ℕ)
+  keeps_by : (r : Result Turned Fault) (stack : List ℕ) (n : ℕ) (moved : Result Moved Fault) (κ before after : List ℕ)
       → turned_to r stack ≡ (way_of n moved C M κ).control → runner.Keeps moved before after → Keeps r before after
-  keeps_by (At g d) stack n moved κ before after e h = tt
-  keeps_by Over stack n moved κ before after e h = tt
-  keeps_by Stood stack n moved κ before after e h = tt
-  keeps_by (Broken m p) stack n (Go k) κ before after e h = absurd (subst Calm (sym e) (follow_calm (M.around n) k κ))
-  keeps_by (Broken m p) stack n (Call f k) κ before after e h = impossible (cc)
-  keeps_by (Broken m p) stack n Stop κ before after e h = impossible (cc)
-  keeps_by (Broken m p) stack n (Fault x y) κ before after e h = h
+  keeps_by (Ok t) stack n moved κ before after e h = tt
+  keeps_by (Err f) stack n (Ok (Go k)) κ before after e h = absurd (subst Calm (sym e) (follow_calm (M.around n) k κ))
+  keeps_by (Err f) stack n (Ok (Call g k)) κ before after e h = impossible (cc)
+  keeps_by (Err f) stack n (Ok Stop) κ before after e h = impossible (cc)
+  keeps_by (Err f) stack n (Err g) κ before after e h = h
 
 -- THE TURN
 module _ {records values decls memory room entries stack : List ℕ} {depth n size now : ℕ} (v : TurnAt records values decls memory room entries stack depth n size now) where
@@ -106,7 +105,7 @@ module _ {records values decls memory room entries stack : List ℕ} {depth n si
   abbrev stores : Block
   stores = made v.step.scene.table (work_m (v.step.code.instr now)) (words_of v.step.scene)
 
-  module _ {after amid : List ℕ} {moved : Moved} (same : length after ≡ length (take size memory))
+  module _ {after amid : List ℕ} {moved : Result Moved Fault} (same : length after ≡ length (take size memory))
       (acted : (w : StepAt records values decls (take size memory) now) → ActTold w after (entries_in entries) room amid moved) where
     abbrev memory' : List ℕ
     memory' = after ++ drop size memory
@@ -139,7 +138,7 @@ module _ {records values decls memory room entries stack : List ℕ} {depth n si
     pub turn_way : WayAt records part amid stack n depth (way_of now moved)
     turn_way = subst (λ c. WayAt records c amid stack n depth (way_of now moved)) (sym part_is) way_at
 
-    pub turn_told : {room' stack' : List ℕ} {r : Turned} → ((w : WayAt records part amid stack n depth (way_of now moved)) → WayTold w stack' room' r) → TurnTold v memory' room' stack' r
+    pub turn_told : {room' stack' : List ℕ} {r : Result Turned Fault} → ((w : WayAt records part amid stack n depth (way_of now moved)) → WayTold w stack' room' r) → TurnTold v memory' room' stack' r
     unfolding way_at
     turn_told {room'} {stack'} {r} h =
         let a = acted v.step in

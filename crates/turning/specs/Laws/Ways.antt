@@ -1,7 +1,7 @@
 -- Laws of the way behind an instruction: to another one, into a body, out of one and on from there.
 -- Assumes nothing.
 use Prim.Native.Nat.{ℕ, zero, suc, ◌+◌, ◌-◌, ◌<◌, ◌≤◌}
-use Rattle.std.specs.Prelude.{◌≡◌, List, [], ◌∷◌, ◌++◌, map, length, set}
+use Rattle.std.specs.Prelude.{◌≡◌, List, [], ◌∷◌, ◌++◌, map, length, set, Result, Ok, Err}
 use Rattle.std.proofs.Math.Path.{refl, ap}
 use Rattle.std.proofs.Common.{sym, ◌∙◌, subst}
 use Rattle.std.proofs.lemmas.List.{map-append}
@@ -12,7 +12,8 @@ use Rattle.laws_orders.specs.Cited.Flat.{Link, at, exit, Code, pc}
 use Rattle.records.specs.Holds.{link_cell}
 use Rattle.promise.specs.Instructions.{link_no}
 use Rattle.stepping.specs.declared.steps.Moved.{Moved}
-use Rattle.stepping.specs.declared.steps.Moved.TheVariants.{Go, Call, Stop, Fault}
+use Rattle.stepping.specs.declared.steps.Moved.TheVariants.{Go, Call, Stop}
+use Rattle.stepping.specs.declared.steps.Fault.{Fault}
 use Rattle.runner.specs.Runs.{stack_of}
 use Rattle.runner.specs.Laws.Runs.{stack_pushed}
 use Rattle.telling.specs.Cited.Passing.{Grouping, Passing, group_event}
@@ -25,7 +26,7 @@ use Rattle.passing.specs.Ways.{grouping_in, between, into, out_of}
 use Rattle.passing.specs.Laws.Depth.{depth_told, depth_append}
 use Rattle.passing.specs.Laws.Telling.{told_append}
 use Rattle.runner.specs.declared.turns.Turned.{Turned}
-use Rattle.runner.specs.declared.turns.Turned.TheVariants.{At, Over, Stop as Stood, Fault as Broken}
+use Rattle.runner.specs.declared.turns.Turned.TheVariants.{At, Over, Stop as Stood}
 use Rattle.turning.specs.Ways.{link_to, way_of, Linked, WayAt, WayTold}
 use Rattle.runner.specs.Turns.{turned_to}
 
@@ -67,7 +68,7 @@ module _ {records cells room stack : List ℕ} {n depth : ℕ} {way : Code → G
         let f = v.few n' κ' (ap (λ (t : Told). t.control) is ∙ e) in
         subst (λ (t : Told). depth_after t.passed (length (matching_in v.list room).groups) ≤ most_groups) is f
 
-    told_as : {stack' room' : List ℕ} {r : Turned} → turned_to r stack' ≡ t.control → Stands v.list room' (told_all (map group_event t.passed) (matching_in v.list room))
+    told_as : {stack' room' : List ℕ} {r : Result Turned Fault} → turned_to r stack' ≡ t.control → Stands v.list room' (told_all (map group_event t.passed) (matching_in v.list room))
         → WayTold v stack' room' r
     told_as {stack'} {room'} {r} c h = record {
       control = c ∙ sym (ap (λ (t : Told). t.control) is);
@@ -89,7 +90,7 @@ module _ {records cells room stack : List ℕ} {n depth : ℕ} {way : Code → G
           omega (arith, few_as is e, open_behind (matching_in v.list room) ps (return v.code M (stack_of stack d)).passed (left v.list v.sound));
     }
 
-    then_told : {after : List ℕ} {r : Turned} → WayTold then_returns stack after r → WayTold v stack after r
+    then_told : {after : List ℕ} {r : Result Turned Fault} → WayTold then_returns stack after r → WayTold v stack after r
     unfolding then_returns
     then_told w = told_as is w.control (both_told (matching_in v.list room) ps (return v.code M (stack_of stack d)).passed (left v.list v.sound) w.tells)
 
@@ -104,7 +105,7 @@ link_on exit b e z = absurd (z e)
 -- BACK: the newest activation
 module _ {records cells room stack : List ℕ} {n depth : ℕ} (v : WayAt records cells room stack n depth return) where
   -- MAIN has ended
-  all_over : depth ≡ 0 → WayTold v stack room Over
+  all_over : depth ≡ 0 → WayTold v stack room (Ok Over)
   unfolding stack_of return
   all_over e = told_as v (ap (λ d. return v.code (M v) (stack_of stack d)) e) refl (nothing_told v.sound)
 
@@ -149,14 +150,14 @@ module _ {records cells room stack : List ℕ} {n depth : ℕ} (v : WayAt record
 -- on the way out some activations are left: where the rest is told, all is
 pub record Returning {records cells room stack : List ℕ} {n depth : ℕ} (v : WayAt records cells room stack n depth return) (amid : List ℕ) (left : ℕ) : Type 0 where
   pub rest : WayAt records cells amid stack n left return
-  pub all : {after : List ℕ} {r : Turned} → WayTold rest stack after r → WayTold v stack after r
+  pub all : {after : List ℕ} {r : Result Turned Fault} → WayTold rest stack after r → WayTold v stack after r
 
 module _ {records cells room stack : List ℕ} {n depth : ℕ} (v : WayAt records cells room stack n depth return) where
   pub none_left : Returning v room depth
   none_left = record { rest = v; all = λ w. w }
 
   module _ {amid : List ℕ} {left : ℕ} (g : Returning v amid left) where
-    pub out_of_all : (0 < left → ⊥) → WayTold v stack amid Over
+    pub out_of_all : (0 < left → ⊥) → WayTold v stack amid (Ok Over)
     out_of_all none = g.all (all_over g.rest (omega (arith, none)))
 
     module _ (some : 0 < left) {behind : ℕ} (link : behind ≡ link_cell records (get_or stack (left - 1) 0)) {after : List ℕ} where
@@ -168,28 +169,28 @@ module _ {records cells room stack : List ℕ} {n depth : ℕ} (v : WayAt record
             all = λ w. g.all (then_told g.rest (left - 1) less (out_of cells n (get_or stack (left - 1) 0)) (return_out g.rest some link out) h w);
           }
 
-      pub gone_on : (behind ≡ 0 → ⊥) → Tells (between cells n (get_or stack (left - 1) 0) behind) amid after → WayTold v stack after (At behind (left - 1))
+      pub gone_on : (behind ≡ 0 → ⊥) → Tells (between cells n (get_or stack (left - 1) 0) behind) amid after → WayTold v stack after (Ok (At behind (left - 1)))
       gone_on on h = g.all (told_as g.rest (return_on g.rest some link on) refl (h g.rest.list g.rest.sound))
 
 -- ONWARD, by where the step leads
-module _ {records cells room stack : List ℕ} {n depth : ℕ} (now : ℕ) (moved : Moved) (v : WayAt records cells room stack n depth (way_of now moved)) where
-  way_is : {m : Moved} → moved ≡ m → way_of now moved v.code (M v) (stack_of stack depth) ≡ way_of now m v.code (M v) (stack_of stack depth)
+module _ {records cells room stack : List ℕ} {n depth : ℕ} (now : ℕ) (moved : Result Moved Fault) (v : WayAt records cells room stack n depth (way_of now moved)) where
+  way_is : {m : Result Moved Fault} → moved ≡ m → way_of now moved v.code (M v) (stack_of stack depth) ≡ way_of now m v.code (M v) (stack_of stack depth)
   way_is e = ap (λ m. way_of now m v.code (M v) (stack_of stack depth)) e
 
-  pub way_faults : {m p : ℕ} → moved ≡ Fault m p → WayTold v stack room (Broken m p)
+  pub way_faults : {f : Fault} → moved ≡ Err f → WayTold v stack room (Err f)
   way_faults e = told_as v (way_is e) refl (nothing_told v.sound)
 
-  pub way_stops : moved ≡ Stop → WayTold v stack room Stood
+  pub way_stops : moved ≡ Ok Stop → WayTold v stack room (Ok Stood)
   way_stops e = told_as v (way_is e) refl (nothing_told v.sound)
 
-  module _ {f k : ℕ} (e : moved ≡ Call f k) where
+  module _ {f k : ℕ} (e : moved ≡ Ok (Call f k)) where
     pub call_few : depth_after (into cells n f) (length (matching_in v.list room).groups) ≤ most_groups
     call_few = few_as v (way_is e) refl
 
-    pub call_told : depth < length stack → {after : List ℕ} → Tells (into cells n f) room after → WayTold v (set stack depth now) after (At f (depth + 1))
+    pub call_told : depth < length stack → {after : List ℕ} → Tells (into cells n f) room after → WayTold v (set stack depth now) after (Ok (At f (depth + 1)))
     call_told high h = told_as v (way_is e) (ap (pc f) (stack_pushed stack now depth high)) (h v.list v.sound)
 
-  module _ {next : ℕ} (e : moved ≡ Go next) where
+  module _ {next : ℕ} (e : moved ≡ Ok (Go next)) where
     module _ (on : next ≡ 0 → ⊥) where
       way_on : way_of now moved v.code (M v) (stack_of stack depth) ≡ told (pc next (stack_of stack depth)) (between cells n now next)
       way_on = way_is e ∙ ap (λ k. follow v.code (M v) ((M v).around now) k (stack_of stack depth)) (by next on)
@@ -201,7 +202,7 @@ module _ {records cells room stack : List ℕ} {n depth : ℕ} (now : ℕ) (move
       pub go_few : depth_after (between cells n now next) (length (matching_in v.list room).groups) ≤ most_groups
       go_few = few_as v way_on refl
 
-      pub go_told : {after : List ℕ} → Tells (between cells n now next) room after → WayTold v stack after (At next depth)
+      pub go_told : {after : List ℕ} → Tells (between cells n now next) room after → WayTold v stack after (Ok (At next depth))
       go_told h = told_as v way_on refl (h v.list v.sound)
 
     module _ (out : next ≡ 0) {amid : List ℕ} (h : Tells (out_of cells n now) room amid) where
@@ -211,5 +212,5 @@ module _ {records cells room stack : List ℕ} {n depth : ℕ} (now : ℕ) (move
       pub out_returns : WayAt records cells amid stack n depth return
       out_returns = then_returns v depth (omega arith) (out_of cells n now) way_out h
 
-      pub out_told : {after : List ℕ} {r : Turned} → ((w : WayAt records cells amid stack n depth return) → WayTold w stack after r) → WayTold v stack after r
+      pub out_told : {after : List ℕ} {r : Result Turned Fault} → ((w : WayAt records cells amid stack n depth return) → WayTold w stack after r) → WayTold v stack after r
       out_told t = then_told v depth (omega arith) (out_of cells n now) way_out h (t (then_returns v depth (omega arith) (out_of cells n now) way_out h))

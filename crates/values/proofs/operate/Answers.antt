@@ -41,17 +41,17 @@ pub add-requires : goal.add-requires
 unfolding op_bits op_number
 add-requires c = adds (rw (arm plus c.in-16.is) at c.requires)
 
-pub overflow_add-longer : goal.overflow_add-longer
+pub overflow_add-max : goal.overflow_add-max
 unfolding op_bits op_number
-overflow_add-longer c = omega (arith, subtracts (rw (arm minus c.in-17.is) at c.requires) c.longer.ensures)
+overflow_add-max c = omega (arith, subtracts (rw (arm minus c.in-17.is) at c.requires) c.max.ensures)
 
 pub subtract-requires : goal.subtract-requires
 unfolding op_bits op_number
-subtract-requires c = subtracts (rw (arm minus c.in-17.is) at c.requires) c.longer.ensures
+subtract-requires c = subtracts (rw (arm minus c.in-17.is) at c.requires) c.max.ensures
 
 pub alike-requires : goal.alike-requires
 unfolding op_bits op_number
-alike-requires c = compares (rw (arm eqv c.in-33.is) at c.requires) c.longer-in-33.ensures
+alike-requires c = compares (rw (arm eqv c.in-33.is) at c.requires) c.max-in-33.ensures
 
 pub returns-in-15 : goal.returns-in-15
 unfolding op_bits op_number
@@ -65,7 +65,7 @@ pub returns-in-17 : goal.returns-in-17
 unfolding op_bits op_number
 returns-in-17 c =
     rw (arm minus c.in-17.is)
-    (c.subtract.ensures _ _ c.requires.fit (ap (λ (x : ℕ). x + 1) c.longer.ensures))
+    (c.subtract.ensures _ _ c.requires.fit (ap (λ (x : ℕ). x + 1) c.max.ensures))
 
 pub returns-in-32 : goal.returns-in-32
 unfolding op_bits op_number
@@ -75,7 +75,7 @@ pub returns-in-33 : goal.returns-in-33
 unfolding op_bits op_number
 returns-in-33 c =
     rw (arm eqv c.in-33.is)
-    (c.alike.ensures _ _ c.requires.fit c.longer-in-33.ensures)
+    (c.alike.ensures _ _ c.requires.fit c.max-in-33.ensures)
 
 pub returns-in-34 : goal.returns-in-34
 unfolding op_bits op_number

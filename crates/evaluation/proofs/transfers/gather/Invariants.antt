@@ -8,7 +8,7 @@ use Rattle.evaluation.specs.Laws.Gathering.{Gathering}
 use Rattle.evaluation.proofs.transfers.gather.Given as goal
 
 abbrev pub invariant-loop-at : goal.invariant-loop-at
-invariant-loop-at l = ((v : GatherAt l.records l.values l.carriers l.word l.low l.size l.p l.end) → Gathering v l.fields l.count l.bits l.at) × (length l.fields ≡ length l.initial.fields)
+invariant-loop-at l = ((v : GatherAt l.records l.values l.carriers l.fn.first.word l.fn.first.low l.fn.first.size l.fn.first.next l.end) → Gathering v l.fields l.count l.bits l.at) × (length l.fields ≡ length l.initial.fields)
 
 abbrev pub decreases-loop-at : goal.decreases-loop-at
 decreases-loop-at l = length l.records - l.at

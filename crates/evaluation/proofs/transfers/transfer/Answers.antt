@@ -2,6 +2,8 @@
 -- Assumes nothing.
 use borrow.Author.Rules.{rules}
 use native.Mathlib.Omega.{arith}
+use Rattle.operands.specs.Laws.Passed.{passed}
+use Rattle.evaluation.specs.Transfers.{TransferAnswer}
 use Rattle.evaluation.specs.Laws.Transfers.{transfer_room, equals_small, right_at, transfer_faults, assign_at, transfer_assigned}
 use Rattle.evaluation.proofs.transfers.transfer.Goals as goal
 
@@ -11,14 +13,14 @@ inside_at-equals-requires c = transfer_room c.requires.0
 pub overflow_add-equals : goal.overflow_add-equals
 overflow_add-equals c = omega (arith, equals_small c.requires.0 c.inside_at-equals.ensures)
 
-pub expression-right-requires : goal.expression-right-requires
-expression-right-requires c = search right_at
+pub expression-requires : goal.expression-requires
+expression-requires c = search right_at
 
 pub assign-requires : goal.assign-requires
 assign-requires c = search (rules, assign_at)
 
-pub returns-in-Fault : goal.returns-in-Fault
-returns-in-Fault c = λ t. search transfer_faults
+pub returns-in_err-right : goal.returns-in_err-right
+returns-in_err-right c = λ t. passed (TransferAnswer t _) _ c.from_residual.ensures.1 (transfer_faults t c.inside_at-equals.ensures c.expression.ensures c.in_err-right.was)
 
-pub returns-in-Value : goal.returns-in-Value
-returns-in-Value c = λ t. search transfer_assigned
+pub returns : goal.returns
+returns c = λ t. transfer_assigned t c.inside_at-equals.ensures c.expression.ensures c.in_ok-right.was _ _ c.assign.ensures

@@ -23,8 +23,8 @@ overflow_add-p c = omega (arith, bits_small c.requires.behind c.bits_size.ensure
 pub in_word-requires : goal.in_word-requires
 in_word-requires c = search (rules, word_small)
 
-pub returns-in-Outside : goal.returns-in-Outside
-returns-in-Outside c = λ v. search outside_answer
+pub returns-in-None : goal.returns-in-None
+returns-in-None c = λ v. search outside_answer
 
-pub returns-in-Number : goal.returns-in-Number
-returns-in-Number c = λ v. search word_answer
+pub returns-in-Some : goal.returns-in-Some
+returns-in-Some c = λ v. search word_answer

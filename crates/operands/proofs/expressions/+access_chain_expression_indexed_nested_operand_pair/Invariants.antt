@@ -30,7 +30,7 @@ abbrev pub decreases-pair : goal.decreases-pair
 decreases-pair l = l.depth * 16 + 7
 
 abbrev pub invariant-chain-loop-ops : goal.invariant-chain-loop-ops
-invariant-chain-loop-ops l = (v : ChainAt l.records l.values l.carriers l.op l.a l.m l.initial.last.number l.initial.last.bits l.p l.depth) → Going v l.ops l.numbers l.lengths l.last.count l.last.number l.last.bits l.at
+invariant-chain-loop-ops l = (v : ChainAt l.records l.values l.carriers l.op l.fn.left.number l.fn.left.bits l.fn.right.number l.fn.right.bits l.fn.right.next l.depth) → Going v l.ops l.numbers l.lengths l.last.count l.last.number l.last.bits l.at
 
 abbrev pub decreases-chain-loop-ops : goal.decreases-chain-loop-ops
 decreases-chain-loop-ops l = length l.records - l.at

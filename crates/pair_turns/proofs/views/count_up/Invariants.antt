@@ -1,6 +1,6 @@
 -- `pair_turns::views::count_up` meets its contract: the cells up to j count up.
 -- Assumes nothing.
-use Prim.Native.Nat.{◌-◌, ◌≤◌}
+use Prim.Native.Nat.{◌≤◌}
 use mathlib.Core.Path.{◌≡◌}
 use lib.ListN.{length}
 use Rattle.pair_turns.specs.Views.{CountedUp}
@@ -8,6 +8,3 @@ use Rattle.pair_turns.proofs.views.count_up.Given as goal
 
 abbrev pub invariant-loop-j : goal.invariant-loop-j
 invariant-loop-j l = (l.j ≤ l.n) × ((length l.view ≡ length l.initial.view) × CountedUp l.initial.view l.view l.at l.j l.first)
-
-abbrev pub decreases-loop-j : goal.decreases-loop-j
-decreases-loop-j l = l.n - l.j

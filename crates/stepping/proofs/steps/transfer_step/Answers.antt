@@ -1,13 +1,15 @@
 -- `stepping::steps::transfer_step` meets its contract: the transfer is made, or nothing is.
 -- Assumes nothing.
+use Rattle.operands.specs.Laws.Passed.{passed}
+use Rattle.stepping.specs.Steps.{StepAnswer}
 use Rattle.stepping.specs.Laws.Steps.{move_at, move_faults, move_goes}
 use Rattle.stepping.proofs.steps.transfer_step.Goals as goal
 
-pub transfer-made-requires : goal.transfer-made-requires
-transfer-made-requires c = (move_at c.requires.1.0 c.requires.1.1.0 c.requires.1.1.1.0, c.requires.1.1.1.1)
+pub transfer-requires : goal.transfer-requires
+transfer-requires c = (move_at c.requires.1.0 c.requires.1.1.0 c.requires.1.1.1.0, c.requires.1.1.1.1)
 
-pub returns-in-Fault : goal.returns-in-Fault
-returns-in-Fault c = λ decls v k o. move_faults v k o c.transfer-made.ensures c.in-Fault.is
+pub returns-in_err-transfer : goal.returns-in_err-transfer
+returns-in_err-transfer c = λ decls v k o. passed (StepAnswer v _) _ c.from_residual.ensures.1 (move_faults v k o c.transfer.ensures c.in_err-transfer.was)
 
-pub returns-in-Stored : goal.returns-in-Stored
-returns-in-Stored c = λ decls v k o. move_goes v k o c.transfer-made.ensures c.in-Stored.is c.link_at-next.ensures
+pub returns : goal.returns
+returns c = λ decls v k o. move_goes v k o c.transfer.ensures c.in_ok-transfer.was c.link_at.ensures

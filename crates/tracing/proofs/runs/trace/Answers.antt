@@ -3,9 +3,20 @@
 use Prim.Native.Nat.{◌-◌}
 use borrow.Author.Rules.{rules}
 use native.Mathlib.Omega.{arith}
-use mathlib.Core.Path.{refl}
+use mathlib.Core.Path.{◌≡◌, refl, sym, ap, ◌∙◌}
+use Rattle.std.specs.Prelude.{Result, Ok, Err}
+use Rattle.stepping.specs.declared.steps.Fault.{Fault}
+use Rattle.runner.specs.declared.turns.Turned.{Turned}
+use Rattle.tracing.specs.Traces.{ended_by}
 use Rattle.tracing.specs.Laws.Traces.{enters, tracing_begins, turn_at, ends, goes_on, pauses}
 use Rattle.tracing.proofs.runs.trace.Goals as goal
+
+-- a turn is the one that it is, and a fault is none
+same_turn : {t u : Turned} → ◌≡◌ {A = Result Turned Fault} (Ok t) (Ok u) → t ≡ u
+same_turn e = cc
+
+failed_not : {f : Fault} {t : Turned} → ◌≡◌ {A = Result Turned Fault} (Err f) (Ok t) → ⊥
+failed_not e = cc
 
 pub slice_bounds-enter-count : goal.slice_bounds-enter-count
 slice_bounds-enter-count c = omega (arith, c.requires.long)
@@ -28,17 +39,22 @@ slice_bounds-turn-end c = search rules
 pub slice_bounds-turn-end-in-loop-steps : goal.slice_bounds-turn-end-in-loop-steps
 slice_bounds-turn-end-in-loop-steps c = search rules
 
-pub turn-turned-requires : goal.turn-turned-requires
-turn-turned-requires c =
+pub turn-requires : goal.turn-requires
+turn-requires c =
     (turn_at c.requires _ _ _ (c.loop-steps.invariant.1.1.1.1.1 _ c.requires c.enter.ensures) c.loop-steps.invariant.1.0 c.loop-steps.invariant.1.1.1.1.0, omega (arith, c.loop-steps.invariant.1.1.1.0))
 
 pub ended-requires : goal.ended-requires
 ended-requires c = omega (arith, c.loop-steps-test.true, c.ranges.budget)
 
+pub returns-in-Err : goal.returns-in-Err
+returns-in-Err c = λ v.
+    ends v _ _ _ (c.loop-steps.invariant.1.1.1.1.1 _ v c.enter.ensures) c.loop-steps.invariant.1.0 c.loop-steps.invariant.1.1.1.1.0 c.loop-steps-test.true c.turn.ensures
+    (λ n d e. absurd (failed_not (sym c.in-Err.is ∙ e))) (sym (ap (λ t. ended_by t c.loop-steps.steps) c.in-Err.is))
+
 pub returns-in_default : goal.returns-in_default
 returns-in_default c = λ v.
-    ends v _ _ _ (c.loop-steps.invariant.1.1.1.1.1 _ v c.enter.ensures) c.loop-steps.invariant.1.0 c.loop-steps.invariant.1.1.1.1.0 c.loop-steps-test.true c.turn-turned.ensures
-    c.in_default.not-At c.ended.ensures
+    ends v _ _ _ (c.loop-steps.invariant.1.1.1.1.1 _ v c.enter.ensures) c.loop-steps.invariant.1.0 c.loop-steps.invariant.1.1.1.1.0 c.loop-steps-test.true c.turn.ensures
+    (λ n d e. c.in_default.not-At n d (same_turn (sym c.in-Ok.is ∙ e))) (c.ended.ensures ∙ sym (ap (λ t. ended_by t c.loop-steps.steps) c.in-Ok.is))
 
 pub overflow_add-steps : goal.overflow_add-steps
 overflow_add-steps c = record { fits = omega (arith, c.loop-steps-test.true, c.ranges.budget) }
@@ -50,14 +66,14 @@ pub loop-steps-preserved : goal.loop-steps-preserved
 loop-steps-preserved c = (
   omega (arith, c.loop-steps-test.true),
   (
-    omega (arith, c.turn-turned.auto.memory, c.loop-steps.invariant.1.0),
+    omega (arith, c.turn.auto.memory, c.loop-steps.invariant.1.0),
     (
-      omega (arith, c.turn-turned.auto.room, c.loop-steps.invariant.1.1.0),
+      omega (arith, c.turn.auto.room, c.loop-steps.invariant.1.1.0),
       (
-        omega (arith, c.turn-turned.auto.scratch, c.loop-steps.invariant.1.1.1.0),
+        omega (arith, c.turn.auto.scratch, c.loop-steps.invariant.1.1.1.0),
         (
-          omega (arith, c.turn-turned.auto.stack, c.loop-steps.invariant.1.1.1.1.0),
-          λ room₁ v e. goes_on v _ _ _ (c.loop-steps.invariant.1.1.1.1.1 room₁ v e) c.loop-steps.invariant.1.0 c.loop-steps.invariant.1.1.1.1.0 c.loop-steps-test.true c.turn-turned.ensures c.in-At.is,
+          omega (arith, c.turn.auto.stack, c.loop-steps.invariant.1.1.1.1.0),
+          λ room₁ v e. goes_on v _ _ _ (c.loop-steps.invariant.1.1.1.1.1 room₁ v e) c.loop-steps.invariant.1.0 c.loop-steps.invariant.1.1.1.1.0 c.loop-steps-test.true c.turn.ensures (c.in-Ok.is ∙ ap Ok c.in-At.is),
         ),
       ),
     ),

@@ -9,9 +9,6 @@ use Rattle.turning.proofs.ways.back.Goals as goal
 pub loop-top-init : goal.loop-top-init
 loop-top-init c = (refl, λ v. none_left v)
 
-pub overflow_sub-top : goal.overflow_sub-top
-overflow_sub-top c = search rules
-
 pub offset_bounds-stack-top : goal.offset_bounds-stack-top
 offset_bounds-stack-top c = omega (arith, top_within (c.loop-top.invariant.1 c.requires).rest c.loop-top-test.true)
 

@@ -1,6 +1,6 @@
 -- `values::operators::subtract` meets its contract: the difference modulo 2 ^ 64 is one modulo each shorter length.
 -- Assumes nothing.
-use Rattle.std.proofs.Common.{◌≡◌, ℕ, ◌+◌, ◌-◌, ◌%◌, ◌^◌, ◌≤◌, sym, ap, ◌∙◌, arith, pow_mono, rules}
+use Rattle.std.proofs.Common.{◌≡◌, ℕ, ◌+◌, ◌-◌, ◌%◌, ◌^◌, ◌<◌, ◌≤◌, sym, ap, ◌∙◌, arith, pow_mono}
 use native.Mathlib.Nat.{add-mod_right, mod-add-mod}
 use lib.Pow.{mod-mod-pow}
 use Rattle.rules.specs.Text.Tokens.{minus}
@@ -26,5 +26,8 @@ difference n d r a b m k h wraps is_low fit len =
     let below : b ≤ 2 ^ n = omega (arith, fit.right, pow_mono {i = k} {j = n} (omega arith)) in
     rw (← len) (is_low ∙ less (2 ^ n) d a b below (shorter n (d + b) a h wraps))
 
+wrapped : (a b : ℕ) → a < 2 ^ 64 → b < 2 ^ 64 → ((a + (2 ^ 64 - b)) % 2 ^ 64 + b) % 2 ^ 64 ≡ a
+wrapped a b h l = omega arith
+
 pub returns : goal.returns
-returns c = search (rules, difference)
+returns c = λ m k. difference _ _ _ _ _ m k c.requires (wrapped c.args.a c.args.b (omega arith) (omega arith)) c.low_bits.ensures
