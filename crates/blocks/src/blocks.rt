@@ -31,10 +31,8 @@ fn check_of(front: &[u8]) -> u64
     ensures { (result ≡ check_of front.now) × (result < 4294967296) }
 {
     let mut sum: u64 = 0;
-    let mut i: usize = 0;
-    while i < front.len() {
-        sum += weight(front[i], i);
-        i += 1;
+    for (i, byte) in front.iter().enumerate() {
+        sum += weight(*byte, i);
     }
     sum
 }

@@ -8,23 +8,17 @@ pub fn copy(to: &mut [u8], at: usize, from: &[u8])
     requires { at + length from.now ≤ length to.old }
     ensures { to.new ≡ paste to.old at from.now (length from.now) }
 {
-    let mut i: usize = 0;
-    while i < from.len() {
-        to[at + i] = from[i];
-        i += 1;
-    }
+    to[at..at + from.len()].copy_from_slice(from);
 }
 
 // Whether every byte is 0.
 pub fn is_zero(bytes: &[u8]) -> bool
     ensures { result ≡ all_zero bytes.now }
 {
-    let mut i: usize = 0;
-    while i < bytes.len() {
-        if bytes[i] != 0 {
+    for byte in bytes {
+        if *byte != 0 {
             return false;
         }
-        i += 1;
     }
     true
 }

@@ -23,16 +23,7 @@ fn activates(records: &[u8], n: usize, at: usize, kind: u8, m: usize) -> bool
     requires { Kinded records.now n × (at < n) }
     ensures { (v : Kinded records.now n) → Activates result kind m (next_no (drop (at + 1) v.tokens)) }
 {
-    if kind != NAME {
-        return false;
-    }
-    if m != 0 {
-        return false;
-    }
-    if kind_of(records, n, at + 1) != LPAR {
-        return false;
-    }
-    true
+    kind == NAME && m == 0 && kind_of(records, n, at + 1) == LPAR
 }
 
 fn no_call(n: usize) -> Call
@@ -53,17 +44,15 @@ pub fn next_call(records: &[u8], n: usize, at: usize, depth: usize, from: usize)
 {
     let mut d = depth;
     let mut m = from;
-    let mut i = at;
-    while i < n {
-        let here = i;
-        let kind = kind_at(records, here);
+    for i in at..n {
+        let kind = kind_at(records, i);
         if halts(SEPARATOR, d, kind) {
             return no_call(n);
         }
-        if activates(records, n, here, kind, m) {
+        if activates(records, n, i, kind, m) {
             return Call {
-                name: here,
-                at: here + 1,
+                name: i,
+                at: i + 1,
                 depth: d,
                 mode: 0,
             };
@@ -73,7 +62,6 @@ pub fn next_call(records: &[u8], n: usize, at: usize, depth: usize, from: usize)
         }
         d = deeper(d, kind);
         m = mode(m, kind);
-        i += 1;
     }
     no_call(n)
 }

@@ -107,17 +107,14 @@ pub fn end_of(records: &[u8], n: usize, from: usize) -> usize
     ensures { (from ≤ result) × ((v : Kinded records.now n) → drop result v.tokens ≡ behind 0 (drop from v.tokens)) }
 {
     let mut d: usize = 0;
-    let mut i = from;
-    while i < n {
-        let at = i;
-        let kind = kind_at(records, at);
+    for i in from..n {
+        let kind = kind_at(records, i);
         if halts(SEPARATOR, d, kind) {
-            return at;
+            return i;
         }
         d = deeper(d, kind);
-        i += 1;
     }
-    i
+    from.max(n)
 }
 
 // Whether `;` stands behind the action that begins at i.
@@ -125,6 +122,5 @@ pub fn more(records: &[u8], n: usize, i: usize) -> bool
     requires { Kinded records.now n }
     ensures { (v : Kinded records.now n) → result ≡ more (drop i v.tokens) }
 {
-    let kind = kind_of(records, n, end_of(records, n, i));
-    kind == SEMI
+    kind_of(records, n, end_of(records, n, i)) == SEMI
 }

@@ -4,14 +4,14 @@ use borrow.Author.Rules.{rules}
 use Rattle.blocks.specs.Laws.Loops.{none_zero, more_zero, not_zero, all_zero_lem}
 use Rattle.blocks.proofs.bytes.is_zero.Goals as goal
 
-pub loop-i-init : goal.loop-i-init
-loop-i-init c = search (rules, none_zero)
+pub loop-byte-init : goal.loop-byte-init
+loop-byte-init c = search (rules, none_zero)
 
-pub returns-then-bytes-i-ne0 : goal.returns-then-bytes-i-ne0
-returns-then-bytes-i-ne0 c = search (rules, not_zero)
+pub returns-then-byte-ne0 : goal.returns-then-byte-ne0
+returns-then-byte-ne0 c = search (rules, not_zero)
 
-pub loop-i-preserved : goal.loop-i-preserved
-loop-i-preserved c = search (rules, more_zero)
+pub loop-byte-preserved : goal.loop-byte-preserved
+loop-byte-preserved c = search (rules, more_zero)
 
 pub returns : goal.returns
 returns c = search (rules, all_zero_lem)

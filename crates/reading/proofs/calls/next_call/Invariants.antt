@@ -5,6 +5,3 @@ use Rattle.reading.proofs.calls.next_call.Given as goal
 
 abbrev pub invariant-loop-i : goal.invariant-loop-i
 invariant-loop-i l = Searching l.records l.n l.at l.depth l.from l.d l.m l.i
-
-abbrev pub decreases-loop-i : goal.decreases-loop-i
-decreases-loop-i l = l.n - l.i
