@@ -13,61 +13,42 @@ use rules::kinds::{
 use table::scans::{SEPARATOR, deeper, halts};
 
 // Whether an expression stands behind it: `=`, IF or DECODE.
+#[tactic(auto, unfolding(crate::specs::Kinds::tests, rules::specs::Whole::Sets::member))]
 fn tests(kind: u8) -> bool
     ensures { result ≡ tests kind }
 {
-    match kind {
-        EQUALS => true,
-        IF => true,
-        DECODE => true,
-        _ => false,
-    }
+    matches!(kind, EQUALS | IF | DECODE)
 }
 
 // Whether an action stands behind it, or nothing that names a carrier.
+#[tactic(auto, unfolding(crate::specs::Kinds::begins, rules::specs::Whole::Sets::member))]
 fn begins(kind: u8) -> bool
     ensures { result ≡ begins kind }
 {
-    match kind {
-        COMMA => true,
-        SEMI => true,
-        BECOMES => true,
-        ARROW => true,
-        BEGIN => true,
-        END => true,
-        NEXT => true,
-        REPEAT => true,
-        _ => false,
-    }
+    matches!(
+        kind,
+        COMMA | SEMI | BECOMES | ARROW | BEGIN | END | NEXT | REPEAT
+    )
 }
 
 // Whether it stands behind a name that is stored to: `[`, `<`, `=` or `@`.
+#[tactic(auto, unfolding(crate::specs::Kinds::stores, rules::specs::Whole::Sets::member))]
 pub fn stores(kind: u8) -> bool
     ensures { result ≡ stores kind }
 {
-    match kind {
-        LBRA => true,
-        LESS => true,
-        EQUALS => true,
-        AT => true,
-        _ => false,
-    }
+    matches!(kind, LBRA | LESS | EQUALS | AT)
 }
 
 // Whether an action ends with a token, at the depth d in it.
+#[tactic(auto, unfolding(crate::specs::Kinds::closes))]
 pub fn closes(d: usize, kind: u8) -> bool
     ensures { result ≡ closes d kind }
 {
-    if kind != END {
-        return false;
-    }
-    if d < 2 {
-        return true;
-    }
-    false
+    kind == END && d < 2
 }
 
 // Whether names behind a token are stored to, 0, or read.
+#[tactic(auto, unfolding(crate::specs::Kinds::mode))]
 pub fn mode(m: usize, kind: u8) -> usize
     requires { m < 65536 }
     ensures { (result ≡ mode m kind) × (result ≤ m + 1) }
@@ -82,10 +63,7 @@ pub fn mode(m: usize, kind: u8) -> usize
         return m + 1;
     }
     if kind == RBRA {
-        if m == 0 {
-            return 0;
-        }
-        return m - 1;
+        return m.saturating_sub(1);
     }
     m
 }
@@ -95,10 +73,7 @@ pub fn kind_of(records: &[u8], n: usize, i: usize) -> u8
     requires { Kinded records.now n }
     ensures { (v : Kinded records.now n) → result ≡ next_no (drop i v.tokens) }
 {
-    if i < n {
-        return kind_at(records, i);
-    }
-    NO_KIND
+    if i < n { kind_at(records, i) } else { NO_KIND }
 }
 
 // The separator behind the action that begins at i.

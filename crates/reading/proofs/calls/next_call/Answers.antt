@@ -1,7 +1,6 @@
 -- `reading::calls::next_call` meets its contract: the activations that are left stay the same up to the next.
 use borrow.Author.Rules.{rules}
 use mathlib.Core.Path.{refl}
-use Prim.Native.Nat.{◌-◌}
 use Rattle.reading.specs.Laws.Calls.{exhausted, ended, reached, shut, onward}
 use Rattle.reading.proofs.calls.next_call.Goals as goal
 

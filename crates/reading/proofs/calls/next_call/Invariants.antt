@@ -1,5 +1,4 @@
 -- `reading::calls::next_call` meets its contract: the activations that are left stay the same up to the next.
-use Prim.Native.Nat.{◌-◌}
 use Rattle.reading.specs.Laws.Calls.{Searching}
 use Rattle.reading.proofs.calls.next_call.Given as goal
 

@@ -1,5 +1,4 @@
 -- `reading::kinds::end_of` meets its contract: what is left to read comes to the same place.
-use Prim.Native.Nat.{◌-◌}
 use Rattle.reading.specs.Laws.Ends.{Seeking}
 use Rattle.reading.proofs.kinds.end_of.Given as goal
 
