@@ -72,6 +72,7 @@ fn descend(
     let mut at = from;
     let mut depth: usize = 0;
     let mut mode: usize = 0;
+    // A loop: each activation tells where the next is looked for.
     loop {
         let call = next_call(records, n, at, depth, mode);
         let name = call.name;
@@ -103,11 +104,9 @@ fn note_carriers(records: &[u8], decls: &[u8], memo: &mut [u8], m: usize, n: usi
     requires { Reading records.now decls.now m n × (72 * m ≤ length memo.old) }
     ensures { Carrying records.now decls.now memo.new m n × ((k : ℕ) → k < m → mark_of memo.new k ≡ 0) }
 {
-    let mut k: usize = 0;
-    while k < m {
+    for k in 0..m {
         let c = own_carrier(records, decls, m, n, k);
         put_word(memo, 9 * k, ABOVE_MARK * c);
-        k += 1;
     }
 }
 
@@ -118,8 +117,7 @@ pub fn gather_all(records: &[u8], decls: &[u8], memo: &mut [u8], m: usize, n: us
     ensures { Complete records.now decls.now memo.new m n }
 {
     note_carriers(records, decls, memo, m, n);
-    let mut k: usize = 0;
-    while k < m {
+    for k in 0..m {
         gather(
             records,
             decls,
@@ -129,6 +127,5 @@ pub fn gather_all(records: &[u8], decls: &[u8], memo: &mut [u8], m: usize, n: us
             get16(decls, k) as usize,
             LONGEST_CHAIN,
         );
-        k += 1;
     }
 }

@@ -151,11 +151,8 @@ pub fn passed(records: &[u8], decls: &[u8], memo: &[u8], m: usize, n: usize, fro
     let mut t = nothing();
     let mut d: usize = 0;
     let mut at_mode: usize = 0;
-    let mut i = from;
-    while i < n {
-        let at = i;
+    for at in from..n {
         let kind = kind_at(records, at);
-        i += 1;
         if kind == NAME {
             t = named(records, decls, memo, m, n, at, at_mode, t);
             continue;
@@ -169,12 +166,18 @@ pub fn passed(records: &[u8], decls: &[u8], memo: &[u8], m: usize, n: usize, fro
             return Extent { touched: t, at };
         }
         if next.closes {
-            return Extent { touched: t, at: i };
+            return Extent {
+                touched: t,
+                at: at + 1,
+            };
         }
         d = next.depth;
         at_mode = next.mode;
     }
-    Extent { touched: t, at: i }
+    Extent {
+        touched: t,
+        at: from.max(n),
+    }
 }
 
 // What the action at from touches.

@@ -1,6 +1,5 @@
 -- `gathering::gathering::gather` and `descend` meet their contracts: the remaining length of the chain falls at each body.
 use borrow.Author.Rules.{rules}
-use Prim.Native.Nat.{◌-◌}
 use native.Mathlib.Omega.{arith}
 use Rattle.reading.specs.Laws.Reading.{kinded}
 use Rattle.gathering.specs.Laws.Filling.{fill_unknown, fill_done, fill_bodiless, fill_body, still_carrying, chain_down, some_left, go_down, descended, call_short, call_name, call_fewer, call_done, token_room, entry_room, few_declared}

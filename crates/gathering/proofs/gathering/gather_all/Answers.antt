@@ -2,7 +2,6 @@
 use borrow.Author.Rules.{rules}
 use native.Mathlib.Omega.{arith}
 use mathlib.Core.Path.{refl}
-use Prim.Native.Nat.{◌-◌}
 use Rattle.gathering.specs.Laws.Filling.{collect_none, collected, name_inside, name_kind, name_short, collect_more}
 use Rattle.gathering.proofs.gathering.gather_all.Goals as goal
 

@@ -1,6 +1,5 @@
 -- `gathering::gathering::note_carriers` meets its contract.
 use borrow.Author.Rules.{rules}
-use Prim.Native.Nat.{◌-◌}
 use Rattle.gathering.specs.Laws.Filling.{note_none, note_more, all_noted, all_unmarked}
 use Rattle.gathering.proofs.gathering.note_carriers.Goals as goal
 
