@@ -55,9 +55,7 @@ fn listed(
     ensures { (v : Tabled text.now records.now n)
         → result ≡ is_known (word_at v.tokens name) (names_from v.tokens labels.now base (top - base)) }
 {
-    let mut j = top;
-    while base < j {
-        j -= 1;
+    for j in (base..top).rev() {
         let label = get16(labels, j) as usize;
         if same_word(text, records, label, name) {
             return true;
@@ -87,14 +85,11 @@ fn among(
 }
 
 // Whether it is LEAVE or RESTART.
+#[tactic(auto, unfolding(crate::specs::Walks::jumps, rules::specs::Whole::Sets::member))]
 fn jumps(kind: u8) -> bool
     ensures { result ≡ jumps kind }
 {
-    match kind {
-        LEAVE => true,
-        RESTART => true,
-        _ => false,
-    }
+    matches!(kind, LEAVE | RESTART)
 }
 
 // The key of 52 at the token i, whose kind this is: where it jumps to none of the labels from base up to top. Where a key is known that this one would not

@@ -42,13 +42,10 @@ pub fn first_conflict(u: Touched, t: Touched, m: usize) -> usize
     requires { m ≤ 256 }
     ensures { Shared u.reads.w u.writes.w t.reads.w t.writes.w m result }
 {
-    let mut k: usize = 0;
-    while k < m {
-        let at = k;
-        if conflicts(u, t, at) {
-            return at;
+    for k in 0..m {
+        if conflicts(u, t, k) {
+            return k;
         }
-        k += 1;
     }
     m
 }

@@ -74,6 +74,7 @@ pub fn group_at(records: &[u8], decls: &[u8], memo: &[u8], m: usize, n: usize, f
     let mut key = NO_KEY;
     let mut before = nothing();
     let mut i = from;
+    // A loop: the members are found one behind the other, by what stands behind each.
     loop {
         let member = passed(records, decls, memo, m, n, i);
         let own = member.touched;

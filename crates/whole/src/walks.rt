@@ -113,21 +113,18 @@ fn walk_key(
     let mut depth: usize = 0;
     let mut base: usize = 1;
     let mut top: usize = 0;
-    let mut i = from;
-    while i < n {
-        let at = i;
-        let kind = kind_at(records, at);
+    for i in from..n {
+        let kind = kind_at(records, i);
         if closes(depth, kind) {
             return key;
         }
-        let here = fault_at(text, records, decls, room, m, n, at, kind, base, top, key);
+        let here = fault_at(text, records, decls, room, m, n, i, kind, base, top, key);
         key = earlier(key, here.key);
         let several = here.several;
-        let next = turn_in(text, records, room, n, at, kind, several, depth, base, top);
+        let next = turn_in(text, records, room, n, i, kind, several, depth, base, top);
         depth = next.depth;
         base = next.base;
         top = next.top;
-        i += 1;
     }
     key
 }
@@ -165,11 +162,8 @@ pub fn groups_key(
     ensures { (v : Written text.now records.now decls.now m n) → result ≡ least_number_key (groups_faults (whole v) (whole v)) }
 {
     let mut key = NO_KEY;
-    let mut k: usize = 0;
-    while k < m {
-        let at = k;
-        k += 1;
-        key = earlier(key, body_key(text, records, decls, room, m, n, at));
+    for k in 0..m {
+        key = earlier(key, body_key(text, records, decls, room, m, n, k));
     }
     key
 }

@@ -1,6 +1,5 @@
 -- `sharing::first_conflict` meets its contract.
 use borrow.Author.Rules.{rules}
-use Prim.Native.Nat.{◌-◌}
 use Rattle.sharing.specs.Laws.Shared.{share_starts, share_over, share_found, share_on}
 use Rattle.sharing.proofs.first_conflict.Goals as goal
 

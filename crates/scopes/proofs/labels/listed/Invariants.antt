@@ -4,6 +4,3 @@ use Rattle.scopes.proofs.labels.listed.Given as goal
 
 abbrev pub invariant-loop-j : goal.invariant-loop-j
 invariant-loop-j l = Seeking l.text l.records l.labels l.n l.base l.top l.name l.j
-
-abbrev pub decreases-loop-j : goal.decreases-loop-j
-decreases-loop-j l = l.j

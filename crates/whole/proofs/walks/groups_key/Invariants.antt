@@ -5,6 +5,3 @@ use Rattle.whole.proofs.walks.groups_key.Given as goal
 
 abbrev pub invariant-loop-k : goal.invariant-loop-k
 invariant-loop-k l = Bodies l.text l.records l.decls l.initial.room l.room l.m l.n l.key l.k
-
-abbrev pub decreases-loop-k : goal.decreases-loop-k
-decreases-loop-k l = l.m - l.k
