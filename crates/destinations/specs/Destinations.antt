@@ -1,5 +1,5 @@
 -- A destination that stands in the table, its faults, and what is answered of it.
-use Rattle.std.specs.Prelude.{ℕ, ◌<◌, ◌≤◌, max, ◌≡◌, Bool, false, List, ◌∷◌, ◌++◌, drop}
+use Rattle.std.specs.Prelude.{Option, Some, None, ℕ, ◌<◌, ◌≤◌, max, ◌≡◌, Bool, false, List, ◌∷◌, ◌++◌, drop}
 use Rattle.rules.specs.Text.Tokens.{Name, Equals, Info, tk}
 use Rattle.rules.specs.Grammar.Trees.{Tokens, Bits, bits_tokens, Subscript, subscript_tokens, Joined, joined_tokens}
 use Rattle.rules.specs.Declarations.{reach}
@@ -9,8 +9,6 @@ use Rattle.rules.specs.Whole.Sets.{owner_in}
 use Rattle.laws_grammar.specs.Cited.Nesting.{subscript_nest, joined_nest}
 use Rattle.keys.specs.Keys.{least_key, Smalls}
 use Rattle.destinations.specs.declared.Checked.{Checked}
-use Rattle.destinations.specs.declared.owners.Storage.{Storage}
-use Rattle.destinations.specs.declared.owners.Storage.TheVariants.{Carrier, Nothing}
 use Rattle.accesses.specs.Scene.{Scene, outer_of, table_of}
 use Rattle.destinations.specs.Carriers.{holds, added}
 
@@ -40,10 +38,10 @@ module _ {records values decls : List ℕ} {i depth : ℕ} (v : DestinationAt re
     pub behind : drop r.next v.scene.tokens ≡ tk Equals v.equals ∷ v.rest
 
 -- the set of those stored to
-abbrev pub repeats : List ℕ → Storage → Bool
-repeats w (Carrier k) = holds w k
-repeats w Nothing = false
+abbrev pub repeats : List ℕ → Option ℕ → Bool
+repeats w (Some k) = holds w k
+repeats w None = false
 
-abbrev pub stored : List ℕ → Storage → List ℕ
-stored w (Carrier k) = added w k
-stored w Nothing = w
+abbrev pub stored : List ℕ → Option ℕ → List ℕ
+stored w (Some k) = added w k
+stored w None = w

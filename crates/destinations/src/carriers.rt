@@ -13,6 +13,7 @@ pub fn no_carriers() -> Carriers
     Carriers { words: [0; 4] }
 }
 
+#[tactic(auto, unfolding(crate::specs::Carriers::holds))]
 pub fn has(set: Carriers, i: u8) -> bool
     ensures { result ≡ holds set.words i }
 {

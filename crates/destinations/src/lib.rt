@@ -11,7 +11,7 @@ ghost use Rattle.keys.specs.Keys.{least_key};
 ghost use Rattle.destinations.specs.Destinations.{repeats, stored, DestinationAt, DestinationAnswer};
 
 use crate::carriers::{Carriers, has, no_carriers, with};
-use crate::owners::{Storage, owner};
+use crate::owners::owner;
 use expressions::judge::access;
 use keys::{NO_KEY, earlier, fault_key};
 use records::fields::{kind_at, place_at};
@@ -27,27 +27,22 @@ pub struct Checked {
 }
 
 // 46 at the name i, where its carrier is stored to already.
-fn repeat_key(records: &[u8], kept: Carriers, to: Storage, i: usize) -> u32
+fn repeat_key(records: &[u8], kept: Carriers, to: Option<u8>, i: usize) -> u32
     requires { (8 * i + 8 ≤ length records.now) × (place_cell records.now i ≤ 32768) }
     ensures { result ≡ least_key (when (repeats kept.words to) 46 (place_cell records.now i)) }
 {
     match to {
-        Storage::Nothing => NO_KEY,
-        Storage::Carrier(k) => {
-            if !has(kept, k) {
-                return NO_KEY;
-            }
-            fault_key(46, place_at(records, i))
-        }
+        Some(k) if has(kept, k) => fault_key(46, place_at(records, i)),
+        _ => NO_KEY,
     }
 }
 
-fn with_storage(kept: Carriers, to: Storage) -> Carriers
+fn with_storage(kept: Carriers, to: Option<u8>) -> Carriers
     ensures { result.words ≡ stored kept.words to }
 {
     match to {
-        Storage::Nothing => kept,
-        Storage::Carrier(k) => with(kept, k),
+        None => kept,
+        Some(k) => with(kept, k),
     }
 }
 
@@ -65,13 +60,7 @@ pub fn destination(records: &[u8], values: &[u8], decls: &[u8], i: usize, depth:
     };
     let mut twice = NO_KEY;
     let mut at = first.next;
-    loop {
-        if kind_at(records, at) != AT {
-            return Checked {
-                key: earlier(weight.key, twice),
-                next: at,
-            };
-        }
+    while kind_at(records, at) == AT {
         let name = at + 1;
         let part = access(records, values, decls, name, depth);
         let right = Weight {
@@ -83,5 +72,9 @@ pub fn destination(records: &[u8], values: &[u8], decls: &[u8], i: usize, depth:
         twice = earlier(twice, repeat_key(records, kept, again, name));
         kept = with_storage(kept, again);
         at = part.next;
+    }
+    Checked {
+        key: earlier(weight.key, twice),
+        next: at,
     }
 }

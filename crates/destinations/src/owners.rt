@@ -7,29 +7,22 @@ use records::fields::inside16_at;
 use table::meanings::OUTER_ONLY;
 use table::views::{bits_of, target_of};
 
-// A carrier by the number of its declaration, or none.
-#[derive(Clone, Copy)]
-pub enum Storage {
-    Carrier(u8),
-    Nothing,
-}
-
-// The carrier of the name i: that of its declaration, or for a mapping the one under it.
-pub fn owner(records: &[u8], values: &[u8], decls: &[u8], i: usize) -> Storage
+// The carrier of the name i by the number of its declaration: its own, or for a mapping that of the one under it.
+pub fn owner(records: &[u8], values: &[u8], decls: &[u8], i: usize) -> Option<u8>
     requires { NameHere records.now values.now decls.now i }
     ensures { (v : NameHere records.now values.now decls.now i) → Owns v result }
 {
     let number = inside16_at(records, i);
     if OUTER_ONLY <= number {
-        return Storage::Nothing;
+        return None;
     }
     let d = get16(decls, number as usize) as usize;
     let target = target_of(records, d);
     if target != 0 {
-        return Storage::Carrier(inside16_at(records, target) as u8);
+        return Some(inside16_at(records, target) as u8);
     }
     if is_missing(bits_of(records, values, d)) {
-        return Storage::Nothing;
+        return None;
     }
-    Storage::Carrier(number as u8)
+    Some(number as u8)
 }

@@ -15,13 +15,13 @@ use Rattle.keys.specs.Keys.{no_key, least_key}
 use Rattle.accesses.specs.declared.Judged.{Judged as Answer}
 use Rattle.weighing.specs.declared.Weight.{Weight}
 use Rattle.destinations.specs.declared.carriers.Carriers.{Carriers}
-use Rattle.destinations.specs.declared.owners.Storage.{Storage}
 use Rattle.weighing.specs.Weights.{Weighs, operated}
 use Rattle.expressions.specs.Expressions.{AccessAt, AccessAnswer}
 use Rattle.destinations.specs.Owners.{NameHere, Owns}
 use Rattle.destinations.specs.Destinations.{DestinationAt, DestinationAnswer, repeats, stored}
 use Rattle.destinations.specs.Laws.Destinations.{access_name, Joining, first_part, joining_begun, token_within, token_room, another, joining_ended, next_part, operator_place, place_fits, name_fits, part_weighs, joining_more}
 use Rattle.destinations.proofs.destination.Invariants.{Inv}
+use Rattle.std.specs.Prelude.{Option}
 use Rattle.destinations.proofs.destination.Goals as goal
 
 module _ {records values decls : List ℕ} {i depth : ℕ} where
@@ -40,7 +40,7 @@ module _ {records values decls : List ℕ} {i depth : ℕ} where
   first_name : DestinationAt records values decls i depth → NameHere records values decls i
   first_name v = access_name (first_part v)
 
-  begin : {r : Answer} → ((u : AccessAt records values decls i depth) → AccessAnswer u r) → {t : Storage} → ((u : NameHere records values decls i) → Owns u t)
+  begin : {r : Answer} → ((u : AccessAt records values decls i depth) → AccessAnswer u r) → {t : Option ℕ} → ((u : NameHere records values decls i) → Owns u t)
       → {empty kept : Carriers} → empty.words ≡ replicate 4 0 → kept.words ≡ stored empty.words t
       → DestinationAt records values decls i depth → Inv records values decls i depth kept (record { key = r.key; bits = r.bits }) no_key r.next
   begin f {t} o e s =
@@ -74,7 +74,7 @@ module _ {records values decls : List ℕ} {i depth : ℕ} where
         again : {place : ℕ} → place ≡ place_cell records p → {weight' : Weight}
             → ((o : Op) (j : Info) (a b : Judged) → kind_no At ≡ kind_no (op_kind o) → place ≡ j.place → Weighs weight.key weight.bits a
             → Weighs r.key r.bits b → Weighs weight'.key weight'.bits (operated o j a b))
-            → {t : Storage} → ((u : NameHere records values decls (p + 1)) → Owns u t)
+            → {t : Option ℕ} → ((u : NameHere records values decls (p + 1)) → Owns u t)
             → {y : ℕ} → y ≡ least_key (when (repeats kept.words t) 46 (place_cell records (p + 1))) → {twice' : ℕ} → twice' ≡ min twice y
             → {kept' : Carriers} → kept'.words ≡ stored kept.words t
             → DestinationAt records values decls i depth → Inv records values decls i depth kept' weight' twice' r.next
@@ -94,23 +94,23 @@ owner-to-requires c = search (rules, first_name)
 pub loop-kept-init : goal.loop-kept-init
 loop-kept-init c = begin c.access-first.ensures c.owner-to.ensures c.no_carriers.ensures c.with_storage-kept.ensures c.requires
 
-pub returns-then-kind_at-ne-AT : goal.returns-then-kind_at-ne-AT
-returns-then-kind_at-ne-AT c = ended c.loop-kept.invariant c.kind_at.ensures c.if-kind_at-ne-AT.true _ c.earlier.ensures
+pub returns : goal.returns
+returns c = ended c.loop-kept.invariant c.kind_at.ensures c.loop-kept-test.false _ c.earlier.ensures
 
 pub access-part-requires : goal.access-part-requires
-access-part-requires c = next_access c.loop-kept.invariant c.kind_at.ensures c.if-kind_at-ne-AT.false c.requires
+access-part-requires c = next_access c.loop-kept.invariant c.kind_at.ensures c.loop-kept-test.true c.requires
 
 pub combined-weight-requires : goal.combined-weight-requires
-combined-weight-requires c = combined_fits c.loop-kept.invariant c.kind_at.ensures c.if-kind_at-ne-AT.false c.access-part.ensures _ c.place_at.ensures c.requires
+combined-weight-requires c = combined_fits c.loop-kept.invariant c.kind_at.ensures c.loop-kept-test.true c.access-part.ensures _ c.place_at.ensures c.requires
 
 pub owner-again-requires : goal.owner-again-requires
-owner-again-requires c = next_name c.loop-kept.invariant c.kind_at.ensures c.if-kind_at-ne-AT.false c.requires
+owner-again-requires c = next_name c.loop-kept.invariant c.kind_at.ensures c.loop-kept-test.true c.requires
 
 pub repeat_key-requires : goal.repeat_key-requires
-repeat_key-requires c = named_fits c.loop-kept.invariant c.kind_at.ensures c.if-kind_at-ne-AT.false c.requires
+repeat_key-requires c = named_fits c.loop-kept.invariant c.kind_at.ensures c.loop-kept-test.true c.requires
 
 pub loop-kept-smaller : goal.loop-kept-smaller
-loop-kept-smaller c = omega (arith, further c.loop-kept.invariant c.kind_at.ensures c.if-kind_at-ne-AT.false c.access-part.ensures c.requires, c.loop-kept.invariant.room)
+loop-kept-smaller c = omega (arith, further c.loop-kept.invariant c.kind_at.ensures c.loop-kept-test.true c.access-part.ensures c.requires, c.loop-kept.invariant.room)
 
 pub loop-kept-preserved : goal.loop-kept-preserved
-loop-kept-preserved c = again c.loop-kept.invariant c.kind_at.ensures c.if-kind_at-ne-AT.false c.access-part.ensures c.place_at.ensures c.combined-weight.ensures c.owner-again.ensures c.repeat_key.ensures c.earlier-twice.ensures c.with_storage-kept-in-loop-kept.ensures c.requires
+loop-kept-preserved c = again c.loop-kept.invariant c.kind_at.ensures c.loop-kept-test.true c.access-part.ensures c.place_at.ensures c.combined-weight.ensures c.owner-again.ensures c.repeat_key.ensures c.earlier-twice.ensures c.with_storage-kept-in-loop-kept.ensures c.requires

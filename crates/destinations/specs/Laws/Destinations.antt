@@ -1,7 +1,7 @@
 -- Laws of a destination as a loop over its accesses: what stands so far, what is stored to, and what is left of the tree.
 -- Assumes nothing.
 use Prim.Native.Nat.{ℕ, ◌+◌, ◌*◌, ◌<◌, ◌≤◌, min}
-use Rattle.std.specs.Prelude.{◌≡◌, refl, Bool, true, false, ◌||◌, length, drop, replicate}
+use Rattle.std.specs.Prelude.{Option, Some, None, ◌≡◌, refl, Bool, true, false, ◌||◌, length, drop, replicate}
 use Rattle.std.proofs.Math.Path.{sym, ap, ap₂}
 use Rattle.std.proofs.Common.{◌∙◌, arith}
 use mathlib.Core.List.{List, [], ◌∷◌, ◌++◌, append_assoc, append-nil}
@@ -20,8 +20,6 @@ use Rattle.keys.specs.Keys.{key, no_key, least_key, Smalls, none_small, also_sma
 use Rattle.keys.specs.Laws.Keys.{smalls_append, least_append, least_none}
 use Rattle.table.specs.Laws.Positions.{Here, here, kind_here, record_within}
 use Rattle.accesses.specs.declared.Judged.{Judged as Answer}
-use Rattle.destinations.specs.declared.owners.Storage.{Storage}
-use Rattle.destinations.specs.declared.owners.Storage.TheVariants.{Carrier, Nothing}
 use Rattle.table.specs.Operators.{ends_access}
 use Rattle.weighing.specs.Weights.{Weighs, operated}
 use Rattle.accesses.specs.Scene.{outer_of, table_of}
@@ -41,17 +39,17 @@ module _ (outer : Word) (ds : Table) where
   stores_none = record { long = refl; each = none_held }
 
   module _ {w xs : List ℕ} (s : Stores outer ds w xs) where
-    pub stores_more : (t : Storage) → Numbered t → Stores outer ds (stored w t) (owners t ++ xs)
+    pub stores_more : (t : Option ℕ) → Numbered t → Stores outer ds (stored w t) (owners t ++ xs)
     unfolding member
-    stores_more Nothing h = s
-    stores_more (Carrier k) h = record {
+    stores_more None h = s
+    stores_more (Some k) h = record {
       long = added_long w k s.long h;
       each = λ j. added_held w k s.long h j ∙ ap (λ b. eqb j k || b) (s.each j);
     }
 
-    pub stores_twice : (t : Storage) → repeats w t ≡ owned_twice outer ds xs (owners t)
-    stores_twice Nothing = refl
-    stores_twice (Carrier k) = s.each k
+    pub stores_twice : (t : Option ℕ) → repeats w t ≡ owned_twice outer ds xs (owners t)
+    stores_twice None = refl
+    stores_twice (Some k) = s.each k
 
 -- the token behind an access of a destination: `@` or `=`
 record Behind (j : Joined) (ts : Tokens) : Type 0 where
@@ -116,7 +114,7 @@ module _ {records values decls : List ℕ} {i depth : ℕ} (v : DestinationAt re
     pub all_joined : judge_joined outer ds value left ≡ judge_joined outer ds (judge_destination outer ds v.name v.subscript v.bits) v.joined
     pub all_repeated : repeated ++ stored_twice outer ds stored_to left ≡ stored_twice outer ds (owner_in (reach ds v.name.word)) v.joined
 
-  pub joining_begun : {r : Answer} → AccessAnswer first_part r → (t : Storage) → Owns (access_name first_part) t
+  pub joining_begun : {r : Answer} → AccessAnswer first_part r → (t : Option ℕ) → Owns (access_name first_part) t
       → Joining r.key r.bits (stored (replicate 4 0) t) no_key r.next
   unfolding access_name first_part part_at
   joining_begun {r} a t o = record {
@@ -215,7 +213,7 @@ module _ {records values decls : List ℕ} {i depth : ℕ} (v : DestinationAt re
 
       pub joining_more : {k' n' x twice' : ℕ} {r : Answer} → AccessAnswer next_part r
           → Weighs k' n' (operated join o.info g.value (judge_destination outer ds o.name o.subscript o.bits))
-          → (t : Storage) → Owns (access_name next_part) t → x ≡ least_key (when (repeats w t) 46 (place_cell records (p + 1))) → twice' ≡ min twice x
+          → (t : Option ℕ) → Owns (access_name next_part) t → x ≡ least_key (when (repeats w t) 46 (place_cell records (p + 1))) → twice' ≡ min twice x
           → Joining k' n' (stored w t) twice' r.next
       unfolding access_name next_part part_at judge_joined stored_twice op_bits
       joining_more {r = r} a f t c ex et =

@@ -16,13 +16,13 @@ use Rattle.table.specs.Laws.Positions.{record_within}
 use Rattle.table.specs.Views.{View, TargetStands, TargetAt}
 use Rattle.table.specs.Shown.{shown_bits}
 use Rattle.table.specs.declared.views.Names.{Names}
-use Rattle.destinations.specs.declared.owners.Storage.TheVariants.{Carrier, Nothing}
 use Rattle.accesses.specs.Laws.Lookups.{view_of, numbered}
 use Rattle.accesses.specs.Names.{is_missing}
 use Rattle.accesses.specs.Laws.Names.{missing_bits, present_bits}
 use Rattle.destinations.specs.Owners.{NameHere, Owns}
 use Rattle.destinations.specs.Laws.Owners.{owner_none, owner_found, owner_bitless, owner_own, owner_storage, owner_under}
 use Rattle.records.specs.Holds.{inside_cell}
+use Rattle.std.specs.Prelude.{Some, None}
 use Rattle.destinations.proofs.owners.owner.Goals as goal
 
 no_target : (ts : Tokens) (r : ℕ) (g : Option Target) → TargetAt ts r g → r ≡ 0 → g ≡ none
@@ -34,7 +34,7 @@ a_target ts r none a n = absurd (n a)
 a_target ts r (some t) a n = (t, refl, a)
 
 module _ {records values decls : List ℕ} {i : ℕ} where
-  undeclared : (k : ℕ) → k ≡ inside_cell records i → outer_only ≤ k → (v : NameHere records values decls i) → Owns v Nothing
+  undeclared : (k : ℕ) → k ≡ inside_cell records i → outer_only ≤ k → (v : NameHere records values decls i) → Owns v None
   undeclared k e h v = record { are = owner_none v (rw e at h); small = tt }
 
   module _ {k : ℕ} (e : k ≡ inside_cell records i) (h : k < outer_only) where
@@ -71,7 +71,7 @@ module _ {records values decls : List ℕ} {i : ℕ} where
             under_small : NameHere records values decls i → n < 256
             under_small v = (under v).1
 
-            mapping : (v : NameHere records values decls i) → Owns v (Carrier n)
+            mapping : (v : NameHere records values decls i) → Owns v (Some n)
             mapping v = record { are = ap (λ x. x ∷ []) (under v).0 ∙ owner_under v e h (target v).1; small = (under v).1 }
 
         module _ (z : r ≡ 0) {own : Names} (eo : (u : View records values d) → own ≡ shown_bits (declared_of u.declaration).bits) {m : Bool} (em : m ≡ is_missing own) where
@@ -81,10 +81,10 @@ module _ {records values decls : List ℕ} {i : ℕ} where
           missing : (v : NameHere records values decls i) → m ≡ is_missing (shown_bits (declared_of (owner_found v e h).declaration).bits)
           missing v = em ∙ ap is_missing (eo (view v))
 
-          bitless : m ≡ true → (v : NameHere records values decls i) → Owns v Nothing
+          bitless : m ≡ true → (v : NameHere records values decls i) → Owns v None
           bitless t v = record { are = owner_bitless v e h (untargeted v) (missing_bits _ (sym (missing v) ∙ t)); small = tt }
 
-          storage : m ≡ false → (v : NameHere records values decls i) → Owns v (Carrier k)
+          storage : m ≡ false → (v : NameHere records values decls i) → Owns v (Some k)
           storage t v = let b = present_bits _ (sym (missing v) ∙ t) in record { are = owner_own v e h (untargeted v) b.0 b.1; small = small v }
 
 pub returns-then-number-ge-OUTER_ONLY : goal.returns-then-number-ge-OUTER_ONLY
