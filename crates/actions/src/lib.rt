@@ -82,6 +82,7 @@ fn block(
 {
     let mut at = i + 1;
     let mut key = NO_KEY;
+    // A loop: END tells that a member was the last.
     loop {
         let member = action(records, values, decls, room, at, count, depth - 1);
         key = earlier(key, member.key);
@@ -149,6 +150,7 @@ fn counted(
     let mut at = i;
     let mut number: usize = 0;
     let mut key = NO_KEY;
+    // A loop: END tells that an alternative was the last.
     loop {
         let fault = counted_fault(records, at, number, bits);
         let inside = action(records, values, decls, room, at, count, depth);
@@ -185,6 +187,7 @@ fn selected(
     let mut at = i;
     let mut number: usize = 0;
     let mut key = NO_KEY;
+    // A loop: END tells that an alternative was the last.
     loop {
         keep_start(room, depth, number, at);
         let fault = selected_fault(records, values, at, number, bits);

@@ -76,11 +76,7 @@ pub fn keep_start(room: &mut [u8], depth: usize, number: usize, at: usize)
 fn compared(number: usize) -> usize
     ensures { result ≡ min number 64 }
 {
-    if number < STARTS_SIZE {
-        number
-    } else {
-        STARTS_SIZE
-    }
+    number.min(STARTS_SIZE)
 }
 
 // 45 at the first alternative that overlaps an earlier one.
@@ -105,10 +101,8 @@ pub fn behind_selector(records: &[u8], at: usize) -> usize
     ensures { (v : BehindView records.now at) → BehindAnswer v result }
 {
     let mut i = at;
-    loop {
-        if kind_at(records, i) == BECOMES {
-            return i + 1;
-        }
+    while kind_at(records, i) != BECOMES {
         i += 1;
     }
+    i + 1
 }

@@ -39,17 +39,14 @@ pub fn labels_fault(records: &[u8], room: &mut [u8], i: usize, j: usize) -> u32
     requires { (2 * index_end ≤ length room.old) × ((text : List ℕ) × (values : List ℕ) × (decls : List ℕ) × LabelsView text records.now values decls i j) }
     ensures { (text values decls : List ℕ) (v : LabelsView text records.now values decls i j) → result ≡ least_key (all_label_faults v) }
 {
-    let mut at = i;
     let mut count: usize = 0;
     let mut key = NO_KEY;
-    while at < j {
-        let here = at;
-        at += 1;
-        if !is_label(records, here) {
+    for at in i..j {
+        if !is_label(records, at) {
             continue;
         }
-        key = earlier(key, label_fault(records, room, count, here));
-        push(records, room, count, here);
+        key = earlier(key, label_fault(records, room, count, at));
+        push(records, room, count, at);
         count += 1;
     }
     key

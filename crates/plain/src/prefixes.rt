@@ -38,6 +38,7 @@ pub fn prefixes(
     let mut at = i;
     let mut names = count;
     let mut key = NO_KEY;
+    // A loop: REPEAT is one token, IF an expression and more, and a label two.
     loop {
         let kind = kind_at(records, at);
         if kind == REPEAT {

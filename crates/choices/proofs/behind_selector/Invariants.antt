@@ -6,8 +6,8 @@ use Rattle.choices.specs.Choices.{BehindView}
 use Rattle.choices.specs.Laws.Starts.{Behind}
 use Rattle.choices.proofs.behind_selector.Given as goal
 
-abbrev pub invariant-loop-at : goal.invariant-loop-at
-invariant-loop-at l = (v : BehindView l.records l.at) → Behind v l.i
+abbrev pub invariant-loop-i : goal.invariant-loop-i
+invariant-loop-i l = (v : BehindView l.records l.at) → Behind v l.i
 
-abbrev pub decreases-loop-at : goal.decreases-loop-at
-decreases-loop-at l = length l.records - l.i
+abbrev pub decreases-loop-i : goal.decreases-loop-i
+decreases-loop-i l = length l.records - l.i

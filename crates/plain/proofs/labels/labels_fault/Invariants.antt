@@ -2,7 +2,7 @@
 -- Assumes nothing.
 use mathlib.Core.Path.{◌≡◌}
 use mathlib.Core.List.{List}
-use Prim.Native.Nat.{ℕ, ◌-◌, ◌≤◌}
+use Prim.Native.Nat.{ℕ, ◌≤◌}
 use lib.ListN.{length}
 use Rattle.keys.specs.Keys.{no_key}
 use Rattle.plain.specs.Labels.{LabelsView}
@@ -16,6 +16,3 @@ pub record Inv (records room₀ : List ℕ) (i j : ℕ) (room : List ℕ) (at co
 
 abbrev pub invariant-loop-at : goal.invariant-loop-at
 invariant-loop-at l = Inv l.records l.initial.room l.i l.j l.room l.at l.count l.key
-
-abbrev pub decreases-loop-at : goal.decreases-loop-at
-decreases-loop-at l = l.j - l.at
