@@ -9,17 +9,17 @@ ghost use Rattle.lent.specs.Numbers.{numbers_of};
 ghost use Rattle.compared.specs.Traced.{trace_of};
 
 use lent::answers::{Answer, unrefused};
-use matching::answering::{Verdict, answer};
+use matching::answering::{Mismatch, answer};
 use preparing::endings::fault;
 use runner::runs::Ended;
 
 // The numbers of a verdict, with the code of the ending.
-fn verdict_answer(ending: u32, steps: u32, v: Verdict) -> Answer
+fn verdict_answer(ending: u32, steps: u32, v: Result<(), Mismatch>) -> Answer
     ensures { numbers_of result ≡ ending ∷ 0 ∷ 0 ∷ steps ∷ says_yes (verdict_of v) ∷ first_bad (verdict_of v) ∷ 0 ∷ 0 ∷ [] }
 {
     match v {
-        Verdict::Yes => unrefused(ending, steps, 1, 0),
-        Verdict::No(entry) => unrefused(ending, steps, 0, entry as u32),
+        Ok(()) => unrefused(ending, steps, 1, 0),
+        Err(mismatch) => unrefused(ending, steps, 0, mismatch.entry as u32),
     }
 }
 

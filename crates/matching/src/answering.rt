@@ -11,11 +11,10 @@ use cells::get16;
 use listed::entries::count;
 use room::trace::{BAD, FLOOR};
 
-// The list is that of an order; or the first entry at which it is none, or its length.
+// The list is that of no order: the first entry at which it is none, or its length.
 #[derive(Clone, Copy)]
-pub enum Verdict {
-    Yes,
-    No(u16),
+pub struct Mismatch {
+    pub entry: u16,
 }
 
 // The first entry that nothing took.
@@ -23,28 +22,27 @@ fn first_left(room: &[u8], entries: &[u8]) -> u16
     requires { Sound (entries_in entries.now) room.now }
     ensures { pos_of result ≡ marking.untaken (matching_in (entries_in entries.now) room.now).cells }
 {
-    let n = count(entries);
-    let mut i: usize = 0;
-    while i < n {
+    for i in 0..count(entries) {
         if get16(room, i) == 0 {
             return i as u16;
         }
-        i += 1;
     }
     NEVER
 }
 
 // The least entry that is bad or that nothing took; else the length of the list where a store found none.
-pub fn answer(room: &[u8], entries: &[u8]) -> Verdict
+pub fn answer(room: &[u8], entries: &[u8]) -> Result<(), Mismatch>
     requires { Sound (entries_in entries.now) room.now }
     ensures { verdict_of result ≡ answer_in (matching_in (entries_in entries.now) room.now) (length (entries_in entries.now)) }
 {
     let first = lesser(get16(room, BAD), first_left(room, entries));
     if first != NEVER {
-        return Verdict::No(first);
+        return Err(Mismatch { entry: first });
     }
     if get16(room, FLOOR) == NEVER {
-        return Verdict::No(count(entries) as u16);
+        return Err(Mismatch {
+            entry: count(entries) as u16,
+        });
     }
-    Verdict::Yes
+    Ok(())
 }

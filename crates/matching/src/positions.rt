@@ -9,17 +9,11 @@ pub const NEVER: u16 = 65535;
 pub fn lesser(a: u16, b: u16) -> u16
     ensures { pos_of result ≡ marking.lesser (pos_of a) (pos_of b) }
 {
-    if a < b {
-        return a;
-    }
-    b
+    a.min(b)
 }
 
 pub fn greater(a: u16, b: u16) -> u16
     ensures { pos_of result ≡ marking.greater (pos_of a) (pos_of b) }
 {
-    if a < b {
-        return b;
-    }
-    a
+    a.max(b)
 }

@@ -9,7 +9,7 @@ ghost use Rattle.operands.specs.Operands.{NestedAt};
 ghost use Rattle.operands.specs.Expressions.{PairAt, PairAnswer, ChainAt, ChainAnswer};
 
 use crate::accesses::{Field, Outside, in_word, read, subscripted};
-use crate::operators::{Settled, settle, wait};
+use crate::operators::{NOTHING, Pending, Settled, settle, wait};
 use nots::behind_nots;
 use records::fields::{kind_at, size_at, value_at};
 use rules::kinds::{CONST, LBRA, LPAR, NAME};
@@ -192,9 +192,12 @@ fn chain(
     ensures { (v : ChainAt records.now values.now carriers.now op left.number left.bits right.number right.bits right.next depth)
         → ChainAnswer v result }
 {
-    let mut ops = [op, 0, 0, 0, 0];
-    let mut numbers = [left.number, 0, 0, 0, 0];
-    let mut lengths = [left.bits, 0, 0, 0, 0];
+    let first = Pending {
+        op,
+        number: left.number,
+        bits: left.bits,
+    };
+    let mut pending = [first, NOTHING, NOTHING, NOTHING, NOTHING];
     let mut last = Settled {
         count: 1,
         number: right.number,
@@ -204,7 +207,7 @@ fn chain(
     loop {
         let kind = kind_at(records, at);
         let tight = tightness_of(kind);
-        let settled = settle(&ops, &numbers, &lengths, last, tight);
+        let settled = settle(&pending, last, tight);
         if tight == 0 {
             return Ok(Value {
                 number: settled.number,
@@ -212,7 +215,7 @@ fn chain(
                 next: at,
             });
         }
-        wait(&mut ops, &mut numbers, &mut lengths, settled, kind);
+        wait(&mut pending, settled, kind);
         let more = operand(records, values, carriers, at + 1, depth)?;
         last = Settled {
             count: settled.count + 1,

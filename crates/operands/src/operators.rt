@@ -5,6 +5,21 @@ ghost use Rattle.operands.specs.Settling.{SettleAt, Settles, Waited};
 use table::operators::tightness_of;
 use values::{operate, operate_bits};
 
+// An operator that waits: its kind, and its left operand's number and length.
+#[derive(Clone, Copy)]
+pub struct Pending {
+    pub op: u8,
+    pub number: u64,
+    pub bits: u32,
+}
+
+// What stands above those that wait.
+pub const NOTHING: Pending = Pending {
+    op: 0,
+    number: 0,
+    bits: 0,
+};
+
 // How many operators still wait, and the value of what is settled.
 #[derive(Clone, Copy)]
 pub struct Settled {
@@ -13,58 +28,40 @@ pub struct Settled {
     pub bits: u32,
 }
 
-// Settles those of the waiting operators, the last first, that bind as tightly as `tight`; each has its kind, and its left operand's number and length.
-pub fn settle(
-    ops: &[u8; 5],
-    numbers: &[u64; 5],
-    lengths: &[u32; 5],
-    from: Settled,
-    tight: u32,
-) -> Settled
-    requires { SettleAt ops.now numbers.now lengths.now from.count from.number from.bits tight }
-    ensures { (v : SettleAt ops.now numbers.now lengths.now from.count from.number from.bits tight)
-        → Settles v result.count result.number result.bits }
+// Settles those of the waiting operators, the last first, that bind as tightly as `tight`.
+pub fn settle(pending: &[Pending; 5], from: Settled, tight: u32) -> Settled
+    requires { SettleAt pending.now from.count from.number from.bits tight }
+    ensures { (v : SettleAt pending.now from.count from.number from.bits tight) → Settles v result.count result.number result.bits }
 {
-    let mut count = from.count;
     let mut number = from.number;
     let mut bits = from.bits;
-    while 0 < count {
-        let top = count - 1;
-        let op = ops[top];
-        if tightness_of(op) < tight {
+    for top in (0..from.count).rev() {
+        let last = pending[top];
+        if tightness_of(last.op) < tight {
             return Settled {
-                count,
+                count: top + 1,
                 number,
                 bits,
             };
         }
-        let left = numbers[top];
-        let length = lengths[top];
-        number = operate(op, length, left, bits, number);
-        bits = operate_bits(op, length, bits);
-        count = top;
+        number = operate(last.op, last.bits, last.number, bits, number);
+        bits = operate_bits(last.op, last.bits, bits);
     }
     Settled {
-        count,
+        count: 0,
         number,
         bits,
     }
 }
 
 // An operator of the kind `op` waits behind the others, with its left operand.
-pub fn wait(
-    ops: &mut [u8; 5],
-    numbers: &mut [u64; 5],
-    lengths: &mut [u32; 5],
-    left: Settled,
-    op: u8,
-)
+pub fn wait(pending: &mut [Pending; 5], left: Settled, op: u8)
     requires { left.count < 5 }
-    ensures { Waited ops.old numbers.old lengths.old left.count left.number left.bits op
-        ops.new numbers.new lengths.new }
+    ensures { Waited pending.old left.count left.number left.bits op pending.new }
 {
-    let slot = left.count;
-    ops[slot] = op;
-    numbers[slot] = left.number;
-    lengths[slot] = left.bits;
+    pending[left.count] = Pending {
+        op,
+        number: left.number,
+        bits: left.bits,
+    };
 }

@@ -14,15 +14,13 @@ pub fn depth_of(cells: &[u8], n: usize, x: usize) -> usize
     ensures { result ≡ length (up_from (cells_in cells.now n) deepest x) }
 {
     let mut at = x;
-    let mut depth: usize = 0;
-    while depth < DEEPEST {
+    for depth in 0..DEEPEST {
         if at == 0 {
             return depth;
         }
         at = up_at(cells, n, at);
-        depth += 1;
     }
-    depth
+    DEEPEST
 }
 
 // The member that is so many above x.
@@ -31,10 +29,8 @@ pub fn up_by(cells: &[u8], n: usize, x: usize, count: usize) -> usize
     ensures { result ≡ up_by (cells_in cells.now n) count x }
 {
     let mut at = x;
-    let mut left = count;
-    while 0 < left {
+    for _k in 0..count {
         at = up_at(cells, n, at);
-        left -= 1;
     }
     at
 }

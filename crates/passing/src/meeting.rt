@@ -21,9 +21,7 @@ pub fn open_all(room: &mut [u8], count: usize)
     requires { (l : List Entry) × Fits (times count opens) l room.old }
     ensures { (l : List Entry) → Sound l room.old → Stands l room.new (told_all (times count opens) (matching_in l room.old)) }
 {
-    let mut left = count;
-    while 0 < left {
-        left -= 1;
+    for _k in 0..count {
         tell_opens(room);
     }
 }
@@ -33,9 +31,7 @@ pub fn close_all(room: &mut [u8], count: usize)
     requires { (l : List Entry) × Sound l room.old }
     ensures { (l : List Entry) → Sound l room.old → Stands l room.new (told_all (times count closes) (matching_in l room.old)) }
 {
-    let mut left = count;
-    while 0 < left {
-        left -= 1;
+    for _k in 0..count {
         tell_closes(room);
     }
 }
@@ -53,11 +49,10 @@ pub fn meet(
     requires { (4 * n ≤ length cells.now) × (depth + entered ≤ deepest) × ((l : List Entry) × Fits (meet_told (cells_in cells.now n) depth from to entered) l room.old) }
     ensures { (l : List Entry) → Sound l room.old → Stands l room.new (told_all (meet_told (cells_in cells.now n) depth from to entered) (matching_in l room.old)) }
 {
-    let mut left = depth;
     let mut x = from;
     let mut y = to;
     let mut count = entered;
-    while 0 < left {
+    for _k in 0..depth {
         if x == y {
             open_all(room, count);
             return;
@@ -70,7 +65,6 @@ pub fn meet(
         tell_closes(room);
         x = up_at(cells, n, x);
         y = up_at(cells, n, y);
-        left -= 1;
         count += 1;
     }
     open_all(room, count);

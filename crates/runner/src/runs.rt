@@ -32,8 +32,7 @@ pub fn run(
     let mut stack: [usize; LONGEST_CHAIN] = [0; LONGEST_CHAIN];
     let mut depth: usize = 0;
     let mut at = start;
-    let mut steps: u32 = 0;
-    while steps < budget {
+    for steps in 0..budget {
         let moved = match step(records, values, decls, carriers, scratch, at) {
             Ok(moved) => moved,
             Err(fault) => {
@@ -52,11 +51,10 @@ pub fn run(
                 return Ended::Done(steps + 1);
             }
             Turned::At(next, high) => {
-                steps += 1;
                 at = next;
                 depth = high;
             }
         }
     }
-    Ended::Paused(steps)
+    Ended::Paused(budget)
 }

@@ -48,9 +48,8 @@ pub fn trace(
     let mut stack: [usize; LONGEST_CHAIN] = [0; LONGEST_CHAIN];
     let mut depth: usize = 0;
     let mut at = start;
-    let mut steps: u32 = 0;
     enter(room, &memory[CELLS..], n, start);
-    while steps < budget {
+    for steps in 0..budget {
         let turned = match turn(
             records,
             values,
@@ -77,9 +76,8 @@ pub fn trace(
         let Turned::At(next, high) = turned else {
             return ended(turned, steps);
         };
-        steps += 1;
         at = next;
         depth = high;
     }
-    Ended::Paused(steps)
+    Ended::Paused(budget)
 }

@@ -1,6 +1,6 @@
 -- Laws of what is answered to a list, by who refuses or how the run ended.
 -- Assumes nothing.
-use Rattle.std.specs.Prelude.{ℕ, ◌≤◌, ◌≡◌, true, false, List, [], ◌∷◌, length, take, drop}
+use Rattle.std.specs.Prelude.{ℕ, ◌≤◌, ◌≡◌, true, false, List, [], ◌∷◌, length, take, drop, ⊤, Result}
 use Rattle.std.proofs.Common.{sym, ap, ◌∙◌, subst, arith}
 use Rattle.rules.specs.Text.Scan.{scan}
 use Rattle.rules.specs.Grammar.Trees.{flatten}
@@ -18,7 +18,7 @@ use Rattle.members.specs.Cells.{cells_in}
 use Rattle.matching.specs.Matching.{untold, answer_in}
 use Rattle.matching.specs.Room.{matching_in, Stands}
 use Rattle.matching.specs.Named.{verdict_of}
-use Rattle.matching.specs.declared.answering.Verdict.{Verdict}
+use Rattle.matching.specs.declared.answering.Mismatch.{Mismatch}
 use Rattle.operands.specs.Scene.{carrier_words}
 use Rattle.tracing.specs.Turns.{cells_at}
 use Rattle.tracing.specs.Traces.{TraceAt, words_in, TraceTold}
@@ -36,7 +36,7 @@ use Rattle.compared.specs.Laid.{Laid}
 use Rattle.compared.specs.Traced.{trace_of, Traced}
 
 -- the numbers of a verdict, and of an ending, by its case
-pub verdict_numbers : (ending steps : ℕ) {v w : Verdict} {ns : List ℕ} → ns ≡ ending ∷ 0 ∷ 0 ∷ steps ∷ says_yes (verdict_of w) ∷ first_bad (verdict_of w) ∷ 0 ∷ 0 ∷ [] → v ≡ w
+pub verdict_numbers : (ending steps : ℕ) {v w : Result ⊤ Mismatch} {ns : List ℕ} → ns ≡ ending ∷ 0 ∷ 0 ∷ steps ∷ says_yes (verdict_of w) ∷ first_bad (verdict_of w) ∷ 0 ∷ 0 ∷ [] → v ≡ w
     → ns ≡ ending ∷ 0 ∷ 0 ∷ steps ∷ says_yes (verdict_of v) ∷ first_bad (verdict_of v) ∷ 0 ∷ 0 ∷ []
 verdict_numbers ending steps q r = q ∙ sym (ap (λ x. ending ∷ 0 ∷ 0 ∷ steps ∷ says_yes (verdict_of x) ∷ first_bad (verdict_of x) ∷ 0 ∷ 0 ∷ []) r)
 

@@ -23,7 +23,8 @@ use Rattle.operands.specs.Laws.Scene.{OperandTold}
 use Rattle.operands.specs.Laws.Waits.{Under, under_few, looser_all, under_looser, settled_all}
 use Rattle.operands.specs.Trees.{Waits, tree_left, tree_settled}
 use Rattle.operands.specs.Laws.Trees.{tree_of, tree_is, sized_parts, tree_faults}
-use Rattle.operands.specs.Settling.{Wait, SettleAt, Settles, Waited}
+use Rattle.operands.specs.declared.operators.Pending.{Pending}
+use Rattle.operands.specs.Settling.{nothing, Wait, SettleAt, Settles, Waited}
 use Rattle.operands.specs.Laws.Settling.{waits_given, wait_push}
 use Rattle.operands.specs.Chains.{TailAt}
 use Rattle.operands.specs.Laws.Chains.{tail_room, tail_small, tail_tight, tail_tight_lem, tail_over, Operator, tail_operator, OperandIn, operand_at, tail_at}
@@ -34,15 +35,13 @@ module _ {records values carriers : List ℕ} {k a m b n p depth : ℕ} (v : Cha
   abbrev pub whole : Expr
   whole = expr_of v.first (with_op v.op v.info v.right v.behind.tail)
 
-  pub record Going (ops numbers lengths : List ℕ) (count x l q : ℕ) : Type 0 where
+  pub record Going (ps : List Pending) (count x l q : ℕ) : Type 0 where
     pub waits : Waits
     pub tree : Expr
     pub tail : Tail
     pub counts : count ≡ length waits
-    pub ops_room : length ops ≡ 5
-    pub numbers_room : length numbers ≡ 5
-    pub lengths_room : length lengths ≡ 5
-    pub waiting : Wait v.scene.table (words_of v.scene) ops numbers lengths waits
+    pub room : length ps ≡ 5
+    pub waiting : Wait v.scene.table (words_of v.scene) ps waits
     pub under : Under 6 waits
     pub comes : evaluate v.scene.table (words_of v.scene) tree ≡ gives (value l x)
     pub past : v.start < q
@@ -51,16 +50,14 @@ module _ {records values carriers : List ℕ} {k a m b n p depth : ℕ} (v : Cha
     pub builds : tree_of waits tree (links_of tail) ≡ whole
 
   -- at first one operator waits
-  pub going : {count : ℕ} → count ≡ 1 → Going (k ∷ 0 ∷ 0 ∷ 0 ∷ 0 ∷ []) (a ∷ 0 ∷ 0 ∷ 0 ∷ 0 ∷ []) (m ∷ 0 ∷ 0 ∷ 0 ∷ 0 ∷ []) count b n p
+  pub going : {count : ℕ} → count ≡ 1 → Going (record { op = k; number = a; bits = m } ∷ nothing ∷ nothing ∷ nothing ∷ nothing ∷ []) count b n p
   unfolding evaluate links_of chain looser settled
   going one = record {
     waits = waiting v.op v.info (leaf (factor_of v.first)) ∷ [];
     tree = leaf (factor_of v.right);
     tail = v.behind.tail;
     counts = one;
-    ops_room = refl;
-    numbers_room = refl;
-    lengths_room = refl;
+    room = refl;
     waiting = (record { kind = v.kind; left = v.left }, tt);
     under = (omega (arith, (tightness_range v.op).1), tt);
     comes = v.known;
@@ -71,10 +68,10 @@ module _ {records values carriers : List ℕ} {k a m b n p depth : ℕ} (v : Cha
   }
 
 -- a turn, with the invariant as the loop has it
-module _ {records values carriers : List ℕ} {k a m b n p depth : ℕ} {ops numbers lengths : List ℕ} {count x l q : ℕ}
-    (told_going : (v : ChainAt records values carriers k a m b n p depth) → Going v ops numbers lengths count x l q)
+module _ {records values carriers : List ℕ} {k a m b n p depth : ℕ} {ps : List Pending} {count x l q : ℕ}
+    (told_going : (v : ChainAt records values carriers k a m b n p depth) → Going v ps count x l q)
     (v : ChainAt records values carriers k a m b n p depth) where
-  g : Going v ops numbers lengths count x l q
+  g : Going v ps count x l q
   g = told_going v
 
   abbrev tail_here : TailAt v.scene q
@@ -104,7 +101,7 @@ module _ {records values carriers : List ℕ} {k a m b n p depth : ℕ} {ops num
             (sized_parts v.scene.outer v.scene.table (links_of t)
             (waiting op i (tree_settled (tightness op) g.waits g.tree) ∷ tree_left (tightness op) g.waits g.tree) (leaf (factor_of o)) q).0.0
 
-    pub settle_at : SettleAt ops numbers lengths count x l tight
+    pub settle_at : SettleAt ps count x l tight
     settle_at = record {
       outer = v.scene.outer;
       table = v.scene.table;
@@ -121,7 +118,7 @@ module _ {records values carriers : List ℕ} {k a m b n p depth : ℕ} {ops num
 
     -- what is told of settling them
     abbrev SettlesTold : ℕ → ℕ → ℕ → Type 0
-    SettlesTold count' x' l' = (a : SettleAt ops numbers lengths count x l tight) → Settles a count' x' l'
+    SettlesTold count' x' l' = (a : SettleAt ps count x l tight) → Settles a count' x' l'
 
     pub going_ends : tight ≡ 0 → {count' x' l' : ℕ} → SettlesTold count' x' l' → ChainAnswer v (Ok (record { number = x'; bits = l'; next = q }))
     unfolding links_of chain settle_at
@@ -162,9 +159,9 @@ module _ {records values carriers : List ℕ} {k a m b n p depth : ℕ} {ops num
           (sized_parts v.scene.outer v.scene.table (links_of o.more) waits_next (leaf (factor_of o.right))
           (subst (Sized v.scene.outer v.scene.table) (sym next_builds) v.sized)).1
 
-      left_waits : Wait v.scene.table (words_of v.scene) ops numbers lengths (tree_left tight g.waits g.tree)
+      left_waits : Wait v.scene.table (words_of v.scene) ps (tree_left tight g.waits g.tree)
       left_waits =
-          looser_all node leaf tight (Wait v.scene.table (words_of v.scene) ops numbers lengths) (λ w ws h. h.1) g.waits g.tree g.waiting
+          looser_all node leaf tight (Wait v.scene.table (words_of v.scene) ps) (λ w ws h. h.1) g.waits g.tree g.waiting
 
       left_under : Under (tightness o.op) (tree_left tight g.waits g.tree)
       left_under = subst (λ n. Under n (tree_left tight g.waits g.tree)) tight_is (under_looser node leaf tight 6 g.waits g.tree g.under)
@@ -206,25 +203,22 @@ module _ {records values carriers : List ℕ} {k a m b n p depth : ℕ} {ops num
         going_faults {a} {y} h e =
             ap (evaluate v.scene.table (words_of v.scene)) (sym next_builds)
             ∙ tree_faults v.scene.table (words_of v.scene) 70 y.place (links_of o.more) waits_next (leaf (factor_of o.right))
-            ((value l' x', it_settles.comes), waits_given v.scene.table (words_of v.scene) ops numbers lengths (tree_left tight g.waits g.tree) left_waits)
+            ((value l' x', it_settles.comes), waits_given v.scene.table (words_of v.scene) ps (tree_left tight g.waits g.tree) left_waits)
             (subst (OperandAnswer (operand_at next_in)) e (h (operand_at next_in)))
 
-        pub going_turn : {ops' numbers' lengths' : List ℕ} → Waited ops numbers lengths count' x' l' c ops' numbers' lengths' → {a : Result Worked Outside} {u : Worked}
+        pub going_turn : {ps' : List Pending} → Waited ps count' x' l' c ps' → {a : Result Worked Outside} {u : Worked}
             → OperandTold records values carriers (q + 1) depth a → a ≡ Ok u
-            → Going v ops' numbers' lengths' (count' + 1) u.number u.bits u.next
+            → Going v ps' (count' + 1) u.number u.bits u.next
         unfolding evaluate settle_at next_in tail_at
-        going_turn w {a} {u} h e = rw (w.op, w.number, w.bits) (record {
+        going_turn w {a} {u} h e = rw w.is (record {
           waits = waits_next;
           tree = leaf (factor_of o.right);
           tail = o.more;
           counts = omega (arith, it_settles.left);
-          ops_room = length-set ops count' c ∙ g.ops_room;
-          numbers_room = length-set numbers count' x' ∙ g.numbers_room;
-          lengths_room = length-set lengths count' l' ∙ g.lengths_room;
+          room = length-set ps count' _ ∙ g.room;
           waiting =
-              wait_push v.scene.table (words_of v.scene) ops numbers lengths count' c x' l' _ (tree_left tight g.waits g.tree) it_settles.left
-              (omega (arith, slot, g.ops_room)) (omega (arith, slot, g.numbers_room)) (omega (arith, slot, g.lengths_room))
-              (record { kind = is ∙ o.kind; left = it_settles.comes }) left_waits;
+              wait_push v.scene.table (words_of v.scene) ps count' (record { op = c; number = x'; bits = l' }) _ (tree_left tight g.waits g.tree) it_settles.left
+              (omega (arith, slot, g.room)) (record { kind = is ∙ o.kind; left = it_settles.comes }) left_waits;
           under = (omega (arith, (tightness_range o.op).1), left_under);
           comes = (next_known h e).comes;
           past = omega (arith, g.past, (next_known h e).past);

@@ -21,34 +21,34 @@ use Rattle.operands.specs.Laws.Waits.{looser_pass, settled_pass, looser_stop, se
 use Rattle.operands.specs.Trees.{Waits, tree_left, tree_settled}
 use Rattle.operands.specs.Laws.Trees.{both, sized_settled, Given}
 use Rattle.operands.specs.Laws.Worths.{tree_bits, node_comes, node_operands}
-use Rattle.operands.specs.Settling.{Wait, WaitsAt, SettleAt, Settles}
+use Rattle.operands.specs.declared.operators.Pending.{Pending}
+use Rattle.operands.specs.Settling.{nothing, Wait, WaitsAt, SettleAt, Settles}
 
 module _ (ds : Table) (s : Carriers) where
-  pub waits_given : (ops numbers lengths : List ℕ) (ws : Waits) → Wait ds s ops numbers lengths ws → Given ds s ws
-  waits_given ops numbers lengths [] h = tt
-  waits_given ops numbers lengths (w ∷ ws) h = ((value _ _, h.0.left), waits_given ops numbers lengths ws h.1)
+  pub waits_given : (ps : List Pending) (ws : Waits) → Wait ds s ps ws → Given ds s ws
+  waits_given ps [] h = tt
+  waits_given ps (w ∷ ws) h = ((value _ _, h.0.left), waits_given ps ws h.1)
 
   -- a store above them leaves them
-  module _ (ops numbers lengths : List ℕ) (n k a m : ℕ) where
-    wait_set : (ws : Waits) → length ws ≤ n → Wait ds s ops numbers lengths ws → Wait ds s (set ops n k) (set numbers n a) (set lengths n m) ws
+  module _ (ps : List Pending) (n : ℕ) (p : Pending) where
+    wait_set : (ws : Waits) → length ws ≤ n → Wait ds s ps ws → Wait ds s (set ps n p) ws
     wait_set [] h w = tt
     wait_set (u ∷ us) h w =
-        let other : (l : List ℕ) (x : ℕ) → get_or (set l n x) (length us) 0 ≡ get_or l (length us) 0 = λ l x. get_or-set_other l n (length us) x 0 (λ e. omega arith) in
-        (rw (other ops k, other numbers a, other lengths m) w.0, wait_set us (omega arith) w.1)
+        let other : get_or (set ps n p) (length us) nothing ≡ get_or ps (length us) nothing = get_or-set_other ps n (length us) p nothing (λ e. omega arith) in
+        (rw other w.0, wait_set us (omega arith) w.1)
 
-    pub wait_push : (w : Waiting Expr) (ws : Waits) → n ≡ length ws → n < length ops → n < length numbers → n < length lengths → WaitsAt ds s k a m w
-        → Wait ds s ops numbers lengths ws → Wait ds s (set ops n k) (set numbers n a) (set lengths n m) (w ∷ ws)
-    wait_push w ws e ho hn hl x y =
-        let same : (l : List ℕ) (v : ℕ) → n < length l → get_or (set l n v) (length ws) 0 ≡ v = λ l v h. ap (λ i. get_or (set l n v) i 0) (sym e) ∙ get_or-set_same l n v 0 h in
-        (rw (same ops k ho, same numbers a hn, same lengths m hl) x, wait_set ws (omega arith) y)
+    pub wait_push : (w : Waiting Expr) (ws : Waits) → n ≡ length ws → n < length ps → WaitsAt ds s p w → Wait ds s ps ws → Wait ds s (set ps n p) (w ∷ ws)
+    wait_push w ws e h x y =
+        let same : get_or (set ps n p) (length ws) nothing ≡ p = ap (λ i. get_or (set ps n p) i nothing) (sym e) ∙ get_or-set_same ps n p nothing h in
+        (rw same x, wait_set ws (omega arith) y)
 
 -- on the way: settling the rest comes to the same
-pub record Settling {ops numbers lengths : List ℕ} {count₀ b₀ n₀ tight : ℕ} (v : SettleAt ops numbers lengths count₀ b₀ n₀ tight) (count b n : ℕ) : Type 0 where
+pub record Settling {ps : List Pending} {count₀ b₀ n₀ tight : ℕ} (v : SettleAt ps count₀ b₀ n₀ tight) (count b n : ℕ) : Type 0 where
   pub waits : Waits
   pub tree : Expr
   pub counts : count ≡ length waits
   pub few : count ≤ 5
-  pub waiting : Wait v.table v.words ops numbers lengths waits
+  pub waiting : Wait v.table v.words ps waits
   pub comes : evaluate v.table v.words tree ≡ gives (value n b)
   pub sized : Sized v.outer v.table (tree_settled tight waits tree)
   pub same_left : tree_left tight waits tree ≡ tree_left tight v.waits v.tree
@@ -58,7 +58,7 @@ none_wait : (ws : Waits) → length ws ≡ 0 → ws ≡ []
 none_wait [] e = refl
 none_wait (w ∷ ws) e = absurd (omega arith)
 
-module _ {ops numbers lengths : List ℕ} {count₀ b₀ n₀ tight : ℕ} (v : SettleAt ops numbers lengths count₀ b₀ n₀ tight) where
+module _ {ps : List Pending} {count₀ b₀ n₀ tight : ℕ} (v : SettleAt ps count₀ b₀ n₀ tight) where
   pub settling : Settling v count₀ b₀ n₀
   settling = record {
     waits = v.waits;
@@ -72,58 +72,58 @@ module _ {ops numbers lengths : List ℕ} {count₀ b₀ n₀ tight : ℕ} (v : 
     same_settled = refl;
   }
 
-module _ {ops numbers lengths : List ℕ} {count₀ b₀ n₀ tight : ℕ} {v : SettleAt ops numbers lengths count₀ b₀ n₀ tight} {count b n : ℕ} (s : Settling v count b n) where
+module _ {ps : List Pending} {count₀ b₀ n₀ tight : ℕ} {v : SettleAt ps count₀ b₀ n₀ tight} {count b n : ℕ} (s : Settling v count b n) where
   -- the last that waits
   record Top : Type 0 where
     last : Waiting Expr
     below : Waits
     are : s.waits ≡ last ∷ below
-    at : WaitsAt v.table v.words (get_or ops (count - 1) 0) (get_or numbers (count - 1) 0) (get_or lengths (count - 1) 0) last
-    waiting : Wait v.table v.words ops numbers lengths below
+    at : WaitsAt v.table v.words (get_or ps (count - 1) nothing) last
+    waiting : Wait v.table v.words ps below
 
   top : 0 < count → Top
   top p = go s.waits refl s.counts s.waiting
     where
-      go : (ws : Waits) → s.waits ≡ ws → count ≡ length ws → Wait v.table v.words ops numbers lengths ws → Top
+      go : (ws : Waits) → s.waits ≡ ws → count ≡ length ws → Wait v.table v.words ps ws → Top
       go [] e c w = absurd (omega arith)
       go (u ∷ us) e c w = let q : count - 1 ≡ length us = omega arith in record { last = u; below = us; are = e; at = rw q w.0; waiting = w.1 }
 
-  pub settled_none : count ≤ 0 → Settles v count b n
+  pub settled_none : count ≡ 0 → Settles v 0 b n
   unfolding looser settled
   settled_none z =
       let e = none_wait s.waits (omega (arith, s.counts)) in
       record {
-        left = s.counts ∙ ap length (e ∙ ap (λ ws. tree_left tight ws s.tree) (sym e) ∙ s.same_left);
+        left = sym z ∙ s.counts ∙ ap length (e ∙ ap (λ ws. tree_left tight ws s.tree) (sym e) ∙ s.same_left);
         comes = rw (sym s.same_settled ∙ ap (λ ws. tree_settled tight ws s.tree) e) s.comes;
       }
 
-  -- the last has the kind k and the left operand a, of m bits
-  module _ (p : 0 < count) {k a m : ℕ} (ek : k ≡ get_or ops (count - 1) 0) (ea : a ≡ get_or numbers (count - 1) 0) (em : m ≡ get_or lengths (count - 1) 0) where
+  -- the last is q
+  module _ (p : 0 < count) {q : Pending} (is : q ≡ get_or ps (count - 1) nothing) where
     t : Top
     t = top p
 
-    kind_is : k ≡ kind_no (op_kind t.last.op)
-    kind_is = ek ∙ t.at.kind
+    kind_is : q.op ≡ kind_no (op_kind t.last.op)
+    kind_is = ap (λ (q : Pending). q.op) is ∙ t.at.kind
 
-    op_is : op_at k ≡ t.last.op
+    op_is : op_at q.op ≡ t.last.op
     op_is = ap op_at kind_is ∙ op_at_kind t.last.op
 
-    binds : tightness_at k ≡ tightness t.last.op
+    binds : tightness_at q.op ≡ tightness t.last.op
     binds = ap tightness_at kind_is ∙ tightness_at_lem t.last.op
 
-    left_comes : evaluate v.table v.words t.last.left ≡ gives (value m a)
-    left_comes = t.at.left ∙ ap₂ (λ m a. gives (value m a)) (sym em) (sym ea)
+    left_comes : evaluate v.table v.words t.last.left ≡ gives (value q.bits q.number)
+    left_comes = t.at.left ∙ ap (λ (q : Pending). gives (value q.bits q.number)) (sym is)
 
-    pub settled_stopped : tightness_at k < tight → Settles v count b n
-    settled_stopped h =
+    pub settled_stopped : tightness_at q.op < tight → {k : ℕ} → k ≡ count → Settles v k b n
+    settled_stopped h {k} same =
         let l : tightness t.last.op < tight = omega (arith, binds) in
         record {
-          left = s.counts ∙ ap length (t.are ∙ sym (looser_stop node leaf tight t.last t.below s.tree l)
+          left = same ∙ s.counts ∙ ap length (t.are ∙ sym (looser_stop node leaf tight t.last t.below s.tree l)
               ∙ ap (λ ws. tree_left tight ws s.tree) (sym t.are) ∙ s.same_left);
           comes = rw (sym s.same_settled ∙ ap (λ ws. tree_settled tight ws s.tree) t.are ∙ settled_stop node leaf tight t.last t.below s.tree l) s.comes;
         }
 
-    module _ (h : tight ≤ tightness_at k) where
+    module _ (h : tight ≤ tightness_at q.op) where
       passes : tight ≤ tightness t.last.op
       passes = omega (arith, binds)
 
@@ -133,27 +133,27 @@ module _ {ops numbers lengths : List ℕ} {count₀ b₀ n₀ tight : ℕ} {v : 
       both_sized : Sized v.outer v.table (tree_settled tight t.below (both t.last s.tree))
       both_sized = subst (Sized v.outer v.table) whole s.sized
 
-      pub settle_operands : Operands (op_at k) m a n b
+      pub settle_operands : Operands (op_at q.op) q.bits q.number n b
       settle_operands =
-          rw op_is (node_operands v.declares v.words t.last.op t.last.info t.last.left s.tree m a n b left_comes s.comes
+          rw op_is (node_operands v.declares v.words t.last.op t.last.info t.last.left s.tree q.bits q.number n b left_comes s.comes
           (sized_settled v.outer v.table tight t.below (both t.last s.tree) both_sized))
 
-      pub settle_lengths : (m ≤ most_bits) × (n ≤ most_bits)
+      pub settle_lengths : (q.bits ≤ most_bits) × (n ≤ most_bits)
       settle_lengths =
-          let q = sized_settled v.outer v.table tight t.below (both t.last s.tree) both_sized in (
-            (tree_bits v.declares v.words t.last.left m a q.1 left_comes).length.short,
-            (tree_bits v.declares v.words s.tree n b q.2 s.comes).length.short,
+          let z = sized_settled v.outer v.table tight t.below (both t.last s.tree) both_sized in (
+            (tree_bits v.declares v.words t.last.left q.bits q.number z.1 left_comes).length.short,
+            (tree_bits v.declares v.words s.tree n b z.2 s.comes).length.short,
           )
 
-      pub settled_turn : {x l : ℕ} → x ≡ op_number (op_at k) m a n b → l ≡ op_bits (op_at k) m n → Settling v (count - 1) x l
+      pub settled_turn : {x l : ℕ} → x ≡ op_number (op_at q.op) q.bits q.number n b → l ≡ op_bits (op_at q.op) q.bits n → Settling v (count - 1) x l
       settled_turn {x} {l} ex el = record {
         waits = t.below;
         tree = both t.last s.tree;
         counts = omega (arith, s.counts, ap length t.are);
         few = omega (arith, s.few);
         waiting = t.waiting;
-        comes = rw (ex ∙ ap (λ o. op_number o m a n b) op_is, el ∙ ap (λ o. op_bits o m n) op_is)
-            (node_comes v.declares v.words t.last.op t.last.info t.last.left s.tree m a n b left_comes s.comes);
+        comes = rw (ex ∙ ap (λ o. op_number o q.bits q.number n b) op_is, el ∙ ap (λ o. op_bits o q.bits n) op_is)
+            (node_comes v.declares v.words t.last.op t.last.info t.last.left s.tree q.bits q.number n b left_comes s.comes);
         sized = both_sized;
         same_left = sym (looser_pass node leaf tight t.last t.below s.tree passes) ∙ ap (λ ws. tree_left tight ws s.tree) (sym t.are) ∙ s.same_left;
         same_settled = sym whole ∙ s.same_settled;

@@ -3,8 +3,8 @@
 use Rattle.compared.specs.Laws.Traced.{verdict_numbers}
 use Rattle.compared.proofs.endings.verdict_answer.Goals as goal
 
-pub returns-in-Yes : goal.returns-in-Yes
-returns-in-Yes c = verdict_numbers _ _ c.unrefused.ensures c.in-Yes.is
+pub returns-in-Ok : goal.returns-in-Ok
+returns-in-Ok c = verdict_numbers _ _ c.unrefused.ensures c.in-Ok.is
 
-pub returns-in-No : goal.returns-in-No
-returns-in-No c = verdict_numbers _ _ c.unrefused-in-No.ensures c.in-No.is
+pub returns-in-Err : goal.returns-in-Err
+returns-in-Err c = verdict_numbers _ _ c.unrefused-in-Err.ensures c.in-Err.is

@@ -45,38 +45,38 @@ access-indexed-requires t c = (omega (arith, c.decreases), (c.requires, sym c.ki
 pub access-returns : goal.access-returns
 access-returns t c = λ v. c.indexed.ensures v
 
-pub chain-loop-ops-init : goal.chain-loop-ops-init
-chain-loop-ops-init t c = λ v. goings.going v refl
+pub chain-loop-pending-init : goal.chain-loop-pending-init
+chain-loop-pending-init t c = λ v. goings.going v refl
 
 pub chain-kind_at-kind-requires : goal.chain-kind_at-kind-requires
-chain-kind_at-kind-requires t c = goings.going_room c.loop-ops.invariant c.requires
+chain-kind_at-kind-requires t c = goings.going_room c.loop-pending.invariant c.requires
 
 pub chain-settle-settled-requires : goal.chain-settle-settled-requires
 chain-settle-settled-requires t c = search goings.settle_at
 
 pub chain-returns-then-tight-eq0 : goal.chain-returns-then-tight-eq0
-chain-returns-then-tight-eq0 t c = λ v. goings.going_ends c.loop-ops.invariant v c.kind_at-kind.ensures c.tightness_of-tight.ensures c.if-tight-eq0.true c.settle-settled.ensures
+chain-returns-then-tight-eq0 t c = λ v. goings.going_ends c.loop-pending.invariant v c.kind_at-kind.ensures c.tightness_of-tight.ensures c.if-tight-eq0.true c.settle-settled.ensures
 
 pub chain-wait-requires : goal.chain-wait-requires
-chain-wait-requires t c = omega (arith, goings.slot c.loop-ops.invariant c.requires c.kind_at-kind.ensures c.tightness_of-tight.ensures c.if-tight-eq0.false c.settle-settled.ensures)
+chain-wait-requires t c = omega (arith, goings.slot c.loop-pending.invariant c.requires c.kind_at-kind.ensures c.tightness_of-tight.ensures c.if-tight-eq0.false c.settle-settled.ensures)
 
 pub chain-overflow_add-at : goal.chain-overflow_add-at
-chain-overflow_add-at t c = omega (arith, goings.going_small c.loop-ops.invariant c.requires)
+chain-overflow_add-at t c = omega (arith, goings.going_small c.loop-pending.invariant c.requires)
 
 pub chain-operand-requires : goal.chain-operand-requires
-chain-operand-requires t c = (omega (arith, not_first_small c.args.records.now (c.loop-ops.at + 1), c.decreases), goings.next_operand c.loop-ops.invariant c.requires c.kind_at-kind.ensures c.tightness_of-tight.ensures c.if-tight-eq0.false)
+chain-operand-requires t c = (omega (arith, not_first_small c.args.records.now (c.loop-pending.at + 1), c.decreases), goings.next_operand c.loop-pending.invariant c.requires c.kind_at-kind.ensures c.tightness_of-tight.ensures c.if-tight-eq0.false)
 
 pub chain-returns-in_err-more : goal.chain-returns-in_err-more
-chain-returns-in_err-more t c = λ v. passed (ChainAnswer v) _ c.from_residual.ensures.1 (goings.going_faults c.loop-ops.invariant v c.kind_at-kind.ensures c.tightness_of-tight.ensures c.if-tight-eq0.false c.settle-settled.ensures c.operand.ensures c.in_err-more.was)
+chain-returns-in_err-more t c = λ v. passed (ChainAnswer v) _ c.from_residual.ensures.1 (goings.going_faults c.loop-pending.invariant v c.kind_at-kind.ensures c.tightness_of-tight.ensures c.if-tight-eq0.false c.settle-settled.ensures c.operand.ensures c.in_err-more.was)
 
 pub chain-overflow_add-last : goal.chain-overflow_add-last
-chain-overflow_add-last t c = omega (arith, goings.slot c.loop-ops.invariant c.requires c.kind_at-kind.ensures c.tightness_of-tight.ensures c.if-tight-eq0.false c.settle-settled.ensures)
+chain-overflow_add-last t c = omega (arith, goings.slot c.loop-pending.invariant c.requires c.kind_at-kind.ensures c.tightness_of-tight.ensures c.if-tight-eq0.false c.settle-settled.ensures)
 
-pub chain-loop-ops-smaller : goal.chain-loop-ops-smaller
-chain-loop-ops-smaller t c = goings.going_falls c.loop-ops.invariant c.requires c.kind_at-kind.ensures c.tightness_of-tight.ensures c.if-tight-eq0.false c.operand.ensures c.in_ok-more.was
+pub chain-loop-pending-smaller : goal.chain-loop-pending-smaller
+chain-loop-pending-smaller t c = goings.going_falls c.loop-pending.invariant c.requires c.kind_at-kind.ensures c.tightness_of-tight.ensures c.if-tight-eq0.false c.operand.ensures c.in_ok-more.was
 
-pub chain-loop-ops-preserved : goal.chain-loop-ops-preserved
-chain-loop-ops-preserved t c = λ v. goings.going_turn c.loop-ops.invariant v c.kind_at-kind.ensures c.tightness_of-tight.ensures c.if-tight-eq0.false c.settle-settled.ensures c.wait.ensures c.operand.ensures c.in_ok-more.was
+pub chain-loop-pending-preserved : goal.chain-loop-pending-preserved
+chain-loop-pending-preserved t c = λ v. goings.going_turn c.loop-pending.invariant v c.kind_at-kind.ensures c.tightness_of-tight.ensures c.if-tight-eq0.false c.settle-settled.ensures c.wait.ensures c.operand.ensures c.in_ok-more.was
 
 pub expression-operand-requires : goal.expression-operand-requires
 expression-operand-requires t c = (omega (arith, not_first_small c.args.records.now c.args.i, c.decreases), search expressions.first_operand)

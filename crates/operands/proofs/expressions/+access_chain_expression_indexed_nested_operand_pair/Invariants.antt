@@ -29,8 +29,8 @@ decreases-operand l = l.depth * 16 + 3 + 2 * not_first l.records.now l.i
 abbrev pub decreases-pair : goal.decreases-pair
 decreases-pair l = l.depth * 16 + 7
 
-abbrev pub invariant-chain-loop-ops : goal.invariant-chain-loop-ops
-invariant-chain-loop-ops l = (v : ChainAt l.records l.values l.carriers l.op l.fn.left.number l.fn.left.bits l.fn.right.number l.fn.right.bits l.fn.right.next l.depth) → Going v l.ops l.numbers l.lengths l.last.count l.last.number l.last.bits l.at
+abbrev pub invariant-chain-loop-pending : goal.invariant-chain-loop-pending
+invariant-chain-loop-pending l = (v : ChainAt l.records l.values l.carriers l.op l.fn.left.number l.fn.left.bits l.fn.right.number l.fn.right.bits l.fn.right.next l.depth) → Going v l.pending l.last.count l.last.number l.last.bits l.at
 
-abbrev pub decreases-chain-loop-ops : goal.decreases-chain-loop-ops
-decreases-chain-loop-ops l = length l.records - l.at
+abbrev pub decreases-chain-loop-pending : goal.decreases-chain-loop-pending
+decreases-chain-loop-pending l = length l.records - l.at

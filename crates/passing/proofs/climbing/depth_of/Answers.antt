@@ -1,7 +1,6 @@
 -- `passing::climbing::depth_of` meets its contract: the members passed are counted.
 -- Assumes nothing.
 use borrow.Author.Rules.{rules}
-use Prim.Native.Nat.{◌-◌}
 use Rattle.passing.specs.Laws.Counting.{none_counted, one_counted, top_reached, all_counted}
 use Rattle.passing.proofs.climbing.depth_of.Goals as goal
 

@@ -3,7 +3,6 @@
 use borrow.Author.Rules.{rules}
 use native.Mathlib.Omega.{arith}
 use mathlib.Core.Path.{refl, ◌∙◌}
-use Prim.Native.Nat.{◌-◌}
 use mathlib.Core.List.{List}
 use Prim.Native.Nat.{ℕ}
 use Rattle.std.specs.Prelude.{◌≡◌, Result, Ok}
@@ -11,6 +10,8 @@ use Rattle.std.proofs.Common.{ap, subst}
 use Rattle.stepping.specs.declared.steps.Moved.{Moved}
 use Rattle.stepping.specs.declared.steps.Fault.{Fault}
 use Rattle.stepping.specs.Steps.{StepAt, StepAnswer}
+use Rattle.runner.specs.declared.runs.Ended.TheVariants.{Paused}
+use Rattle.runner.specs.Runs.{RunAnswer}
 use Rattle.runner.specs.Laws.Turns.{faults}
 use Rattle.runner.specs.Laws.Runs.{run_begins, step_at, turn_room, faults_there, stops_there, ends_there, goes_there, pauses}
 use Rattle.runner.proofs.runs.run.Goals as goal
@@ -47,4 +48,6 @@ pub loop-steps-preserved : goal.loop-steps-preserved
 loop-steps-preserved c = (omega (arith, c.loop-steps-test.true), (omega (arith, c.step.auto.carriers, c.loop-steps.invariant.1.0), (omega (arith, c.step.auto.scratch, c.loop-steps.invariant.1.1.0), (c.onward.ensures.size ∙ c.loop-steps.invariant.1.1.1.0, λ v. goes_there v _ (c.loop-steps.invariant.1.1.1.1 v) c.loop-steps.invariant.1.0 c.loop-steps-test.true (stepped c.in-Ok.is c.step.ensures) c.onward.ensures (ap Ok c.in-At.is)))))
 
 pub returns : goal.returns
-returns c = λ v. pauses v _ (c.loop-steps.invariant.1.1.1.1 v) c.loop-steps.invariant.1.0 (omega arith) c.loop-steps.invariant.0
+returns c = λ v.
+    let e : c.loop-steps.steps ≡ c.args.budget = omega arith in
+    subst (λ k. RunAnswer v c.args.budget c.loop-steps.carriers (Paused k)) e (pauses v _ (c.loop-steps.invariant.1.1.1.1 v) c.loop-steps.invariant.1.0 (omega arith) c.loop-steps.invariant.0)

@@ -1,13 +1,14 @@
 -- `tracing::runs::trace` meets its contract: at each turn the machine has the rest of the run to do, and the rest to report.
 -- Assumes nothing.
-use Prim.Native.Nat.{◌-◌}
 use borrow.Author.Rules.{rules}
 use native.Mathlib.Omega.{arith}
 use mathlib.Core.Path.{◌≡◌, refl, sym, ap, ◌∙◌}
 use Rattle.std.specs.Prelude.{Result, Ok, Err}
 use Rattle.stepping.specs.declared.steps.Fault.{Fault}
 use Rattle.runner.specs.declared.turns.Turned.{Turned}
-use Rattle.tracing.specs.Traces.{ended_by}
+use Rattle.std.proofs.Common.{subst}
+use Rattle.runner.specs.declared.runs.Ended.TheVariants.{Paused}
+use Rattle.tracing.specs.Traces.{ended_by, TraceTold}
 use Rattle.tracing.specs.Laws.Traces.{enters, tracing_begins, turn_at, ends, goes_on, pauses}
 use Rattle.tracing.proofs.runs.trace.Goals as goal
 
@@ -56,12 +57,6 @@ returns-in_default c = λ v.
     ends v _ _ _ (c.loop-steps.invariant.1.1.1.1.1 _ v c.enter.ensures) c.loop-steps.invariant.1.0 c.loop-steps.invariant.1.1.1.1.0 c.loop-steps-test.true c.turn.ensures
     (λ n d e. c.in_default.not-At n d (same_turn (sym c.in-Ok.is ∙ e))) (c.ended.ensures ∙ sym (ap (λ t. ended_by t c.loop-steps.steps) c.in-Ok.is))
 
-pub overflow_add-steps : goal.overflow_add-steps
-overflow_add-steps c = record { fits = omega (arith, c.loop-steps-test.true, c.ranges.budget) }
-
-pub loop-steps-smaller : goal.loop-steps-smaller
-loop-steps-smaller c = search rules
-
 pub loop-steps-preserved : goal.loop-steps-preserved
 loop-steps-preserved c = (
   omega (arith, c.loop-steps-test.true),
@@ -82,4 +77,6 @@ loop-steps-preserved c = (
 
 pub returns : goal.returns
 returns c = λ v.
-    pauses v _ _ _ (c.loop-steps.invariant.1.1.1.1.1 _ v c.enter.ensures) c.loop-steps.invariant.1.0 c.loop-steps.invariant.1.1.1.1.0 (omega (arith, c.loop-steps-test.false)) c.loop-steps.invariant.0
+    let e : c.loop-steps.steps ≡ c.args.budget = omega arith in
+    subst (λ k. TraceTold v c.args.budget c.loop-steps.memory c.loop-steps.room (Paused k)) e
+    (pauses v _ _ _ (c.loop-steps.invariant.1.1.1.1.1 _ v c.enter.ensures) c.loop-steps.invariant.1.0 c.loop-steps.invariant.1.1.1.1.0 (omega arith) c.loop-steps.invariant.0)
