@@ -77,6 +77,7 @@ fn descend(
     let mut at = from;
     let mut depth: usize = 0;
     let mut mode: usize = 0;
+    // A loop: each activation is looked for behind the one before.
     loop {
         let call = next_call(records, n, at, depth, mode);
         let name = call.name;

@@ -15,8 +15,7 @@ pub fn check(text: &[u8], a: &mut [u8], b: &mut [u8], c: &mut [u8], answer: &mut
     ensures { CheckCall text.now (memory a.old b.old c.old answer.old)
         (memory a.new b.new c.new answer.new) result }
 {
-    let refused = unread(text, a, b, c, answer);
-    if refused != 0 {
+    if let Some(refused) = unread(text, a, b, c, answer) {
         return refused;
     }
     let found = checked(text, a, b, c);

@@ -29,8 +29,7 @@ pub fn trace(
     if d.len() < WORK_SIZE {
         return 1;
     }
-    let refused = unread(text, a, b, c, answer);
-    if refused != 0 {
+    if let Some(refused) = unread(text, a, b, c, answer) {
         return refused;
     }
     let found = traced(text, carriers, budget, entries, a, b, c, d);

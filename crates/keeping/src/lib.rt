@@ -27,8 +27,7 @@ pub fn store(
     ensures { StoreCall text.now carriers.now image.old (memory a.old b.old c.old answer.old)
         (memory a.new b.new c.new answer.new) image.new result }
 {
-    let refused = unread(text, a, b, c, answer);
-    if refused != 0 {
+    if let Some(refused) = unread(text, a, b, c, answer) {
         return refused;
     }
     let found = ending_answer(text, stored(text, carriers, image, a, b, c));
@@ -49,8 +48,7 @@ pub fn load(
     ensures { LoadCall text.now image.now carriers.old (memory a.old b.old c.old answer.old)
         (memory a.new b.new c.new answer.new) carriers.new result }
 {
-    let refused = unread(text, a, b, c, answer);
-    if refused != 0 {
+    if let Some(refused) = unread(text, a, b, c, answer) {
         return refused;
     }
     let found = ending_answer(text, loaded(text, image, carriers, a, b, c));

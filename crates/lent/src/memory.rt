@@ -28,26 +28,22 @@ fn is_enough(a: &[u8], b: &[u8], c: &[u8], answer: &[u8]) -> bool
     true
 }
 
-// The refusal for which the text is not even read, 1 or 2; 0 where there is none.
-pub fn unread(text: &[u8], a: &[u8], b: &[u8], c: &[u8], answer: &[u8]) -> u32
+// The number of the refusal for which the text is not even read, 1 or 2.
+pub fn unread(text: &[u8], a: &[u8], b: &[u8], c: &[u8], answer: &[u8]) -> Option<u32>
     ensures { Unread text.now (memory a.now b.now c.now answer.now) result }
 {
     if !is_enough(a, b, c, answer) {
-        return 1;
+        return Some(1);
     }
     if LONGEST_TEXT < text.len() {
-        return 2;
+        return Some(2);
     }
-    0
+    None
 }
 
 // Puts 0 into every byte.
 pub fn clear(work: &mut [u8])
     ensures { work.new ≡ zeros work.old }
 {
-    let mut i: usize = 0;
-    while i < work.len() {
-        work[i] = 0;
-        i += 1;
-    }
+    work.fill(0);
 }

@@ -17,10 +17,8 @@ fn fill(room: &mut [u8], v: u16)
     requires { room_size ≤ length room.old }
     ensures { Filled room.old room.new v most_words }
 {
-    let mut w: usize = 0;
-    while w < MOST_WORDS {
+    for w in 0..MOST_WORDS {
         put16(room, FIRST + w, v);
-        w += 1;
     }
 }
 
@@ -45,9 +43,7 @@ fn link_all(room: &mut [u8], entries: &[u8])
     requires { Linked (entries_in entries.now) room.old (length (entries_in entries.now)) }
     ensures { Linked (entries_in entries.now) room.new 0 }
 {
-    let mut i = count(entries);
-    while 0 < i {
-        i -= 1;
+    for i in (0..count(entries)).rev() {
         link(room, entries, i);
     }
 }

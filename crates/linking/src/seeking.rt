@@ -16,6 +16,7 @@ fn reach(room: &[u8], entries: &[u8], w: usize) -> usize
 {
     let n = count(entries);
     let mut i = get16(room, FIRST + w) as usize;
+    // A while: it follows the chain of the word's entries.
     while i < n {
         if get16(room, i) == 0 {
             return i;

@@ -24,10 +24,7 @@ pub struct Entry {
 pub fn is_list(entries: &[u8]) -> bool
     ensures { result ≡ is_list entries.now }
 {
-    if entries.len() % ENTRY_SIZE != 0 {
-        return false;
-    }
-    entries.len() / ENTRY_SIZE <= MOST_ENTRIES
+    entries.len() % ENTRY_SIZE == 0 && entries.len() / ENTRY_SIZE <= MOST_ENTRIES
 }
 
 // The number of entries.
@@ -61,6 +58,7 @@ pub fn entry_at(entries: &[u8], i: usize) -> Entry
 pub fn is_same(a: Entry, b: Entry) -> bool
     ensures { result ≡ same_entry (entry_of a) (entry_of b) }
 {
+    // A test for each number: the proof cites the first that differs.
     if a.place != b.place {
         return false;
     }

@@ -18,11 +18,8 @@ pub fn walk(records: &[u8], cells: &mut [u8], room: &mut [u8], n: usize)
     ensures { (v : Kinded records.now n) → Follows (cells_in cells.new n) n outset (drop 3 v.tokens) }
 {
     let mut s = inside(0, 0);
-    let mut i = DECLARATIONS;
-    while i < n {
-        let at = i;
-        put_pair(cells, at, s.rank, s.up);
-        s = step(records, room, n, at, s);
-        i += 1;
+    for i in DECLARATIONS..n {
+        put_pair(cells, i, s.rank, s.up);
+        s = step(records, room, n, i, s);
     }
 }

@@ -7,6 +7,8 @@ ghost use Rattle.members.specs.Cells.{cells_in};
 
 use cells::get16;
 
+// Members are numbers of tokens here, and 0 is none, as in the cells that the theorems of `telling` are about.
+
 // The rank of the token i of n.
 pub fn rank_at(cells: &[u8], n: usize, i: usize) -> usize
     requires { 4 * n ≤ length cells.now }

@@ -5,10 +5,9 @@ ghost use Rattle.rules.specs.Text.Scan.{same_bytes};
 ghost use Rattle.rules.specs.Declarations.{declared_of, number_of};
 ghost use Rattle.rules.specs.Paths.{folded};
 ghost use Rattle.records.specs.Holds.{folded_at};
-ghost use Rattle.table.specs.Lookups.{or_else};
 ghost use Rattle.table.specs.Views.{View};
 ghost use Rattle.whole.specs.Written.{Written, whole};
-ghost use Rattle.naming.specs.Names.{is_storage_of, Test};
+ghost use Rattle.naming.specs.Names.{found, is_storage_of, Test};
 
 use cells::get16;
 use classes::letters::upper;
@@ -41,7 +40,7 @@ fn is_name(text: &[u8], p: usize, n: usize, name: &[u8]) -> bool
     true
 }
 
-// The number of the first of the m declarations that has a lent name, or m.
+// The number of the first of the m declarations that has a lent name.
 pub fn number_of(
     text: &[u8],
     records: &[u8],
@@ -49,18 +48,18 @@ pub fn number_of(
     m: usize,
     n: usize,
     name: &[u8],
-) -> usize
+) -> Option<usize>
     requires { Written text.now records.now decls.now m n }
-    ensures { (v : Written text.now records.now decls.now m n) → result ≡ or_else m (number_of (whole v) (folded name.now)) }
+    ensures { (v : Written text.now records.now decls.now m n) → result ≡ found (number_of (whole v) (folded name.now)) }
 {
     for k in 0..m {
         let p = get16(decls, k) as usize;
         let size = size_at(records, p) as usize;
         if is_name(text, place_at(records, p), size, name) {
-            return k;
+            return Some(k);
         }
     }
-    m
+    None
 }
 
 // Whether the declaration whose name is the token p is a storage carrier: it has bits, and is no mapping.
@@ -78,7 +77,7 @@ pub fn is_storage(records: &[u8], values: &[u8], p: usize) -> bool
     }
 }
 
-// The number of the body that a lent name means, or m.
+// The number of the body that a lent name means.
 pub fn test_number(
     text: &[u8],
     records: &[u8],
@@ -86,16 +85,13 @@ pub fn test_number(
     m: usize,
     n: usize,
     test: &[u8],
-) -> usize
+) -> Option<usize>
     requires { Written text.now records.now decls.now m n }
-    ensures { (v : Written text.now records.now decls.now m n) → Test (whole v) (folded test.now) m result }
+    ensures { (v : Written text.now records.now decls.now m n) → Test (whole v) (folded test.now) result }
 {
-    let k = number_of(text, records, decls, m, n, test);
-    if k == m {
-        return m;
-    }
+    let k = number_of(text, records, decls, m, n, test)?;
     if body_at(records, decls, m, n, k) == 0 {
-        return m;
+        return None;
     }
-    k
+    Some(k)
 }

@@ -36,8 +36,7 @@ pub fn pair(
         (more_memory d.old e.old f.old) (more_memory d.new e.new f.new)
         carriers.new result }
 {
-    let refused = unread_pair(first, second, a, b, c, d, e, f, answer);
-    if refused != 0 {
+    if let Some(refused) = unread_pair(first, second, a, b, c, d, e, f, answer) {
         return refused;
     }
     let found = pair_texts(first, second, carriers, turns, budget, a, b, c, d, e, f);

@@ -6,7 +6,7 @@ ghost use Rattle.pairing.specs.Unread.{Unread};
 use lent::memory::{WORK_SIZE, unread};
 use rules::limits::LONGEST_TEXT;
 
-// The refusal for which no text is read, 1 or 2; 0 where there is none.
+// The number of the refusal for which no text is read, 1 or 2.
 pub fn unread_pair(
     first: &[u8],
     second: &[u8],
@@ -17,25 +17,24 @@ pub fn unread_pair(
     e: &[u8],
     f: &[u8],
     answer: &[u8],
-) -> u32
+) -> Option<u32>
     ensures { Unread first.now second.now (memory a.now b.now c.now answer.now)
         (more_memory d.now e.now f.now) result }
 {
     if d.len() < WORK_SIZE {
-        return 1;
+        return Some(1);
     }
     if e.len() < WORK_SIZE {
-        return 1;
+        return Some(1);
     }
     if f.len() < WORK_SIZE {
-        return 1;
+        return Some(1);
     }
-    let refused = unread(first, a, b, c, answer);
-    if refused != 0 {
-        return refused;
+    if let Some(refused) = unread(first, a, b, c, answer) {
+        return Some(refused);
     }
     if LONGEST_TEXT < second.len() {
-        return 2;
+        return Some(2);
     }
-    0
+    None
 }

@@ -21,6 +21,7 @@ fn put_known(table: &mut [u8], k: usize, ends: bool, low: usize)
     ensures { Put table.old table.new k ends low }
 {
     let at = 2 * k;
+    // Both cases are written out: the proof cites each.
     if ends {
         put16(table, at, 1);
         put16(table, at + 1, low as u16);

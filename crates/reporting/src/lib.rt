@@ -29,8 +29,7 @@ pub fn why(
     if reason.len() < REASON_SIZE {
         return 1;
     }
-    let refused = unread(text, a, b, c, answer);
-    if refused != 0 {
+    if let Some(refused) = unread(text, a, b, c, answer) {
         return refused;
     }
     let found = reported(text, a, b, c, reason);

@@ -25,8 +25,7 @@ pub fn profile(
     ensures { ProfileCall text.now test.now output.now (memory a.old b.old c.old answer.old)
         (memory a.new b.new c.new answer.new) result }
 {
-    let refused = unread(text, a, b, c, answer);
-    if refused != 0 {
+    if let Some(refused) = unread(text, a, b, c, answer) {
         return refused;
     }
     let found = profiled(text, test, output, a, b, c);

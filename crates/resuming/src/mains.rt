@@ -14,13 +14,11 @@ pub fn main_number(records: &[u8], decls: &[u8], m: usize, n: usize) -> usize
     requires { Reading records.now decls.now m n }
     ensures { (v : Reading records.now decls.now m n) → faults50 (table_of v) ≡ [] → number_of (table_of v) (main_name (table_of v)) ≡ some result }
 {
-    let mut k: usize = 0;
-    while k < m {
+    for k in 0..m {
         let p = get16(decls, k) as usize;
         if main_of(records, p) != 0 {
             return inside_at(records, p);
         }
-        k += 1;
     }
     m
 }

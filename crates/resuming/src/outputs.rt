@@ -7,7 +7,7 @@ ghost use Rattle.accepted.specs.Accepted.{Accepts, table_by};
 use cells::get16;
 use naming::names::{is_storage, number_of};
 
-// The number of the storage carrier that a lent name means, or m.
+// The number of the storage carrier that a lent name means.
 pub fn output_number(
     text: &[u8],
     records: &[u8],
@@ -16,18 +16,15 @@ pub fn output_number(
     m: usize,
     n: usize,
     output: &[u8],
-) -> usize
+) -> Option<usize>
     requires { (words : ℕ) × Accepts text.now records.now values.now decls.now m words n }
     ensures { (words : ℕ) (v : Accepts text.now records.now values.now decls.now m words n)
-        → Output (table_by v) (folded output.now) m result }
+        → Output (table_by v) (folded output.now) result }
 {
-    let k = number_of(text, records, decls, m, n, output);
-    if k == m {
-        return m;
-    }
+    let k = number_of(text, records, decls, m, n, output)?;
     let p = get16(decls, k) as usize;
     if is_storage(records, values, p) {
-        return k;
+        return Some(k);
     }
-    m
+    None
 }

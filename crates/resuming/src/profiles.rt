@@ -46,14 +46,12 @@ fn profile_accepted(
     ensures { (words : ℕ) (v : Accepts text.now records.now values.old decls.now m words n)
         → numbers_of result ≡ profile_numbers text.now (profile (table_by v) (folded test.now) (folded output.now)) }
 {
-    let aim = test_number(text, records, decls, m, n, test);
-    if aim == m {
+    let Some(aim) = test_number(text, records, decls, m, n, test) else {
         return refusal(text, 90, 0);
-    }
-    let out = output_number(text, records, values, decls, m, n, output);
-    if out == m {
+    };
+    let Some(out) = output_number(text, records, values, decls, m, n, output) else {
         return refusal(text, 91, 0);
-    }
+    };
     let low = lowest(records, values, room, decls, Task { m, n, aim, out });
     if low < UNSEEN {
         return refusal(text, 92, low);

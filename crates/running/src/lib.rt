@@ -23,8 +23,7 @@ pub fn run(
     ensures { RunCall text.now carriers.old budget (memory a.old b.old c.old answer.old)
         (memory a.new b.new c.new answer.new) carriers.new result }
 {
-    let refused = unread(text, a, b, c, answer);
-    if refused != 0 {
+    if let Some(refused) = unread(text, a, b, c, answer) {
         return refused;
     }
     let found = ran(text, carriers, budget, a, b, c);

@@ -14,6 +14,7 @@ pub fn seek(records: &[u8], from: usize, goal: u8) -> usize
 {
     let mut d: usize = 0;
     let mut i = from;
+    // A loop: no count says where the mark stands.
     loop {
         let kind = kind_at(records, i);
         if halts(goal, d, kind) {
@@ -30,6 +31,7 @@ pub fn first_of(records: &[u8], i: usize) -> usize
     ensures { (g : Ground) (v : Starts g records.now i) → result ≡ first_of i v.action }
 {
     let mut at = i;
+    // A loop: it takes one token or two at a step.
     loop {
         let kind = kind_at(records, at);
         if kind == BEGIN {

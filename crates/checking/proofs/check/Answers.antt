@@ -6,19 +6,19 @@ use Rattle.lent.specs.Laws.Settled.{settled_from}
 use Rattle.checking.specs.Laws.Checked.{answers_call, unread_call}
 use Rattle.checking.proofs.check.Goals as goal
 
-pub returns-then-refused-ne0 : goal.returns-then-refused-ne0
-returns-then-refused-ne0 c = unread_call c.unread-refused.ensures c.if-refused-ne0.true
+pub returns-in-Some : goal.returns-in-Some
+returns-in-Some c = unread_call c.unread.ensures c.in-Some.is
 
 pub checked-found-requires : goal.checked-found-requires
 checked-found-requires c =
-    let f = fits c.unread-refused.ensures c.if-refused-ne0.false in
+    let f = fits c.unread.ensures c.in_default.is in
     (f.1, (f.0.work_a, (f.0.work_b, f.0.work_c)))
 
 pub settle-requires : goal.settle-requires
 settle-requires c =
-    (fits c.unread-refused.ensures c.if-refused-ne0.false).0.answer
+    (fits c.unread.ensures c.in_default.is).0.answer
 
 pub returns : goal.returns
 returns c =
-    let f = fits c.unread-refused.ensures c.if-refused-ne0.false in
+    let f = fits c.unread.ensures c.in_default.is in
     answers_call f.0 f.1 c.checked-found.ensures (settled_from c.settle.ensures (search rules) (search rules) (search rules))

@@ -1,6 +1,6 @@
 -- Laws of what Trace answers: a text that is refused, and the whole call.
 -- Assumes nothing.
-use Rattle.std.specs.Prelude.{ℕ, ◌≤◌, ◌≡◌, refl, List, length, replicate}
+use Rattle.std.specs.Prelude.{ℕ, ◌≤◌, ◌≡◌, refl, List, length, replicate, Option, Some}
 use Rattle.std.proofs.Common.{ap, ◌∙◌}
 use Rattle.rules.specs.Limits.{longest_text}
 use Rattle.rules.specs.Answers.{not_accepted, refused_numbers}
@@ -38,11 +38,11 @@ trace_call {text} {before = before} {found = found} enough short t s z =
 pub short_fourth : {text carriers entries fourth : List ℕ} {budget : ℕ} {m : Memory} → (work_size ≤ length fourth → ⊥) → TraceCall text carriers budget entries m m fourth fourth 1
 short_fourth h = call.short_memory (λ e. h e.work_d) refl refl refl
 
-pub unread_call : {text carriers entries fourth : List ℕ} {budget number : ℕ} {m : Memory} → work_size ≤ length fourth → Unread text m number → (number ≡ 0 → ⊥)
+pub unread_call : {text carriers entries fourth : List ℕ} {budget number : ℕ} {o : Option ℕ} {m : Memory} → work_size ≤ length fourth → Unread text m o → o ≡ Some number
     → TraceCall text carriers budget entries m m fourth fourth number
-unread_call w (short_memory h) n = call.short_memory (λ e. h e.enough) refl refl refl
-unread_call w (long_text m h) n = call.long_text (record { enough = m; work_d = w }) h refl refl refl
-unread_call w (none m h) n = absurd (n refl)
+unread_call w (short_memory h) e = call.short_memory (λ z. h z.enough) (cc) refl refl
+unread_call w (long_text m h) e = call.long_text (record { enough = m; work_d = w }) h (cc) refl refl
+unread_call w (none m h) e = cc
 
 -- a buffer that is cleared, and was as long before
 pub zeros_same : (fourth : List ℕ) {left : List ℕ} {n : ℕ} → left ≡ replicate n 0 → n ≡ length fourth → left ≡ zeros fourth

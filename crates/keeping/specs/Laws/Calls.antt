@@ -1,6 +1,6 @@
 -- Laws of the whole call, from how Store or Load ended.
 -- Assumes nothing.
-use Rattle.std.specs.Prelude.{ℕ, ◌<◌, ◌≤◌, ◌≡◌, refl, List, length}
+use Rattle.std.specs.Prelude.{ℕ, ◌<◌, ◌≤◌, ◌≡◌, refl, List, length, Option, Some}
 use Rattle.std.proofs.Common.{sym, ap, ◌∙◌}
 use Rattle.rules.specs.Limits.{longest_text}
 use Rattle.rules.specs.Declarations.{Table}
@@ -38,7 +38,7 @@ keep_call {text} {left = left} {before = before} {found = found} enough short a 
     answer a.result enough short a.keeps (number_is text a.result found same) (settled_same s ∙ ap (λ ns. settled ns before) same) a.keeping.left_is
 
 -- a call that reads no text
-pub unread_call : {text target : List ℕ} {keep : Table → Kept} {number : ℕ} {m : Memory} → Unread text m number → (number ≡ 0 → ⊥) → KeepCall text keep target m m target number
-unread_call (short_memory h) n = call.short_memory h refl refl refl
-unread_call (long_text m h) n = call.long_text m h refl refl refl
-unread_call (none m h) n = absurd (n refl)
+pub unread_call : {text target : List ℕ} {keep : Table → Kept} {number : ℕ} {o : Option ℕ} {m : Memory} → Unread text m o → o ≡ Some number → KeepCall text keep target m m target number
+unread_call (short_memory h) e = call.short_memory h (cc) refl refl
+unread_call (long_text m h) e = call.long_text m h (cc) refl refl
+unread_call (none m h) e = cc

@@ -1,5 +1,5 @@
 -- Laws of what the longest run comes to, up to the whole call.
-use Rattle.std.specs.Prelude.{ℕ, ◌≤◌, ◌≡◌, refl, List, [], ◌∷◌, length}
+use Rattle.std.specs.Prelude.{ℕ, ◌≤◌, ◌≡◌, refl, List, [], ◌∷◌, length, Option, Some}
 use Rattle.std.proofs.Common.{sym, ap, ◌∙◌, eq-eqb, ne_eqb}
 use Rattle.rules.specs.Limits.{longest_text}
 use Rattle.rules.specs.Text.Scan.{scan}
@@ -66,7 +66,7 @@ answers_call {text} {before} {after} {found} enough short t s =
     answer t.bound enough short t.bounds (number_is text t.bound found t.is) (settled_same s ∙ ap (λ ns. settled ns before) t.is)
 
 -- a call that reads no text
-pub unread_call : {text : List ℕ} {number : ℕ} {m : Memory} → Unread text m number → (number ≡ 0 → ⊥) → BoundCall text m m number
-unread_call (short_memory h) n = call.short_memory h refl refl
-unread_call (long_text m h) n = call.long_text m h refl refl
-unread_call (none m h) n = absurd (n refl)
+pub unread_call : {text : List ℕ} {number : ℕ} {o : Option ℕ} {m : Memory} → Unread text m o → o ≡ Some number → BoundCall text m m number
+unread_call (short_memory h) e = call.short_memory h (cc) refl
+unread_call (long_text m h) e = call.long_text m h (cc) refl
+unread_call (none m h) e = cc

@@ -1,6 +1,6 @@
 -- Laws of whether memory is enough and the text short enough.
 -- Assumes nothing.
-use Rattle.std.specs.Prelude.{ℕ, ◌≤◌, ◌≡◌, Bool, true, false, not, List, length}
+use Rattle.std.specs.Prelude.{ℕ, ◌≤◌, ◌≡◌, Bool, true, false, not, List, length, Option, None}
 use Rattle.std.proofs.Common.{arith}
 use Rattle.rules.specs.Limits.{longest_text}
 use Rattle.rules.specs.Calls.Memory.{Memory, Enough}
@@ -15,7 +15,7 @@ not_enough m true h e = let z : ◌≡◌ {A = ℕ} 0 1 = cc in absurd (omega ar
 not_enough m false h e = h
 
 -- a call that may go on
-pub fits : {text : List ℕ} {m : Memory} {r : ℕ} → Unread text m r → r ≡ 0 → Enough m × (length text ≤ longest_text)
-fits (short_memory h) e = absurd (omega arith)
-fits (long_text m h) e = absurd (omega arith)
+pub fits : {text : List ℕ} {m : Memory} {r : Option ℕ} → Unread text m r → r ≡ None → Enough m × (length text ≤ longest_text)
+fits (short_memory h) e = cc
+fits (long_text m h) e = cc
 fits (none m h) e = (m, h)

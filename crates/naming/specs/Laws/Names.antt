@@ -1,6 +1,6 @@
 -- Laws of what the lent names mean.
 -- Assumes nothing.
-use Rattle.std.specs.Prelude.{ℕ, zero, suc, ◌+◌, ◌*◌, ◌<◌, ◌≤◌, ◌≡◌, refl, Bool, List, [], ◌∷◌, drop}
+use Rattle.std.specs.Prelude.{ℕ, zero, suc, ◌+◌, ◌*◌, ◌<◌, ◌≤◌, ◌≡◌, refl, Bool, List, [], ◌∷◌, drop, Option as Found, Some, None}
 use Rattle.std.proofs.Math.Path.{sym, ap}
 use Rattle.std.proofs.Common.{◌∙◌, arith, add-one, drop_of_length-le}
 use Rattle.std.proofs.Math.Bool.{true, false}
@@ -14,7 +14,6 @@ use Rattle.rules.specs.Paths.{folded, storage_of, storage_at, if_declared, if_st
 use Rattle.records.specs.Holds.{size_byte, place_cell, folded_at}
 use Rattle.records.specs.Words.{NameAt, word_at}
 use Rattle.records.specs.Laws.Words.{word_folded, word_inside}
-use Rattle.table.specs.Lookups.{or_else}
 use Rattle.table.specs.Views.{View, TargetAt}
 use Rattle.table.specs.Shown.{shown_bits}
 use Rattle.table.specs.declared.views.Names.{Names}
@@ -26,7 +25,7 @@ use Rattle.reading.specs.Bodies.{Body}
 use Rattle.chains.specs.Laws.Least.{name_there}
 use Rattle.whole.specs.Written.{Written, whole}
 use Rattle.whole.specs.Laws.Written.{reading}
-use Rattle.naming.specs.Names.{has_storage, is_storage_of, Test, Output}
+use Rattle.naming.specs.Names.{found, has_storage, is_storage_of, Test, Output}
 
 -- a list from its k-th on
 pub split_at : (ds : Table) (k : ℕ) (d : Declared) → get_elem? ds k ≡ some d → drop k ds ≡ d ∷ drop (suc k) ds
@@ -71,7 +70,7 @@ module _ {text records decls : List ℕ} {m n : ℕ} (v : Written text records d
 -- none of the first k declarations has the name
 pub record Seeking (text records decls name : List ℕ) (m n k : ℕ) : Type 0 where
   pub within : k ≤ m
-  pub left : (v : Written text records decls m n) → or_else m (number_past v (folded name) k) ≡ or_else m (number_of (whole v) (folded name))
+  pub left : (v : Written text records decls m n) → number_past v (folded name) k ≡ number_of (whole v) (folded name)
 
 pub none_sought : (text records decls name : List ℕ) (m n : ℕ) → Seeking text records decls name m n 0
 unfolding number_of
@@ -85,59 +84,56 @@ module _ {text records decls name : List ℕ} {m n k : ℕ} (s : Seeking text re
         same ∙ (ap (λ (x : ℕ). same_bytes (folded_at text x z) (folded name)) place ∙ (ap (λ (x : ℕ). same_bytes (folded_at text (place_cell records p) x) (folded name)) size
         ∙ ap (λ (x : List ℕ). same_bytes x (folded name)) (sym (word_folded v.ready.holds (declared_name v l e)))))
 
-    pub sought_here : r ≡ true → (v : Written text records decls m n) → k ≡ or_else m (number_of (whole v) (folded name))
-    sought_here t v = sym (ap (or_else m) (number_step v (folded name) l e true (sym t ∙ same_word v))) ∙ s.left v
+    pub sought_here : r ≡ true → (v : Written text records decls m n) → Some k ≡ found (number_of (whole v) (folded name))
+    sought_here t v = ap found (sym (number_step v (folded name) l e true (sym t ∙ same_word v)) ∙ s.left v)
 
     pub sought_on : r ≡ false → Seeking text records decls name m n (k + 1)
     sought_on t = record {
       within = omega arith;
-      left = λ v. rw add-one (sym (ap (or_else m) (number_step v (folded name) l e false (sym t ∙ same_word v))) ∙ s.left v);
+      left = λ v. rw add-one (sym (number_step v (folded name) l e false (sym t ∙ same_word v)) ∙ s.left v);
     }
 
-  pub sought_all : m ≤ k → (v : Written text records decls m n) → m ≡ or_else m (number_of (whole v) (folded name))
-  sought_all l v = sym (ap (or_else m) (number_end v (folded name) k l)) ∙ s.left v
+  pub sought_all : m ≤ k → (v : Written text records decls m n) → None ≡ found (number_of (whole v) (folded name))
+  sought_all l v = ap found (sym (number_end v (folded name) k l) ∙ s.left v)
 
 -- a number that is found, and one that is not
-known : (o : Option ℕ) {m r : ℕ} → r ≡ or_else m o → (r ≡ m → ⊥) → o ≡ some r
-known none e d = absurd (d e)
-known (some k) e d = ap some (sym e)
+known : (o : Option ℕ) {f : Found ℕ} {r : ℕ} → f ≡ found o → f ≡ Some r → o ≡ some r
+known none e d = cc
+known (some k) {r = r} e d = let q : k ≡ r = cc in ap some q
 
-module _ {text records decls : List ℕ} {m n : ℕ} (v : Written text records decls m n) (w : Word) {r : ℕ} (is : r ≡ or_else m (number_of (whole v) w)) where
-  unknown : r ≡ m → number_of (whole v) w ≡ none
-  unknown e = by (number_of (whole v) w) refl is
-    where
-      by : (o : Option ℕ) → number_of (whole v) w ≡ o → r ≡ or_else m o → number_of (whole v) w ≡ none
-      by none q z = q
-      by (some k) q z = absurd (omega (arith, number_bound (whole v) k w q, table_size_lem (reading v)))
+unknown : (o : Option ℕ) {f : Found ℕ} → f ≡ found o → f ≡ None → o ≡ none
+unknown none e d = refl
+unknown (some k) e d = cc
 
-  pub number_within : (r ≡ m → ⊥) → r < m
-  number_within d = omega (arith, number_bound (whole v) r w (known (number_of (whole v) w) is d), table_size_lem (reading v))
+module _ {text records decls : List ℕ} {m n : ℕ} (v : Written text records decls m n) (w : Word) {o : Found ℕ} (is : o ≡ found (number_of (whole v) w)) where
+  pub number_within : {r : ℕ} → o ≡ Some r → r < m
+  number_within {r} d = omega (arith, number_bound (whole v) r w (known (number_of (whole v) w) is d), table_size_lem (reading v))
 
   -- the test
-  pub no_such_test : r ≡ m → Test (whole v) w m m
+  pub no_such_test : o ≡ None → Test (whole v) w None
   unfolding body_of body_number
-  no_such_test e = record { missing = λ z. ap (body_number (whole v)) (unknown e); there = λ z. absurd (z refl) }
+  no_such_test e = record { missing = λ z. ap (body_number (whole v)) (unknown (number_of (whole v) w) is e); there = λ k z. cc }
 
-  module _ (d : r ≡ m → ⊥) {b : ℕ} (body : Body (reading v) r b) where
+  module _ {r : ℕ} (d : o ≡ Some r) {b : ℕ} (body : Body (reading v) r b) where
     its_body : body_of (whole v) w ≡ body_number (whole v) (some r)
     unfolding body_of
     its_body = ap (body_number (whole v)) (known (number_of (whole v) w) is d)
 
-    pub bodiless_test : b ≡ 0 → Test (whole v) w m m
-    bodiless_test z = record { missing = λ q. its_body ∙ body.missing z; there = λ q. absurd (q refl) }
+    pub bodiless_test : b ≡ 0 → Test (whole v) w None
+    bodiless_test z = record { missing = λ q. its_body ∙ body.missing z; there = λ k q. cc }
 
-    pub test_there : (b ≡ 0 → ⊥) → Test (whole v) w m r
+    pub test_there : (b ≡ 0 → ⊥) → Test (whole v) w (Some r)
     test_there z = record {
-      missing = λ q. absurd (d q);
-      there = λ q. (known (number_of (whole v) w) is d, λ e. none-ne-some (body.there z).0 (sym e ∙ (its_body ∙ (body.there z).1)));
+      missing = λ q. cc;
+      there = λ k q. (known (number_of (whole v) w) is (d ∙ q), λ e. none-ne-some (body.there z).0 (sym e ∙ (its_body ∙ (body.there z).1)));
     }
 
   -- the output
-  pub no_such_output : r ≡ m → Output (whole v) w m m
+  pub no_such_output : o ≡ None → Output (whole v) w None
   unfolding storage_of
-  no_such_output e = record { missing = λ z. ap (storage_at (whole v)) (unknown e); there = λ z. absurd (z refl) }
+  no_such_output e = record { missing = λ z. ap (storage_at (whole v)) (unknown (number_of (whole v) w) is e); there = λ k z. cc }
 
-  module _ (d : r ≡ m → ⊥) {b : Bool} (storage : b ≡ is_storage_of (declared_of (declares (reading v) r (number_within d)).declaration)) where
+  module _ {r : ℕ} (d : o ≡ Some r) {b : Bool} (storage : b ≡ is_storage_of (declared_of (declares (reading v) r (number_within d)).declaration)) where
     chosen : (t : Option Target) (x : Option BitNames) → if_storage r t x ≡ elim (has_storage t x) [ true ↦ some r | false ↦ none ]
     chosen (some t) x = refl
     chosen none none = refl
@@ -151,16 +147,20 @@ module _ {text records decls : List ℕ} {m n : ℕ} (v : Written text records d
         ∙ (chosen (declared_of x.declaration).target (declared_of x.declaration).bits
         ∙ ap {B = Option ℕ} (λ (y : Bool). elim y [ true ↦ some r | false ↦ none ]) (sym storage)))
 
-    pub output_there : b ≡ true → Output (whole v) w m r
+    pub output_there : b ≡ true → Output (whole v) w (Some r)
     output_there t = record {
-      missing = λ q. absurd (d q);
-      there = λ q. (its_storage ∙ ap {B = Option ℕ} (λ (y : Bool). elim y [ true ↦ some r | false ↦ none ]) t, known (number_of (whole v) w) is d);
+      missing = λ q. cc;
+      there = λ k q.
+          let same : r ≡ k = cc in (
+            its_storage ∙ (ap {B = Option ℕ} (λ (y : Bool). elim y [ true ↦ some r | false ↦ none ]) t ∙ ap some same),
+            known (number_of (whole v) w) is (d ∙ q),
+          );
     }
 
-    pub output_other : b ≡ false → Output (whole v) w m m
+    pub output_other : b ≡ false → Output (whole v) w None
     output_other t = record {
       missing = λ q. its_storage ∙ ap {B = Option ℕ} (λ (y : Bool). elim y [ true ↦ some r | false ↦ none ]) t;
-      there = λ q. absurd (q refl);
+      there = λ k q. cc;
     }
 
 -- a declaration that is storage or not, as the table shows it

@@ -8,19 +8,19 @@ use Rattle.reporting.proofs.why.Goals as goal
 pub returns-then-reason-lt-REASON_SIZE : goal.returns-then-reason-lt-REASON_SIZE
 returns-then-reason-lt-REASON_SIZE c = short_reason c.if-reason-lt-REASON_SIZE.true
 
-pub returns-then-refused-ne0 : goal.returns-then-refused-ne0
-returns-then-refused-ne0 c = unread_call c.if-reason-lt-REASON_SIZE.false c.unread-refused.ensures c.if-refused-ne0.true
+pub returns-in-Some : goal.returns-in-Some
+returns-in-Some c = unread_call c.if-reason-lt-REASON_SIZE.false c.unread.ensures c.in-Some.is
 
 pub reported-found-requires : goal.reported-found-requires
 reported-found-requires c =
-    let f = fits c.unread-refused.ensures c.if-refused-ne0.false in
+    let f = fits c.unread.ensures c.in_default.is in
     record { text_len_bound = (f.1, (f.0.work_a, (f.0.work_b, f.0.work_c))); reason_size_in_bounds = c.if-reason-lt-REASON_SIZE.false }
 
 pub settle-requires : goal.settle-requires
 settle-requires c =
-    (fits c.unread-refused.ensures c.if-refused-ne0.false).0.answer
+    (fits c.unread.ensures c.in_default.is).0.answer
 
 pub returns : goal.returns
 returns c =
-    let f = fits c.unread-refused.ensures c.if-refused-ne0.false in
+    let f = fits c.unread.ensures c.in_default.is in
     answers_call f.0 c.if-reason-lt-REASON_SIZE.false f.1 c.reported-found.ensures (settled_from c.settle.ensures (search rules) (search rules) (search rules))

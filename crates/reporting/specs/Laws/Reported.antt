@@ -1,5 +1,5 @@
 -- Laws of what a report comes to, up to the whole call.
-use Rattle.std.specs.Prelude.{ℕ, ◌<◌, ◌≤◌, ◌≡◌, refl, List, ◌++◌, length, drop}
+use Rattle.std.specs.Prelude.{ℕ, ◌<◌, ◌≤◌, ◌≡◌, refl, List, ◌++◌, length, drop, Option, Some}
 use Rattle.std.proofs.Common.{ap, ◌∙◌, arith}
 use Rattle.rules.specs.Limits.{longest_text}
 use Rattle.rules.specs.Answers.{Verdict, accepted, refused, verdict_numbers}
@@ -52,8 +52,8 @@ answers_call {text} {before = before} {found = found} enough room short r s =
 pub short_reason : {text reason : List ℕ} {m : Memory} → length reason < reason_size → WhyCall text m m reason reason 1
 short_reason h = call.short_memory (λ w. omega (arith, w.room)) refl refl refl
 
-pub unread_call : {text reason : List ℕ} {number : ℕ} {m : Memory} → reason_size ≤ length reason → Unread text m number → (number ≡ 0 → ⊥)
+pub unread_call : {text reason : List ℕ} {number : ℕ} {o : Option ℕ} {m : Memory} → reason_size ≤ length reason → Unread text m o → o ≡ Some number
     → WhyCall text m m reason reason number
-unread_call r (short_memory h) n = call.short_memory (λ w. h w.enough) refl refl refl
-unread_call r (long_text m h) n = call.long_text (record { enough = m; room = r }) h refl refl refl
-unread_call r (none m h) n = absurd (n refl)
+unread_call r (short_memory h) e = call.short_memory (λ w. h w.enough) (cc) refl refl
+unread_call r (long_text m h) e = call.long_text (record { enough = m; room = r }) h (cc) refl refl
+unread_call r (none m h) e = cc

@@ -1,6 +1,6 @@
 -- Laws of what a profile comes to, up to the whole call.
 -- Assumes nothing.
-use Rattle.std.specs.Prelude.{ℕ, ◌<◌, ◌≤◌, ◌≡◌, cond, List, [], ◌∷◌, ltb, length}
+use Rattle.std.specs.Prelude.{ℕ, ◌<◌, ◌≤◌, ◌≡◌, cond, List, [], ◌∷◌, ltb, length, Option as Found, Some, None}
 use Rattle.std.proofs.Math.Path.{refl, ap}
 use Rattle.std.proofs.Common.{sym, ◌∙◌, arith, lt-ltb, le-ltb}
 use Rattle.std.proofs.Math.Option.{Option, none, some}
@@ -47,23 +47,23 @@ module _ (ds : Table) (test output : Word) where
       by none e = absurd (d e)
       by (some a) e = refl
 
-module _ (test output : List ℕ) {text records values decls : List ℕ} {m words n : ℕ} (v : Accepts text records values decls m words n) {aim : ℕ}
-    (tested : Test (table_by v) (folded test) m aim) where
+module _ (test output : List ℕ) {text records values decls : List ℕ} {m words n : ℕ} (v : Accepts text records values decls m words n) {o : Found ℕ}
+    (tested : Test (table_by v) (folded test) o) where
   abbrev its : Profile
   its = profile (table_by v) (folded test) (folded output)
 
   -- 90
-  pub no_test : aim ≡ m → {a : Answer} → numbers_of a ≡ refused_numbers text 90 0 → numbers_of a ≡ profile_numbers text its
+  pub no_test : o ≡ None → {a : Answer} → numbers_of a ≡ refused_numbers text 90 0 → numbers_of a ≡ profile_numbers text its
   no_test e is = is ∙ ap (profile_numbers text) (sym (without_test (table_by v) (folded test) (folded output) (tested.missing e)))
 
-  module _ (a_test : aim ≡ m → ⊥) {out : ℕ} (put : Output (table_by v) (folded output) m out) where
+  module _ {aim : ℕ} (a_test : o ≡ Some aim) {p : Found ℕ} (put : Output (table_by v) (folded output) p) where
     -- 91
-    pub no_output : out ≡ m → {a : Answer} → numbers_of a ≡ refused_numbers text 91 0 → numbers_of a ≡ profile_numbers text its
+    pub no_output : p ≡ None → {a : Answer} → numbers_of a ≡ refused_numbers text 91 0 → numbers_of a ≡ profile_numbers text its
     no_output e is =
-        is ∙ ap (profile_numbers text) (sym (with_test (table_by v) (folded test) (folded output) (tested.there a_test).1
+        is ∙ ap (profile_numbers text) (sym (with_test (table_by v) (folded test) (folded output) (tested.there aim a_test).1
         ∙ ap (on_storage (table_by v) (folded test)) (put.missing e)))
 
-    module _ (an_output : out ≡ m → ⊥) where
+    module _ {out : ℕ} (an_output : p ≡ Some out) where
       abbrev task : Task
       task = record { m = m; n = n; aim = aim; out = out }
 
@@ -72,10 +72,10 @@ module _ (test output : List ℕ) {text records values decls : List ℕ} {m word
         written = spelt_by v;
         lawful = v.whole;
         test = folded test;
-        aims = (tested.there a_test).0;
+        aims = (tested.there aim a_test).0;
         output = omega (
           arith,
-          number_bound (table_by v) out (folded output) (put.there an_output).1,
+          number_bound (table_by v) out (folded output) (put.there out an_output).1,
           table_size_lem (reading (written_by v)),
           v.lawful.declares.ready.few,
         );
@@ -83,7 +83,7 @@ module _ (test output : List ℕ) {text records values decls : List ℕ} {m word
 
       by_places : its ≡ verdict (early_places (table_by v) (folded test) out)
       by_places =
-          with_test (table_by v) (folded test) (folded output) (tested.there a_test).1 ∙ ap (on_storage (table_by v) (folded test)) (put.there an_output).0
+          with_test (table_by v) (folded test) (folded output) (tested.there aim a_test).1 ∙ ap (on_storage (table_by v) (folded test)) (put.there out an_output).0
 
       module _ {low : ℕ} (lowest : Lowest to_ask low) where
         by_lowest : its ≡ cond (ltb low unseen) (fails 92 low) passes
@@ -124,7 +124,7 @@ answers_call {text} {before = before} {found = found} enough short t s =
     answer t.profile enough short t.answers (number_is text t.profile found t.is) (settled_same s ∙ ap (λ ns. settled ns before) t.is)
 
 -- a call that reads no text
-pub unread_call : {text test output : List ℕ} {number : ℕ} {m : Memory} → Unread text m number → (number ≡ 0 → ⊥) → ProfileCall text test output m m number
-unread_call (short_memory h) n = call.short_memory h refl refl
-unread_call (long_text m h) n = call.long_text m h refl refl
-unread_call (enough_and_short m h) n = absurd (n refl)
+pub unread_call : {text test output : List ℕ} {number : ℕ} {o : Found ℕ} {m : Memory} → Unread text m o → o ≡ Some number → ProfileCall text test output m m number
+unread_call (short_memory h) e = call.short_memory h (cc) refl
+unread_call (long_text m h) e = call.long_text m h (cc) refl
+unread_call (enough_and_short m h) e = cc

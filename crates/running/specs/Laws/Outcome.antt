@@ -1,6 +1,6 @@
 -- Laws of what Run comes to: a text that is refused, and the whole call.
 -- Assumes nothing.
-use Rattle.std.specs.Prelude.{ℕ, ◌≤◌, ◌≡◌, refl, List, length}
+use Rattle.std.specs.Prelude.{ℕ, ◌≤◌, ◌≡◌, refl, List, length, Option, Some}
 use Rattle.std.proofs.Common.{ap, ◌∙◌}
 use Rattle.rules.specs.Limits.{longest_text}
 use Rattle.rules.specs.Answers.{Result, refusal, ended, not_accepted, refused_numbers, result_numbers}
@@ -32,7 +32,7 @@ run_call {text} {before = before} {after} {found} enough short o s =
     answer o.result enough short o.runs (result_number_lem text o.result found o.is) (settled_same s ∙ ap (λ ns. settled ns before) o.is) o.left_is
 
 -- a call that reads no text
-pub unread_call : {text carriers : List ℕ} {budget number : ℕ} {m : Memory} → Unread text m number → (number ≡ 0 → ⊥) → RunCall text carriers budget m m carriers number
-unread_call (short_memory h) n = call.short_memory h refl refl refl
-unread_call (long_text m h) n = call.long_text m h refl refl refl
-unread_call (none m h) n = absurd (n refl)
+pub unread_call : {text carriers : List ℕ} {budget number : ℕ} {o : Option ℕ} {m : Memory} → Unread text m o → o ≡ Some number → RunCall text carriers budget m m carriers number
+unread_call (short_memory h) e = call.short_memory h (cc) refl refl
+unread_call (long_text m h) e = call.long_text m h (cc) refl refl
+unread_call (none m h) e = cc

@@ -2,7 +2,6 @@
 -- Assumes nothing.
 use borrow.Author.Rules.{rules}
 use native.Mathlib.Omega.{arith}
-use Prim.Native.Nat.{◌-◌}
 use Rattle.linking.specs.Laws.Chains.{none_filled, more_filled, all_filled}
 use Rattle.linking.proofs.beginning.fill.Goals as goal
 

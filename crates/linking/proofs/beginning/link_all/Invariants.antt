@@ -8,6 +8,3 @@ use Rattle.linking.proofs.beginning.link_all.Given as goal
 
 abbrev pub invariant-loop-i : goal.invariant-loop-i
 invariant-loop-i l = Linked (entries_in l.entries) l.room l.i × (length l.room ≡ length l.initial.room)
-
-abbrev pub decreases-loop-i : goal.decreases-loop-i
-decreases-loop-i l = l.i

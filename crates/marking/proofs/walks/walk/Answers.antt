@@ -1,6 +1,5 @@
 -- `marking::walks::walk` meets its contract.
 use borrow.Author.Rules.{rules}
-use Prim.Native.Nat.{◌-◌}
 use Rattle.marking.specs.Laws.Going.{goes, to_put, to_act, goes_on, over}
 use Rattle.marking.proofs.walks.walk.Goals as goal
 

@@ -1,10 +1,6 @@
 -- `marking::walks::walk` meets its contract.
-use Prim.Native.Nat.{◌-◌}
 use Rattle.marking.specs.Laws.Going.{Going}
 use Rattle.marking.proofs.walks.walk.Given as goal
 
 abbrev pub invariant-loop-i : goal.invariant-loop-i
 invariant-loop-i l = Going l.records l.initial.cells l.initial.room l.cells l.room l.n l.s l.i
-
-abbrev pub decreases-loop-i : goal.decreases-loop-i
-decreases-loop-i l = l.n - l.i

@@ -15,11 +15,11 @@ returns-then-e-lt-WORK_SIZE c = short_memory (λ m. omega (arith, m.work_e))
 pub returns-then-f-lt-WORK_SIZE : goal.returns-then-f-lt-WORK_SIZE
 returns-then-f-lt-WORK_SIZE c = short_memory (λ m. omega (arith, m.work_f))
 
-pub returns-then-refused-ne0 : goal.returns-then-refused-ne0
-returns-then-refused-ne0 c = unread_first (omega arith) (omega arith) (omega arith) c.unread-refused.ensures c.if-refused-ne0.true
+pub returns-in-Some : goal.returns-in-Some
+returns-in-Some c = unread_first (omega arith) (omega arith) (omega arith) c.unread.ensures c.in-Some.is
 
 pub returns-then-second-gt-LONGEST_TEXT : goal.returns-then-second-gt-LONGEST_TEXT
-returns-then-second-gt-LONGEST_TEXT c = unread_second (omega arith) (omega arith) (omega arith) (fits c.unread-refused.ensures c.if-refused-ne0.false) c.if-second-gt-LONGEST_TEXT.true
+returns-then-second-gt-LONGEST_TEXT c = unread_second (omega arith) (omega arith) (omega arith) (fits c.unread.ensures c.in_default.is) c.if-second-gt-LONGEST_TEXT.true
 
 pub returns : goal.returns
-returns c = both_read (omega arith) (omega arith) (omega arith) (fits c.unread-refused.ensures c.if-refused-ne0.false) c.if-second-gt-LONGEST_TEXT.false
+returns c = both_read (omega arith) (omega arith) (omega arith) (fits c.unread.ensures c.in_default.is) c.if-second-gt-LONGEST_TEXT.false

@@ -1,7 +1,6 @@
 -- `resuming::mains::main_number` meets its contract: none of the declarations passed is MAIN's.
 -- Assumes nothing.
 use borrow.Author.Rules.{rules}
-use Prim.Native.Nat.{◌-◌}
 use Rattle.reading.specs.Laws.Meanings.{declared_view}
 use Rattle.resuming.specs.Laws.Mains.{none_searched, cell_room, name_room, searched, search_on, main_exists}
 use Rattle.resuming.proofs.mains.main_number.Goals as goal
