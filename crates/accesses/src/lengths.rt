@@ -36,14 +36,8 @@ fn part_length(own: Names, l: u64, r: u64) -> u32
     ensures { result ≡ part_length own l r }
 {
     match own {
-        Names::Missing => 0,
-        Names::Unnamed => 0,
-        Names::Span(left, right) => {
-            if !inside(left, right, l, r) {
-                return 0;
-            }
-            how_many(l, r)
-        }
+        Names::Span(left, right) if inside(left, right, l, r) => how_many(l, r),
+        _ => 0,
     }
 }
 

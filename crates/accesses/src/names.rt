@@ -21,11 +21,7 @@ use weighing::Weight;
 pub fn is_missing(names: Names) -> bool
     ensures { result ≡ is_missing names }
 {
-    match names {
-        Names::Missing => true,
-        Names::Unnamed => false,
-        Names::Span(_, _) => false,
-    }
+    matches!(names, Names::Missing)
 }
 
 // Whether a subscript, given or not, fits the words of a declaration.
@@ -34,8 +30,7 @@ fn fits_words(words: Names, given: bool) -> bool
 {
     match words {
         Names::Missing => !given,
-        Names::Unnamed => given,
-        Names::Span(_, _) => given,
+        Names::Unnamed | Names::Span(_, _) => given,
     }
 }
 

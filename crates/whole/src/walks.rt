@@ -19,14 +19,11 @@ use scopes::labels::jump_key;
 use scopes::scopes::{Nest, turn};
 
 // Whether a group begins behind it.
+#[tactic(auto, unfolding(scopes::specs::Walks::opens, rules::specs::Whole::Sets::member))]
 pub fn opens(kind: u8) -> bool
     ensures { result ≡ opens kind }
 {
-    match kind {
-        BEGIN => true,
-        NEXT => true,
-        _ => false,
-    }
+    matches!(kind, BEGIN | NEXT)
 }
 
 // The least key at the token i, whose kind this is, as far as it lowers the key that is known; with what is told of the group that begins behind it.

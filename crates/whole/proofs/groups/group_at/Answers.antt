@@ -2,7 +2,6 @@
 use borrow.Author.Rules.{rules}
 use native.Mathlib.Omega.{arith}
 use mathlib.Core.Path.{◌∙◌}
-use Prim.Native.Nat.{◌-◌}
 use Rattle.reading.specs.Laws.Reading.{kinded}
 use Rattle.whole.specs.Laws.GroupKeys.{compare_none, one_key, one_member, several_key, several_members, end_inside, next_member}
 use Rattle.whole.proofs.groups.group_at.Goals as goal

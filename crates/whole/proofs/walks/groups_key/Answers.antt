@@ -1,6 +1,5 @@
 -- `whole::walks::groups_key` meets its contract.
 use borrow.Author.Rules.{rules}
-use Prim.Native.Nat.{◌-◌}
 use Rattle.whole.specs.Laws.WalkKeys.{bodies_none, bodies_more, bodies_all}
 use Rattle.whole.proofs.walks.groups_key.Goals as goal
 

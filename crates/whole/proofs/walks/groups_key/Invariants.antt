@@ -1,5 +1,4 @@
 -- `whole::walks::groups_key` meets its contract.
-use Prim.Native.Nat.{◌-◌}
 use Rattle.whole.specs.Laws.WalkKeys.{Bodies}
 use Rattle.whole.proofs.walks.groups_key.Given as goal
 

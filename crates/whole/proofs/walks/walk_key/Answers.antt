@@ -1,6 +1,5 @@
 -- `whole::walks::walk_key` meets its contract.
 use borrow.Author.Rules.{rules}
-use Prim.Native.Nat.{◌-◌}
 use native.Mathlib.Omega.{arith}
 use Rattle.whole.specs.Laws.WalkKeys.{walk_starts, walk_ended, walk_faulty, walk_turning, walk_on, walk_over}
 use Rattle.whole.proofs.walks.walk_key.Goals as goal

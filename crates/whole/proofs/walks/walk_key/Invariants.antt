@@ -1,5 +1,4 @@
 -- `whole::walks::walk_key` meets its contract.
-use Prim.Native.Nat.{◌-◌}
 use Rattle.whole.specs.Laws.WalkKeys.{Walking}
 use Rattle.whole.proofs.walks.walk_key.Given as goal
 
