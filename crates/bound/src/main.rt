@@ -3,15 +3,12 @@
 
 ghost use Rattle.std.specs.Prelude.{◌≤◌, length};
 
-use lines::answers::{Answer, REFUSED, answer_of};
+use lines::answers::{Answer, Ending, answer_of};
 use lines::bytes::{put_byte, put_bytes};
 use lines::endings::put_labelled;
 use lines::refusals::put_refused;
 use std::io;
 use streams::read_full;
-
-// The ending of a text without a bound.
-const NO_BOUND: u64 = 5;
 
 // What the call answers.
 fn bound(text: &[u8], a: &mut [u8], b: &mut [u8], c: &mut [u8]) -> Answer {
@@ -24,14 +21,11 @@ fn put_answer(out: &mut [u8], a: Answer) -> usize
     requires { 128 ≤ length out.old }
     ensures { result ≤ 72 }
 {
-    let ending = a.ending;
-    if ending == REFUSED {
-        return put_refused(out, 0, a);
+    match a.ending {
+        Ending::Refused => put_refused(out, 0, a),
+        Ending::Unbounded => put_bytes(out, 0, b"no bound"),
+        _ => put_labelled(out, 0, b"bound ", a.steps),
     }
-    if ending == NO_BOUND {
-        return put_bytes(out, 0, b"no bound");
-    }
-    put_labelled(out, 0, b"bound ", a.steps)
 }
 
 // The line of an answer.
@@ -40,7 +34,7 @@ fn put_line(out: &mut [u8], a: Answer) -> usize
     ensures { result ≤ length out.new }
 {
     let next = put_answer(out, a);
-    put_byte(out, next, 10)
+    put_byte(out, next, b'\n')
 }
 
 fn main(rt: HostRuntime) -> io::Result<()> {

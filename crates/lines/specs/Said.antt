@@ -1,6 +1,8 @@
 -- How a run ended, as people read it, by the numbers of its answer.
-use Rattle.std.specs.Prelude.{ℕ, zero, suc, List, ◌++◌}
+use Rattle.std.specs.Prelude.{ℕ, List, ◌++◌}
 use Rattle.rules.specs.Text.Bytes.{bytes}
+use Rattle.lines.specs.declared.answers.Ending.{Ending}
+use Rattle.lines.specs.declared.answers.Ending.TheVariants.{Done, Stopped, Paused, Fault, Refused, Unbounded}
 use Rattle.lines.specs.Digits.{decimal_bytes}
 use Rattle.lines.specs.Endings.{labelled, refused_bytes}
 
@@ -16,10 +18,11 @@ place_bytes line column = decimal_bytes line ++ labelled (bytes ":") column
 abbrev pub fault_bytes : ℕ → ℕ → ℕ → ℕ → List ℕ
 fault_bytes line column number steps = place_bytes line column ++ (labelled (bytes ": fault ") number ++ steps_bytes (bytes " after ") steps)
 
--- by the ending's code
-unfoldable pub said_bytes : ℕ → ℕ → ℕ → ℕ → ℕ → List ℕ
-said_bytes zero line column number steps = steps_bytes (bytes "done after ") steps
-said_bytes (suc zero) line column number steps = steps_bytes (bytes "stopped after ") steps
-said_bytes (suc (suc zero)) line column number steps = steps_bytes (bytes "paused after ") steps
-said_bytes (suc (suc (suc zero))) line column number steps = fault_bytes line column number steps
-said_bytes (suc (suc (suc (suc more)))) line column number steps = refused_bytes line column number
+-- by the ending
+unfoldable pub said_bytes : Ending → ℕ → ℕ → ℕ → ℕ → List ℕ
+said_bytes Done line column number steps = steps_bytes (bytes "done after ") steps
+said_bytes Stopped line column number steps = steps_bytes (bytes "stopped after ") steps
+said_bytes Paused line column number steps = steps_bytes (bytes "paused after ") steps
+said_bytes Fault line column number steps = fault_bytes line column number steps
+said_bytes Refused line column number steps = refused_bytes line column number
+said_bytes Unbounded line column number steps = refused_bytes line column number

@@ -14,11 +14,7 @@ pub fn put_bytes(out: &mut [u8], at: usize, more: &[u8]) -> usize
     requires { at + length more.now ≤ length out.old }
     ensures { Appended out.old out.new at result more.now }
 {
-    let mut next = at;
-    let mut k: usize = 0;
-    while k < more.len() {
-        next = put_byte(out, next, more[k]);
-        k += 1;
-    }
-    next
+    let end = at + more.len();
+    out[at..end].copy_from_slice(more);
+    end
 }

@@ -5,7 +5,7 @@ ghost use Rattle.lines.specs.Digits.{decimal_in, decimal_bytes, hex_digit, hex_i
 
 use crate::bytes::put_byte;
 
-// At most k decimal digits.
+// At most k decimal digits. A recursion: the last digit is found first and written last.
 fn decimal_in(out: &mut [u8], at: usize, k: usize, n: u64) -> usize
     requires { at + k ≤ length out.old }
     ensures { Appended out.old out.new at result (decimal_in k n) }
@@ -14,10 +14,10 @@ fn decimal_in(out: &mut [u8], at: usize, k: usize, n: u64) -> usize
         return at;
     }
     if n < 10 {
-        return put_byte(out, at, 48 + n as u8);
+        return put_byte(out, at, b'0' + n as u8);
     }
     let next = decimal_in(out, at, k - 1, n / 10);
-    put_byte(out, next, 48 + (n % 10) as u8)
+    put_byte(out, next, b'0' + (n % 10) as u8)
 }
 
 pub fn put_decimal(out: &mut [u8], at: usize, n: u64) -> usize
@@ -33,9 +33,10 @@ fn hex_digit(d: u64) -> u8
     ensures { result ≡ hex_digit d }
 {
     if d < 10 {
-        return 48 + d as u8;
+        b'0' + d as u8
+    } else {
+        b'A' + (d % 10) as u8
     }
-    b'A' + (d % 10) as u8
 }
 
 // The last k hexadecimal digits.

@@ -4,7 +4,7 @@ ghost use Rattle.rules.specs.Text.Bytes.{bytes};
 ghost use Rattle.lines.specs.Appended.{Appended};
 ghost use Rattle.lines.specs.Endings.{labelled, ending_bytes};
 
-use crate::answers::Answer;
+use crate::answers::{Answer, Ending};
 use crate::bytes::put_bytes;
 use crate::digits::put_decimal;
 
@@ -39,18 +39,11 @@ pub fn put_ending(out: &mut [u8], at: usize, a: Answer) -> usize
     requires { at + 72 ≤ length out.old }
     ensures { Appended out.old out.new at result (ending_bytes a.ending a.number a.place a.steps) × (result ≤ at + 72) }
 {
-    let ending = a.ending;
-    if ending == 0 {
-        return put_labelled(out, at, b"done ", a.steps);
+    match a.ending {
+        Ending::Done => put_labelled(out, at, b"done ", a.steps),
+        Ending::Stopped => put_labelled(out, at, b"stopped ", a.steps),
+        Ending::Paused => put_labelled(out, at, b"paused ", a.steps),
+        Ending::Fault => put_fault(out, at, a.number, a.place, a.steps),
+        _ => put_refusal(out, at, a.number, a.place),
     }
-    if ending == 1 {
-        return put_labelled(out, at, b"stopped ", a.steps);
-    }
-    if ending == 2 {
-        return put_labelled(out, at, b"paused ", a.steps);
-    }
-    if ending == 3 {
-        return put_fault(out, at, a.number, a.place, a.steps);
-    }
-    put_refusal(out, at, a.number, a.place)
 }

@@ -1,4 +1,5 @@
-// What the programs over the public calls share: the numbers of an answer, and lines of text, appended to what a lent buffer holds.
+// What the programs over the public calls share: the numbers of an answer, and lines of text, appended to what a lent buffer holds: in fixed
+// memory, so that each contract says the bytes and how far they reach, and nothing can fail.
 #![tactic(auto)]
 
 pub mod answers;

@@ -3,7 +3,7 @@ ghost use Rattle.std.specs.Prelude.{◌+◌, ◌≤◌, length};
 ghost use Rattle.lines.specs.Appended.{Appended};
 ghost use Rattle.lines.specs.Said.{steps_bytes, place_bytes, fault_bytes, said_bytes};
 
-use crate::answers::Answer;
+use crate::answers::{Answer, Ending};
 use crate::bytes::put_bytes;
 use crate::digits::put_decimal;
 use crate::endings::put_labelled;
@@ -40,18 +40,11 @@ pub fn put_said(out: &mut [u8], at: usize, a: Answer) -> usize
     requires { at + 128 ≤ length out.old }
     ensures { Appended out.old out.new at result (said_bytes a.ending a.line a.column a.number a.steps) × (result ≤ at + 128) }
 {
-    let ending = a.ending;
-    if ending == 0 {
-        return put_steps(out, at, b"done after ", a.steps);
+    match a.ending {
+        Ending::Done => put_steps(out, at, b"done after ", a.steps),
+        Ending::Stopped => put_steps(out, at, b"stopped after ", a.steps),
+        Ending::Paused => put_steps(out, at, b"paused after ", a.steps),
+        Ending::Fault => put_fault(out, at, a),
+        _ => put_refused(out, at, a),
     }
-    if ending == 1 {
-        return put_steps(out, at, b"stopped after ", a.steps);
-    }
-    if ending == 2 {
-        return put_steps(out, at, b"paused after ", a.steps);
-    }
-    if ending == 3 {
-        return put_fault(out, at, a);
-    }
-    put_refused(out, at, a)
 }

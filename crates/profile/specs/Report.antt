@@ -1,6 +1,8 @@
 -- The line that is written for an answer: `passes`, or `LINE:COLUMN: refused NUMBER` and why.
-use Rattle.std.specs.Prelude.{ℕ, zero, suc, true, false, List, ◌++◌, eqb}
+use Rattle.std.specs.Prelude.{ℕ, true, false, List, ◌++◌, eqb}
 use Rattle.rules.specs.Text.Bytes.{bytes}
+use Rattle.lines.specs.declared.answers.Ending.{Ending}
+use Rattle.lines.specs.declared.answers.Ending.TheVariants.{Done, Stopped, Paused, Fault, Refused, Unbounded}
 use Rattle.lines.specs.Endings.{refused_bytes}
 
 abbrev pub no_test : List ℕ
@@ -27,6 +29,10 @@ abbrev pub passed : List ℕ
 passed = bytes "passes\n"
 
 -- by the ending, the number, the line and the column
-unfoldable pub report_bytes : ℕ → ℕ → ℕ → ℕ → List ℕ
-report_bytes zero number line column = passed
-report_bytes (suc e) number line column = refused_bytes line column number ++ reason_bytes number
+unfoldable pub report_bytes : Ending → ℕ → ℕ → ℕ → List ℕ
+report_bytes Done number line column = passed
+report_bytes Stopped number line column = refused_bytes line column number ++ reason_bytes number
+report_bytes Paused number line column = refused_bytes line column number ++ reason_bytes number
+report_bytes Fault number line column = refused_bytes line column number ++ reason_bytes number
+report_bytes Refused number line column = refused_bytes line column number ++ reason_bytes number
+report_bytes Unbounded number line column = refused_bytes line column number ++ reason_bytes number

@@ -6,7 +6,7 @@ ghost use Rattle.std.specs.Prelude.{◌+◌, ◌≤◌, length};
 ghost use Rattle.lines.specs.Appended.{Appended};
 ghost use Rattle.profile.specs.Report.{reason_bytes, report_bytes};
 
-use lines::answers::{Answer, answer_of};
+use lines::answers::{Answer, Ending, answer_of};
 use lines::bytes::put_bytes;
 use lines::refusals::put_refused;
 use std::io;
@@ -32,24 +32,20 @@ fn put_reason(out: &mut [u8], at: usize, number: u64) -> usize
     requires { at + 128 ≤ length out.old }
     ensures { Appended out.old out.new at result (reason_bytes number) × (result ≤ at + 128) }
 {
-    if number == 90 {
-        return put_bytes(out, at, b": the test is not the name of a body\n");
-    }
-    if number == 91 {
-        return put_bytes(
+    match number {
+        90 => put_bytes(out, at, b": the test is not the name of a body\n"),
+        91 => put_bytes(
             out,
             at,
             b": the output is not the name of a storage carrier\n",
-        );
-    }
-    if number == 92 {
-        return put_bytes(
+        ),
+        92 => put_bytes(
             out,
             at,
             b": a path writes the output here before one activation of the test has ended\n",
-        );
+        ),
+        _ => put_bytes(out, at, b": the text is not accepted\n"),
     }
-    put_bytes(out, at, b": the text is not accepted\n")
 }
 
 // One line for an answer.
@@ -57,12 +53,13 @@ fn put_report(out: &mut [u8], a: Answer) -> usize
     requires { 256 ≤ length out.old }
     ensures { Appended out.old out.new 0 result (report_bytes a.ending a.number a.line a.column) × (result ≤ 256) }
 {
-    let ending = a.ending;
-    if ending == 0 {
-        return put_bytes(out, 0, b"passes\n");
+    match a.ending {
+        Ending::Done => put_bytes(out, 0, b"passes\n"),
+        _ => {
+            let next = put_refused(out, 0, a);
+            put_reason(out, next, a.number)
+        }
     }
-    let next = put_refused(out, 0, a);
-    put_reason(out, next, a.number)
 }
 
 fn main(rt: HostRuntime) -> io::Result<()> {
@@ -78,8 +75,9 @@ fn main(rt: HostRuntime) -> io::Result<()> {
             .stderr()
             .write_all(b"usage: profile TEST OUTPUT < DESCRIPTION\n");
     }
-    let first = argument(&rt, 1, &mut test);
-    let second = argument(&rt, 2, &mut output);
+    // what is longer than any name is none, as the empty name is
+    let first = argument(&rt, 1, &mut test).unwrap_or(0);
+    let second = argument(&rt, 2, &mut output).unwrap_or(0);
     let n = read_full(&mut rt.stdin(), &mut text)?;
     let found = profile(
         &text[..n],

@@ -1,6 +1,7 @@
 -- What is said of a list, by the numbers of the answer.
 use Rattle.std.specs.Prelude.{ℕ, true, false, List, ◌++◌, eqb}
 use Rattle.rules.specs.Text.Bytes.{bytes}
+use Rattle.lines.specs.declared.answers.Ending.{Ending}
 use Rattle.lines.specs.Endings.{labelled, refused_bytes}
 use Rattle.lines.specs.Said.{place_bytes, said_bytes}
 
@@ -18,12 +19,12 @@ abbrev pub refusal_bytes : ℕ → ℕ → ℕ → List ℕ
 refusal_bytes line column number = refused_bytes line column number ++ reason_bytes number
 
 -- the ending of a run that faults or pauses
-abbrev pub unended_bytes : ℕ → ℕ → ℕ → ℕ → ℕ → List ℕ
+abbrev pub unended_bytes : Ending → ℕ → ℕ → ℕ → ℕ → List ℕ
 unended_bytes ending line column number steps =
     said_bytes ending line column number steps ++ bytes ": a list is compared only with a run that is done or stopped\n"
 
 -- some allowed order makes just those stores
-abbrev pub yes_bytes : ℕ → ℕ → ℕ → ℕ → ℕ → List ℕ
+abbrev pub yes_bytes : Ending → ℕ → ℕ → ℕ → ℕ → List ℕ
 yes_bytes ending line column number steps =
     bytes "yes: " ++ (said_bytes ending line column number steps ++ bytes ", and an allowed order makes just these stores\n")
 

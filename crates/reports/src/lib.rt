@@ -19,9 +19,10 @@ fn put_reason(out: &mut [u8], at: usize, number: u64) -> usize
     ensures { Appended out.old out.new at result (reason_bytes number) × (result ≤ at + 64) }
 {
     if number == BAD_LIST {
-        return put_bytes(out, at, b": the list has more than 4,096 entries\n");
+        put_bytes(out, at, b": the list has more than 4,096 entries\n")
+    } else {
+        put_bytes(out, at, b": the text is not accepted\n")
     }
-    put_bytes(out, at, b": the text is not accepted\n")
 }
 
 pub fn put_refusal(out: &mut [u8], a: Answer) -> usize

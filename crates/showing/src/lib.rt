@@ -4,7 +4,7 @@
 ghost use Rattle.std.specs.Prelude.{◌≤◌, length};
 ghost use Rattle.rules.specs.Limits.{longest_text};
 
-use lines::answers::{Answer, REFUSED};
+use lines::answers::{Answer, Ending};
 use lines::bytes::put_byte;
 use lines::endings::put_ending;
 use listing::listing::put_listing;
@@ -41,7 +41,7 @@ fn put_first(out: &mut [u8], a: Answer) -> usize
     ensures { result ≤ 128 }
 {
     let next = put_ending(out, 0, a);
-    put_byte(out, next, 10)
+    put_byte(out, next, b'\n')
 }
 
 // All that is to be written for a text whose run has ended.
@@ -59,7 +59,7 @@ pub fn put_report(
     ensures { result ≤ length out.new }
 {
     let next = put_first(out, ended);
-    if ended.ending == REFUSED {
+    if ended.ending == Ending::Refused {
         return next;
     }
     put_words(out, next, text, carriers, a, b, c)

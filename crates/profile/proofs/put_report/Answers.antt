@@ -5,8 +5,8 @@ use Rattle.lines.specs.Laws.Appended.{and_then}
 use Rattle.profile.specs.Laws.Report.{is_passed, is_refused}
 use Rattle.profile.proofs.put_report.Goals as goal
 
-pub returns-then-ending-eq0 : goal.returns-then-ending-eq0
-returns-then-ending-eq0 c = search (rules, is_passed)
+pub returns-in-Done : goal.returns-in-Done
+returns-in-Done c = search (rules, is_passed)
 
-pub returns : goal.returns
-returns c = search (rules, is_refused, and_then)
+pub returns-in_default : goal.returns-in_default
+returns-in_default c = search (rules, is_refused, and_then)

@@ -7,5 +7,5 @@ use Rattle.reports.proofs.put_reason.Goals as goal
 pub returns-then-number-eq-BAD_LIST : goal.returns-then-number-eq-BAD_LIST
 returns-then-number-eq-BAD_LIST c = search (rules, is_110)
 
-pub returns : goal.returns
-returns c = search (rules, is_other)
+pub returns-else-number-eq-BAD_LIST : goal.returns-else-number-eq-BAD_LIST
+returns-else-number-eq-BAD_LIST c = search (rules, is_other)

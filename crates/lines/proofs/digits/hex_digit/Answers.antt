@@ -7,5 +7,5 @@ use Rattle.lines.proofs.digits.hex_digit.Goals as goal
 pub returns-then-d-lt10 : goal.returns-then-d-lt10
 returns-then-d-lt10 c = search (rules, low_digit)
 
-pub returns : goal.returns
-returns c = search (rules, high_digit)
+pub returns-else-d-lt10 : goal.returns-else-d-lt10
+returns-else-d-lt10 c = search (rules, high_digit)

@@ -4,17 +4,17 @@ use borrow.Author.Rules.{rules}
 use Rattle.lines.proofs.Reports.{is_done, is_stopped, is_paused, is_fault, is_refused}
 use Rattle.lines.proofs.endings.put_ending.Goals as goal
 
-pub returns-then-ending-eq0 : goal.returns-then-ending-eq0
-returns-then-ending-eq0 c = search (rules, is_done)
+pub returns-in-Done : goal.returns-in-Done
+returns-in-Done c = search (rules, is_done)
 
-pub returns-then-ending-eq1 : goal.returns-then-ending-eq1
-returns-then-ending-eq1 c = search (rules, is_stopped)
+pub returns-in-Stopped : goal.returns-in-Stopped
+returns-in-Stopped c = search (rules, is_stopped)
 
-pub returns-then-ending-eq2 : goal.returns-then-ending-eq2
-returns-then-ending-eq2 c = search (rules, is_paused)
+pub returns-in-Paused : goal.returns-in-Paused
+returns-in-Paused c = search (rules, is_paused)
 
-pub returns-then-ending-eq3 : goal.returns-then-ending-eq3
-returns-then-ending-eq3 c = search (rules, is_fault)
+pub returns-in-Fault : goal.returns-in-Fault
+returns-in-Fault c = search (rules, is_fault)
 
-pub returns : goal.returns
-returns c = search (rules, is_refused)
+pub returns-in_default : goal.returns-in_default
+returns-in_default c = search (rules, is_refused)
