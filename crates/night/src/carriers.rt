@@ -3,7 +3,7 @@ ghost use Rattle.std.specs.Prelude.{◌+◌, ◌≤◌, length};
 
 use crate::files::{is_missing, keep};
 use images::images::image_size;
-use lines::answers::{Answer, REFUSED, answer_of};
+use lines::answers::{Answer, Ending, answer_of};
 use lines::bytes::{put_byte, put_bytes};
 use lines::endings::put_labelled;
 use std::fs::File;
@@ -42,20 +42,16 @@ fn put_reason(out: &mut [u8], at: usize, number: u64) -> usize
     requires { at + 64 ≤ length out.old }
     ensures { result ≤ at + 64 }
 {
-    if number == 62 {
-        return put_bytes(
+    match number {
+        62 => put_bytes(
             out,
             at,
             b": not as long as the image of this description's words",
-        );
+        ),
+        63 => put_bytes(out, at, b": a byte of this block was changed"),
+        64 => put_bytes(out, at, b": this block belongs to another image"),
+        _ => put_bytes(out, at, b": a word has a bit above its length"),
     }
-    if number == 63 {
-        return put_bytes(out, at, b": a byte of this block was changed");
-    }
-    if number == 64 {
-        return put_bytes(out, at, b": this block belongs to another image");
-    }
-    put_bytes(out, at, b": a word has a bit above its length")
 }
 
 // Says why the image is refused, and at which byte of it, or of the carriers for 61.
@@ -83,7 +79,7 @@ fn start_from(
     let n = read_full(&mut file, &mut image)?;
     drop(file);
     let loaded = load(text, &image[..n], carriers, a, b, c);
-    if loaded.ending == REFUSED {
+    if loaded.ending == Ending::Refused {
         say_refused(rt, loaded)?;
         return Ok(false);
     }
@@ -120,7 +116,7 @@ fn store_in(
     requires { length path.now ≤ 4096 }
 {
     let stored = store(text, carriers, image, a, b, c);
-    if stored.ending == REFUSED {
+    if stored.ending == Ending::Refused {
         return say_refused(rt, stored);
     }
     keep(rt, path, image)

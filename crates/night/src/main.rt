@@ -9,21 +9,17 @@ mod files;
 ghost use Rattle.std.specs.Prelude.{◌≤◌, length};
 ghost use Rattle.rules.specs.Limits.{longest_text};
 
-use crate::budgets::{Budget, budget_in};
+use crate::budgets::budget_in;
 use crate::carriers::{finish, start};
 use asking::{carrier_bytes, check, run};
-use lines::answers::{Answer, REFUSED};
+use lines::answers::{Answer, Ending};
 use lines::bytes::put_byte;
 use lines::said::put_said;
 use rules::limits::LONGEST_TEXT;
 use showing::{page, put_words};
 use std::io;
-use std::rt::Env;
 use streams::arguments::argument;
 use streams::read_full;
-
-// The ending of a run that faulted; those before it ended well or paused.
-const FAULT: u64 = 3;
 
 fn say_usage(rt: &HostRuntime) -> io::Result<()> {
     rt.write_all(b"usage: night IMAGE BUDGET < TEXT\n")
@@ -77,7 +73,10 @@ fn run_started(
     let ended = run(text, carriers, budget, a, b, c);
     // what the run left is kept even where it cannot be said how it ended
     let said = say(rt, ended);
-    if ended.ending < FAULT {
+    if matches!(
+        ended.ending,
+        Ending::Done | Ending::Stopped | Ending::Paused
+    ) {
         finish(rt, path, text, carriers, a, b, c)?;
     }
     said
@@ -156,7 +155,7 @@ fn run_judged(
     requires text_len_bound { (length text.now ≤ longest_text) × ((65536 ≤ length a.old) × ((65536 ≤ length b.old) × (65536 ≤ length c.old))) }
     requires path_len_bound { (length path.now ≤ 4096) × (32768 ≤ length carriers.old) }
 {
-    if judged.ending == REFUSED {
+    if judged.ending == Ending::Refused {
         return say(rt, judged);
     }
     let size = carrier_bytes(judged.words);
@@ -211,9 +210,9 @@ fn read_text(rt: &HostRuntime, path: &[u8], budget: u32) -> io::Result<()>
 }
 
 // The second argument.
-fn budget_given(rt: &HostRuntime) -> Budget {
+fn budget_given(rt: &HostRuntime) -> Option<u32> {
     let mut word = [0u8; 16];
-    let n = argument(rt, 2, &mut word);
+    let n = argument(rt, 2, &mut word)?;
     budget_in(&word[..n])
 }
 
@@ -222,15 +221,15 @@ fn run_at(rt: &HostRuntime, path: &[u8]) -> io::Result<()>
     requires { length path.now ≤ 4096 }
 {
     match budget_given(rt) {
-        Budget::Unreadable => say_usage(rt),
-        Budget::Steps(budget) => read_text(rt, path, budget),
+        Some(budget) => read_text(rt, path, budget),
+        None => say_usage(rt),
     }
 }
 
 fn main(rt: HostRuntime) -> io::Result<()> {
     let mut path = [0u8; 4096];
-    match rt.arg(1, &mut path) {
-        Ok(n) => run_at(&rt, &path[..n]),
-        Err(_) => say_usage(&rt),
+    match argument(&rt, 1, &mut path) {
+        Some(n) => run_at(&rt, &path[..n]),
+        None => say_usage(&rt),
     }
 }

@@ -5,10 +5,7 @@ use std::io::ErrorKind;
 
 // A path as text. One that is no UTF-8 is refused.
 pub fn path_in(bytes: &[u8]) -> io::Result<&str> {
-    match str::from_utf8(bytes) {
-        Ok(path) => Ok(path),
-        Err(_) => Err(io::Error::from(ErrorKind::InvalidInput)),
-    }
+    str::from_utf8(bytes).map_err(|_| io::Error::from(ErrorKind::InvalidInput))
 }
 
 // Opens a file to read it.
@@ -18,10 +15,8 @@ pub fn open(rt: &HostRuntime, path: &[u8]) -> io::Result<File> {
 
 // The system's words in an error, without the number that stands behind them.
 fn words_in(told: &str) -> &str {
-    match told.split_once(" (os error ") {
-        Some((words, _)) => words,
-        None => told,
-    }
+    told.split_once(" (os error ")
+        .map_or(told, |(words, _)| words)
 }
 
 // Writes a line to standard error: what failed, a colon, and the system's words for why.

@@ -13,6 +13,7 @@ use std::io::Read;
 pub fn read_full<R: Read>(reader: &mut R, buf: &mut [u8]) -> io::Result<usize>
     ensures { IfOk result (λ n. n ≤ length buf.new) }
 {
+    // A while: a read takes as many bytes as there are just then.
     let mut done = 0;
     while done < buf.len() {
         let n = reader.read(&mut buf[done..])?;
