@@ -29,8 +29,5 @@ pub fn run(
 pub fn carrier_bytes(words: u64) -> usize
     ensures { result ≤ 32768 }
 {
-    if (MOST_WORDS as u64) < words {
-        return 32768;
-    }
-    words as usize * 8
+    8 * words.min(MOST_WORDS as u64) as usize
 }

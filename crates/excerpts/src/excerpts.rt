@@ -3,16 +3,6 @@ ghost use Rattle.std.specs.Prelude.{◌+◌, ◌≤◌, length};
 
 use lines::bytes::{put_byte, put_bytes};
 
-const TAB: u8 = 9;
-
-const LINE_END: u8 = 10;
-
-const RETURN: u8 = 13;
-
-const BLANK: u8 = 32;
-
-const LAST_PRINTABLE: u8 = 126;
-
 // Of a long line so many columns are shown, and so many of them before the mark.
 const SHOWN: usize = 120;
 
@@ -23,14 +13,11 @@ fn line_start(text: &[u8], offset: usize) -> usize
     requires { offset ≤ length text.now }
     ensures { result ≤ offset }
 {
-    let mut start = offset;
-    while 0 < start {
-        if text[start - 1] == LINE_END {
-            return start;
-        }
-        start -= 1;
-    }
-    start
+    let before = &text[..offset];
+    before
+        .iter()
+        .rposition(|byte| *byte == b'\n')
+        .map_or(0, |end| end + 1)
 }
 
 // Where it ends.
@@ -38,14 +25,9 @@ fn line_end(text: &[u8], offset: usize) -> usize
     requires { offset ≤ length text.now }
     ensures { (offset ≤ result) × (result ≤ length text.now) }
 {
-    let mut end = offset;
-    while end < text.len() {
-        if text[end] == LINE_END {
-            return end;
-        }
-        end += 1;
-    }
-    end
+    let rest = &text[offset..];
+    let more = rest.iter().position(|byte| *byte == b'\n');
+    offset + more.unwrap_or(rest.len())
 }
 
 // The same without the byte 13 that some editors put before a line's end.
@@ -53,13 +35,11 @@ fn shown_end(text: &[u8], start: usize, end: usize) -> usize
     requires { end ≤ length text.now }
     ensures { result ≤ end }
 {
-    if end <= start {
-        return end;
+    if start < end && text[end - 1] == b'\r' {
+        end - 1
+    } else {
+        end
     }
-    if text[end - 1] == RETURN {
-        return end - 1;
-    }
-    end
 }
 
 // Where what is shown of a line starts.
@@ -67,10 +47,7 @@ fn cut_start(start: usize, offset: usize) -> usize
     requires { start ≤ offset }
     ensures { (start ≤ result) × ((result ≤ offset) × (offset ≤ result + 80)) }
 {
-    if offset - start <= SHOWN_BEFORE {
-        return start;
-    }
-    offset - SHOWN_BEFORE
+    start.max(offset.saturating_sub(SHOWN_BEFORE))
 }
 
 // Where it ends.
@@ -78,32 +55,20 @@ fn cut_end(from: usize, end: usize) -> usize
     requires { from ≤ 32769 }
     ensures { (result ≤ end) × (result ≤ from + 120) }
 {
-    if end <= from + SHOWN {
-        return end;
-    }
-    from + SHOWN
+    end.min(from + SHOWN)
 }
 
 // A byte as it can be shown.
 fn shown(byte: u8) -> u8 {
-    if byte == TAB {
-        return TAB;
+    match byte {
+        b'\t' | b' '..=b'~' => byte,
+        _ => b'?',
     }
-    if byte < BLANK {
-        return b'?';
-    }
-    if LAST_PRINTABLE < byte {
-        return b'?';
-    }
-    byte
 }
 
 // What stands below a byte before the mark.
 fn below(byte: u8) -> u8 {
-    if byte == TAB {
-        return TAB;
-    }
-    BLANK
+    if byte == b'\t' { b'\t' } else { b' ' }
 }
 
 // The bytes of the text from `from` to `to`.
@@ -112,10 +77,8 @@ fn put_shown(out: &mut [u8], at: usize, text: &[u8], from: usize, to: usize) -> 
     ensures { result ≤ at + 120 }
 {
     let mut next = at;
-    let mut k = from;
-    while k < to {
+    for k in from..to {
         next = put_byte(out, next, shown(text[k]));
-        k += 1;
     }
     next
 }
@@ -126,10 +89,8 @@ fn put_below(out: &mut [u8], at: usize, text: &[u8], from: usize, to: usize) -> 
     ensures { result ≤ at + 80 }
 {
     let mut next = at;
-    let mut k = from;
-    while k < to {
+    for k in from..to {
         next = put_byte(out, next, below(text[k]));
-        k += 1;
     }
     next
 }
@@ -139,10 +100,7 @@ fn put_if(out: &mut [u8], at: usize, is_so: bool, more: &[u8]) -> usize
     requires { at + length more.now ≤ length out.old }
     ensures { result ≤ at + length more.now }
 {
-    if is_so {
-        return put_bytes(out, at, more);
-    }
-    at
+    if is_so { put_bytes(out, at, more) } else { at }
 }
 
 // The line, with dots where it is cut.

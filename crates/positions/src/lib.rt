@@ -22,7 +22,7 @@ fn is_elsewhere(number: u32) -> bool
 }
 
 // Walks a text up to an offset.
-fn walked(text: &[u8], offset: usize) -> Cursor
+pub fn walked(text: &[u8], offset: usize) -> Cursor
     requires { (offset ≤ length text.now) × (offset < 65536) }
     ensures { position_here result ≡ position_at text.now offset }
 {

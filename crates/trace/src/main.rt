@@ -10,7 +10,7 @@ ghost use Rattle.rules.specs.Limits.{longest_text};
 use crate::saying::{Saying, say, say_answer};
 use asking::{carrier_bytes, check};
 use lines::answers::{Answer, answer_of};
-use lists::files::list_in;
+use lists::files::{Unreadable, list_in};
 use rules::limits::LONGEST_TEXT;
 use std::fs::File;
 use std::io;
@@ -112,12 +112,10 @@ fn take_list(rt: &HostRuntime, file: &[u8]) -> io::Result<()>
     requires { length file.now ≤ 262144 }
 {
     let mut entries = [0u8; 65552];
-    let listed = list_in(file, &mut entries);
-    if !listed.is_list {
-        return say(rt, Saying::BadLine(listed.line));
+    match list_in(file, &mut entries) {
+        Ok(count) => read_text(rt, &entries[..16 * count]),
+        Err(Unreadable { line }) => say(rt, Saying::BadLine { line }),
     }
-    let size = 16 * listed.count;
-    read_text(rt, &entries[..size])
 }
 
 fn read_opened(rt: &HostRuntime, opened: File) -> io::Result<()> {
@@ -143,6 +141,7 @@ fn main(rt: HostRuntime) -> io::Result<()> {
     if !is_one(&rt) {
         return rt.write_all(b"usage: trace FILE < TEXT\n");
     }
-    let n = argument(&rt, 1, &mut path);
+    // one that is longer than any path is no file
+    let n = argument(&rt, 1, &mut path).unwrap_or(0);
     read_list(&rt, &path[..n])
 }

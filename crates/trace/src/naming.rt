@@ -5,46 +5,10 @@ ghost use Rattle.rules.specs.Limits.{longest_text};
 use cells::put64;
 use showing::put_words;
 
-const LINE_END: u8 = 10;
-
-// Where the line ends that holds this byte: at its end, or at that of the listing.
-pub fn end_of_line(listing: &[u8], from: usize) -> usize
-    requires { from ≤ length listing.now }
-    ensures { (from ≤ result) × (result ≤ length listing.now) }
-{
-    let mut at = from;
-    while at < listing.len() {
-        if listing[at] == LINE_END {
-            return at;
-        }
-        at += 1;
-    }
-    at
-}
-
-// Where the line behind this one begins.
-fn next_line(listing: &[u8], from: usize) -> usize
-    requires { from ≤ length listing.now }
-    ensures { result ≤ length listing.now }
-{
-    let end = end_of_line(listing, from);
-    if end < listing.len() {
-        return end + 1;
-    }
-    end
-}
-
-// Where the line of this number begins, counted from 0.
-pub fn start_of_line(listing: &[u8], number: usize) -> usize
-    ensures { result ≤ length listing.now }
-{
-    let mut at: usize = 0;
-    let mut k: usize = 0;
-    while k < number {
-        at = next_line(listing, at);
-        k += 1;
-    }
-    at
+// The line of this number, counted from 0; nothing behind the last.
+pub fn line_of(listing: &[u8], number: usize) -> &[u8] {
+    let mut lines = listing.split(|byte| *byte == b'\n');
+    lines.nth(number).unwrap_or(&[])
 }
 
 // The listing of all words, of which this one holds the value.

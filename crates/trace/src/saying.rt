@@ -2,10 +2,10 @@
 ghost use Rattle.std.specs.Prelude.{◌+◌, ◌*◌, ◌≤◌, length};
 ghost use Rattle.rules.specs.Limits.{longest_text};
 
-use crate::naming::{end_of_line, put_named, start_of_line};
-use lines::answers::{Answer, REFUSED};
+use crate::naming::{line_of, put_named};
+use lines::answers::{Answer, Ending};
 use listed::entries::{Entry, count, entry_at};
-use positions::position_of;
+use positions::walked;
 use reports::{
     put_bad, put_behind, put_no_place, put_no_word, put_refusal, put_short, put_unended,
     put_unreadable, put_yes,
@@ -13,23 +13,33 @@ use reports::{
 use showing::page;
 use std::io;
 
-// The endings before it are Done and Stopped.
-const PAUSED: u64 = 2;
-
-// No refusal has it, so that a place is one in the text.
-const NO_REFUSAL: u32 = 0;
-
 // What there is to say, each in its own words.
 #[derive(Clone, Copy)]
 pub enum Saying {
-    BadLine(u64),
+    BadLine {
+        line: u64,
+    },
     Refusal(Answer),
     Unended(Answer),
     Yes(Answer),
-    Short(u64),
-    NoPlace(u64, u64),
-    NoWord(u64, u64, u64, u64),
-    Bad(u64, u64, u64),
+    Short {
+        entries: u64,
+    },
+    NoPlace {
+        entry: u64,
+        place: u64,
+    },
+    NoWord {
+        line: u64,
+        column: u64,
+        entry: u64,
+        word: u64,
+    },
+    Bad {
+        line: u64,
+        column: u64,
+        entry: u64,
+    },
     Behind,
 }
 
@@ -39,14 +49,23 @@ fn put(out: &mut [u8], s: Saying) -> usize
     ensures { result ≤ 512 }
 {
     match s {
-        Saying::BadLine(line) => put_unreadable(out, line),
+        Saying::BadLine { line } => put_unreadable(out, line),
         Saying::Refusal(answer) => put_refusal(out, answer),
         Saying::Unended(answer) => put_unended(out, answer),
         Saying::Yes(answer) => put_yes(out, answer),
-        Saying::Short(n) => put_short(out, n),
-        Saying::NoPlace(n, place) => put_no_place(out, n, place),
-        Saying::NoWord(line, column, n, word) => put_no_word(out, line, column, n, word),
-        Saying::Bad(line, column, n) => put_bad(out, line, column, n),
+        Saying::Short { entries } => put_short(out, entries),
+        Saying::NoPlace { entry, place } => put_no_place(out, entry, place),
+        Saying::NoWord {
+            line,
+            column,
+            entry,
+            word,
+        } => put_no_word(out, line, column, entry, word),
+        Saying::Bad {
+            line,
+            column,
+            entry,
+        } => put_bad(out, line, column, entry),
         Saying::Behind => put_behind(out),
     }
 }
@@ -55,13 +74,6 @@ pub fn say(rt: &HostRuntime, s: Saying) -> io::Result<()> {
     let mut out = [0u8; 512];
     let end = put(&mut out, s);
     rt.write_all(&out[..end])
-}
-
-// The line of this number.
-fn say_line(rt: &HostRuntime, listing: &[u8], number: usize) -> io::Result<()> {
-    let start = start_of_line(listing, number);
-    let end = end_of_line(listing, start);
-    rt.write_all(&listing[start..end])
 }
 
 // The word that an entry names, with its value.
@@ -80,7 +92,7 @@ fn say_word(
 {
     let mut out = page();
     let end = put_named(&mut out, text, carriers, word, value, a, b, c);
-    say_line(rt, &out[..end], word)
+    rt.write_all(line_of(&out[..end], word))
 }
 
 // The same, with memory of its own.
@@ -101,15 +113,36 @@ fn say_entry(rt: &HostRuntime, e: Entry, n: u64, text: &[u8], size: usize) -> io
     let place = e.place as usize;
     let word = e.word as usize;
     if text.len() < place {
-        return say(rt, Saying::NoPlace(n, place as u64));
+        return say(
+            rt,
+            Saying::NoPlace {
+                entry: n,
+                place: u64::from(e.place),
+            },
+        );
     }
-    let at = position_of(text, NO_REFUSAL, place);
-    let line = at.line as u64;
-    let column = at.column as u64;
+    let at = walked(text, place);
+    let line = u64::from(at.line);
+    let column = u64::from(at.column);
     if size < 8 * word + 8 {
-        return say(rt, Saying::NoWord(line, column, n, word as u64));
+        return say(
+            rt,
+            Saying::NoWord {
+                line,
+                column,
+                entry: n,
+                word: u64::from(e.word),
+            },
+        );
     }
-    say(rt, Saying::Bad(line, column, n))?;
+    say(
+        rt,
+        Saying::Bad {
+            line,
+            column,
+            entry: n,
+        },
+    )?;
     say_named(rt, text, word, e.value)?;
     say(rt, Saying::Behind)
 }
@@ -125,7 +158,12 @@ fn say_no(
     requires { (length text.now ≤ longest_text) × (size ≤ 32768) }
 {
     if count(entries) <= number {
-        return say(rt, Saying::Short(number as u64));
+        return say(
+            rt,
+            Saying::Short {
+                entries: number as u64,
+            },
+        );
     }
     let entry = entry_at(entries, number);
     say_entry(rt, entry, number as u64, text, size)
@@ -141,14 +179,10 @@ pub fn say_answer(
 ) -> io::Result<()>
     requires { (length text.now ≤ longest_text) × (size ≤ 32768) }
 {
-    if answer.ending == REFUSED {
-        return say(rt, Saying::Refusal(answer));
+    match answer.ending {
+        Ending::Refused => say(rt, Saying::Refusal(answer)),
+        Ending::Done | Ending::Stopped if answer.declarations == 1 => say(rt, Saying::Yes(answer)),
+        Ending::Done | Ending::Stopped => say_no(rt, answer.words as usize, entries, text, size),
+        _ => say(rt, Saying::Unended(answer)),
     }
-    if PAUSED <= answer.ending {
-        return say(rt, Saying::Unended(answer));
-    }
-    if answer.declarations == 1 {
-        return say(rt, Saying::Yes(answer));
-    }
-    say_no(rt, answer.words as usize, entries, text, size)
 }

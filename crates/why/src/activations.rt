@@ -21,22 +21,17 @@ fn listed(reason: &[u8]) -> usize
     ensures { result ≤ 17 }
 {
     let bodies = get32(reason, BODIES);
-    if (MOST_BODIES as u64) < bodies {
-        return MOST_BODIES;
-    }
-    bodies as usize
+    bodies.min(MOST_BODIES as u64) as usize
 }
 
 // Whether the body i is listed before, so that the chain closes with it.
 fn closes(reason: &[u8], i: usize) -> bool
     requires { (96 ≤ length reason.now) × (i ≤ 17) }
 {
-    let mut k: usize = 0;
-    while k < i {
+    for k in 0..i {
         if get32(reason, FIRST_BODY + k) == get32(reason, FIRST_BODY + i) {
             return true;
         }
-        k += 1;
     }
     false
 }
@@ -60,10 +55,8 @@ fn put_bodies(out: &mut [u8], at: usize, reason: &[u8], text: &[u8], n: usize) -
     ensures { result ≤ at + 40 * 17 }
 {
     let mut next = at;
-    let mut i: usize = 0;
-    while i < n {
+    for i in 0..n {
         next = put_body(out, next, reason, text, i);
-        i += 1;
     }
     next
 }
@@ -75,10 +68,9 @@ pub fn put_chain(out: &mut [u8], at: usize, reason: &[u8], text: &[u8]) -> usize
     let n = listed(reason);
     let second = put_bytes(out, at, b"chain: ");
     let third = put_bodies(out, second, reason, text, n);
-    if 0 < n {
-        if closes(reason, n - 1) {
-            return put_bytes(out, third, b", which closes\n");
-        }
+    if 0 < n && closes(reason, n - 1) {
+        put_bytes(out, third, b", which closes\n")
+    } else {
+        put_bytes(out, third, b", which is longer than 16\n")
     }
-    put_bytes(out, third, b", which is longer than 16\n")
 }

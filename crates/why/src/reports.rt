@@ -5,7 +5,7 @@ use crate::activations::put_chain;
 use crate::races::put_race;
 use excerpts::excerpts::put_excerpt;
 use excerpts::places::offset_in;
-use lines::answers::{Answer, REFUSED, get32};
+use lines::answers::{Answer, Ending, get32};
 use lines::bytes::{put_byte, put_bytes};
 use lines::digits::put_decimal;
 use lines::refusals::put_refused;
@@ -70,7 +70,7 @@ pub fn put_report(out: &mut [u8], a: Answer, reason: &[u8], text: &[u8]) -> usiz
     requires { (4096 ≤ length out.old) × ((96 ≤ length reason.now) × (length text.now ≤ 32769)) }
     ensures { result ≤ 4096 }
 {
-    if a.ending != REFUSED {
+    if a.ending != Ending::Refused {
         return put_accepted(out, a);
     }
     let second = put_refusal(out, a);
