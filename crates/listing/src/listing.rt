@@ -60,13 +60,11 @@ pub fn put_listing(
 {
     let mut next = at;
     let mut w: usize = 0;
-    let mut k: usize = 0;
-    while k < m {
+    for k in 0..m {
         let p = get16(decls, k) as usize;
         let n = words_in(records, values, p);
         next = put_declaration(out, next, text, records, values, carriers, p, w, n);
         w += n;
-        k += 1;
     }
     next
 }

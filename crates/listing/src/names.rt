@@ -14,10 +14,8 @@ fn put_run(out: &mut [u8], at: usize, text: &[u8], from: usize, n: usize) -> usi
     ensures { Appended out.old out.new at result (folded_at text.now from n) }
 {
     let mut next = at;
-    let mut k: usize = 0;
-    while k < n {
+    for k in 0..n {
         next = put_byte(out, next, upper(text[from + k]));
-        k += 1;
     }
     next
 }

@@ -18,7 +18,7 @@ fn put_value(out: &mut [u8], at: usize, v: u64) -> usize
 {
     let second = put_bytes(out, at, b" = ");
     let third = put_hex_capitals(out, second, v);
-    put_byte(out, third, 10)
+    put_byte(out, third, b'\n')
 }
 
 // The line of a carrier named p that has one word.
@@ -56,10 +56,7 @@ fn name_at(left: u64, right: u64, i: u64) -> u64
     requires { i < how_many (names left right) }
     ensures { result ≡ name_at (names left right) i }
 {
-    if right < left {
-        return left - i;
-    }
-    left + i
+    if right < left { left - i } else { left + i }
 }
 
 // The lines of an array of n words named p, whose values are the carriers' from w on.
@@ -82,12 +79,10 @@ pub fn put_array(
         (array_lines (name_bytes text.now records.now p) (names left right) carriers.now w 0 n) × (result ≤ at + 128 * n) }
 {
     let mut next = at;
-    let mut i: usize = 0;
-    while i < n {
+    for i in 0..n {
         let name = name_at(left, right, i as u64);
         let value = get64(carriers, w + i);
         next = put_array_word(out, next, text, records, p, name, value);
-        i += 1;
     }
     next
 }

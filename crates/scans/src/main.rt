@@ -15,18 +15,10 @@ use text::Scanned;
 // The answer to a text in one byte.
 fn mark_of(found: Scanned) -> u8 {
     match found {
-        Scanned::Fine(count) => {
-            if count == 0 {
-                return b'0';
-            }
-            b'1'
-        }
-        Scanned::Refused(number, _) => {
-            if number == 10 {
-                return b'-';
-            }
-            b'2'
-        }
+        Scanned::Fine(0) => b'0',
+        Scanned::Fine(_) => b'1',
+        Scanned::Refused(10, _) => b'-',
+        Scanned::Refused(_, _) => b'2',
     }
 }
 
@@ -38,19 +30,14 @@ fn end_line(rt: &HostRuntime) -> io::Result<()> {
 fn show_bytes(rt: &HostRuntime, records: &mut [u8], values: &mut [u8]) -> io::Result<()>
     requires { (65536 ≤ length records.old) × (65536 ≤ length values.old) }
 {
-    let mut b: u8 = 0;
-    loop {
-        let one = [b];
-        let mark = [mark_of(text::scan(&one, records, values))];
-        rt.write_all(&mark)?;
-        if b % 16 == 15 {
+    for byte in 0..=255u8 {
+        let mark = mark_of(text::scan(&[byte], records, values));
+        rt.write_all(&[mark])?;
+        if byte % 16 == 15 {
             end_line(rt)?;
         }
-        if b == 255 {
-            return Ok(());
-        }
-        b += 1;
     }
+    Ok(())
 }
 
 // The token i.
@@ -106,14 +93,9 @@ fn line_end(lines: &[u8], from: usize) -> usize
     requires { from ≤ length lines.now }
     ensures { (from ≤ result) × (result ≤ length lines.now) }
 {
-    let mut i = from;
-    while i < lines.len() {
-        if lines[i] == 10 {
-            return i;
-        }
-        i += 1;
-    }
-    i
+    let rest = &lines[from..];
+    let more = rest.iter().position(|byte| *byte == b'\n');
+    from + more.unwrap_or(rest.len())
 }
 
 // Each line as a text.
@@ -125,6 +107,7 @@ fn show_lines(
 ) -> io::Result<()>
     requires { (length lines.now ≤ 32768) × ((65536 ≤ length records.old) × (65536 ≤ length values.old)) }
 {
+    // A while: a line begins behind the end of the one before it.
     let mut from: usize = 0;
     while from < lines.len() {
         let end = line_end(lines, from);

@@ -17,13 +17,13 @@ pub words_in-n-requires : goal.words_in-n-requires
 words_in-n-requires c = search (rules, small_there)
 
 pub put_declaration-next-requires : goal.put_declaration-next-requires
-put_declaration-next-requires c = let r = room_there c.loop-k.invariant c.loop-k-test.true c.get16-p.ensures c.words_in-n.ensures.0 c.requires.ready c.requires.most_words_in_bounds in record { counted = r.0; n_in_bounds = r.1 }
+put_declaration-next-requires c = let r = room_there c.loop-k.invariant (omega arith) c.get16-p.ensures c.words_in-n.ensures.0 c.requires.ready c.requires.most_words_in_bounds in record { counted = r.0; n_in_bounds = r.1 }
 
 pub overflow_add-w : goal.overflow_add-w
-overflow_add-w c = omega (arith, words_fit c.loop-k.invariant c.loop-k-test.true c.get16-p.ensures c.words_in-n.ensures.0 c.requires.ready)
+overflow_add-w c = omega (arith, words_fit c.loop-k.invariant (omega arith) c.get16-p.ensures c.words_in-n.ensures.0 c.requires.ready)
 
 pub loop-k-preserved : goal.loop-k-preserved
-loop-k-preserved c = more_listed c.loop-k.invariant c.loop-k-test.true c.get16-p.ensures c.words_in-n.ensures.0 c.requires.ready c.put_declaration-next.ensures
+loop-k-preserved c = more_listed c.loop-k.invariant (omega arith) c.get16-p.ensures c.words_in-n.ensures.0 c.requires.ready c.put_declaration-next.ensures
 
 pub returns : goal.returns
-returns c = all_listed c.loop-k.invariant c.loop-k-test.false c.requires.ready
+returns c = all_listed c.loop-k.invariant (omega arith) c.requires.ready

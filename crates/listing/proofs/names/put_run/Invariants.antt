@@ -7,6 +7,3 @@ use Rattle.listing.proofs.names.put_run.Given as goal
 
 abbrev pub invariant-loop-k : goal.invariant-loop-k
 invariant-loop-k l = Left l.initial.out l.out l.at l.next (folded_at l.text l.from l.n) (folded_at l.text (l.from + l.k) (l.n - l.k))
-
-abbrev pub decreases-loop-k : goal.decreases-loop-k
-decreases-loop-k l = l.n - l.k

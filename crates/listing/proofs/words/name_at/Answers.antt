@@ -14,5 +14,5 @@ returns-then-right-left c = search (rules, down_is)
 pub overflow_add-result : goal.overflow_add-result
 overflow_add-result c = omega (arith, up_fits _ _ _ c.requires c.if-right-left.false)
 
-pub returns : goal.returns
-returns c = search (rules, up_is)
+pub returns-else-right-left : goal.returns-else-right-left
+returns-else-right-left c = search (rules, up_is)
