@@ -1,4 +1,4 @@
-// Check and Run, each with its answer.
+// Check and Run, each with its answer, and the memory that they are lent.
 #![tactic(auto)]
 
 ghost use Rattle.std.specs.Prelude.{◌≤◌};
@@ -6,22 +6,41 @@ ghost use Rattle.std.specs.Prelude.{◌≤◌};
 use lines::answers::{Answer, answer_of};
 use rules::limits::MOST_WORDS;
 
-pub fn check(text: &[u8], a: &mut [u8], b: &mut [u8], c: &mut [u8]) -> Answer {
+// The three work buffers.
+#[derive(Drop)]
+pub struct Work {
+    pub a: [u8; 65536],
+    pub b: [u8; 65536],
+    pub c: [u8; 65536],
+}
+
+impl Work {
+    pub fn new() -> Work {
+        Work {
+            a: [0; 65536],
+            b: [0; 65536],
+            c: [0; 65536],
+        }
+    }
+}
+
+pub fn check(text: &[u8], work: &mut Work) -> Answer {
     let mut answer = [0u8; 32];
-    let number = checking::check(text, a, b, c, &mut answer);
+    let number = checking::check(text, &mut work.a, &mut work.b, &mut work.c, &mut answer);
     answer_of(number, &answer)
 }
 
-pub fn run(
-    text: &[u8],
-    carriers: &mut [u8],
-    budget: u32,
-    a: &mut [u8],
-    b: &mut [u8],
-    c: &mut [u8],
-) -> Answer {
+pub fn run(text: &[u8], carriers: &mut [u8], budget: u32, work: &mut Work) -> Answer {
     let mut answer = [0u8; 32];
-    let number = running::run(text, carriers, budget, a, b, c, &mut answer);
+    let number = running::run(
+        text,
+        carriers,
+        budget,
+        &mut work.a,
+        &mut work.b,
+        &mut work.c,
+        &mut answer,
+    );
     answer_of(number, &answer)
 }
 

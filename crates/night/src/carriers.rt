@@ -2,6 +2,7 @@
 ghost use Rattle.std.specs.Prelude.{◌+◌, ◌≤◌, length};
 
 use crate::files::{is_missing, keep};
+use asking::Work;
 use images::images::image_size;
 use lines::answers::{Answer, Ending, answer_of};
 use lines::bytes::{put_byte, put_bytes};
@@ -11,29 +12,31 @@ use std::io;
 use streams::files::open;
 use streams::read_full;
 
-fn store(
-    text: &[u8],
-    carriers: &[u8],
-    image: &mut [u8],
-    a: &mut [u8],
-    b: &mut [u8],
-    c: &mut [u8],
-) -> Answer {
+fn store(text: &[u8], carriers: &[u8], image: &mut [u8], work: &mut Work) -> Answer {
     let mut answer = [0u8; 32];
-    let number = keeping::store(text, carriers, image, a, b, c, &mut answer);
+    let number = keeping::store(
+        text,
+        carriers,
+        image,
+        &mut work.a,
+        &mut work.b,
+        &mut work.c,
+        &mut answer,
+    );
     answer_of(number, &answer)
 }
 
-fn load(
-    text: &[u8],
-    image: &[u8],
-    carriers: &mut [u8],
-    a: &mut [u8],
-    b: &mut [u8],
-    c: &mut [u8],
-) -> Answer {
+fn load(text: &[u8], image: &[u8], carriers: &mut [u8], work: &mut Work) -> Answer {
     let mut answer = [0u8; 32];
-    let number = keeping::load(text, image, carriers, a, b, c, &mut answer);
+    let number = keeping::load(
+        text,
+        image,
+        carriers,
+        &mut work.a,
+        &mut work.b,
+        &mut work.c,
+        &mut answer,
+    );
     answer_of(number, &answer)
 }
 
@@ -70,15 +73,13 @@ fn start_from(
     opened: File,
     text: &[u8],
     carriers: &mut [u8],
-    a: &mut [u8],
-    b: &mut [u8],
-    c: &mut [u8],
+    work: &mut Work,
 ) -> io::Result<bool> {
     let mut file = opened;
     let mut image = [0u8; 33793];
     let n = read_full(&mut file, &mut image)?;
     drop(file);
-    let loaded = load(text, &image[..n], carriers, a, b, c);
+    let loaded = load(text, &image[..n], carriers, work);
     if loaded.ending == Ending::Refused {
         say_refused(rt, loaded)?;
         return Ok(false);
@@ -92,12 +93,10 @@ pub fn start(
     path: &[u8],
     text: &[u8],
     carriers: &mut [u8],
-    a: &mut [u8],
-    b: &mut [u8],
-    c: &mut [u8],
+    work: &mut Work,
 ) -> io::Result<bool> {
     match open(rt, path) {
-        Ok(opened) => start_from(rt, opened, text, carriers, a, b, c),
+        Ok(opened) => start_from(rt, opened, text, carriers, work),
         Err(error) => is_missing(rt, path, error),
     }
 }
@@ -109,13 +108,11 @@ fn store_in(
     text: &[u8],
     carriers: &[u8],
     image: &mut [u8],
-    a: &mut [u8],
-    b: &mut [u8],
-    c: &mut [u8],
+    work: &mut Work,
 ) -> io::Result<()>
     requires { length path.now ≤ 4096 }
 {
-    let stored = store(text, carriers, image, a, b, c);
+    let stored = store(text, carriers, image, work);
     if stored.ending == Ending::Refused {
         return say_refused(rt, stored);
     }
@@ -128,13 +125,11 @@ pub fn finish(
     path: &[u8],
     text: &[u8],
     carriers: &[u8],
-    a: &mut [u8],
-    b: &mut [u8],
-    c: &mut [u8],
+    work: &mut Work,
 ) -> io::Result<()>
     requires { (length path.now ≤ 4096) × (length carriers.now ≤ 32768) }
 {
     let mut image = [0u8; 33792];
     let size = image_size(carriers.len());
-    store_in(rt, path, text, carriers, &mut image[..size], a, b, c)
+    store_in(rt, path, text, carriers, &mut image[..size], work)
 }

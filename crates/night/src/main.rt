@@ -11,7 +11,7 @@ ghost use Rattle.rules.specs.Limits.{longest_text};
 
 use crate::budgets::budget_in;
 use crate::carriers::{finish, start};
-use asking::{carrier_bytes, check, run};
+use asking::{Work, carrier_bytes, check, run};
 use lines::answers::{Answer, Ending};
 use lines::bytes::put_byte;
 use lines::said::put_said;
@@ -41,19 +41,20 @@ fn say(rt: &HostRuntime, a: Answer) -> io::Result<()> {
 }
 
 // The words that a run left.
-fn say_words(
-    rt: &HostRuntime,
-    text: &[u8],
-    carriers: &[u8],
-    a: &mut [u8],
-    b: &mut [u8],
-    c: &mut [u8],
-) -> io::Result<()>
-    requires text_len_bound { (length text.now ≤ longest_text) × ((65536 ≤ length a.old) × ((65536 ≤ length b.old) × (65536 ≤ length c.old))) }
+fn say_words(rt: &HostRuntime, text: &[u8], carriers: &[u8], work: &mut Work) -> io::Result<()>
+    requires text_len_bound { length text.now ≤ longest_text }
     requires in_bounds { 32768 ≤ length carriers.now }
 {
     let mut out = page();
-    let end = put_words(&mut out, 0, text, carriers, a, b, c);
+    let end = put_words(
+        &mut out,
+        0,
+        text,
+        carriers,
+        &mut work.a,
+        &mut work.b,
+        &mut work.c,
+    );
     rt.write_all(&out[..end])
 }
 
@@ -64,20 +65,18 @@ fn run_started(
     budget: u32,
     text: &[u8],
     carriers: &mut [u8],
-    a: &mut [u8],
-    b: &mut [u8],
-    c: &mut [u8],
+    work: &mut Work,
 ) -> io::Result<()>
     requires { (length path.now ≤ 4096) × (length carriers.old ≤ 32768) }
 {
-    let ended = run(text, carriers, budget, a, b, c);
+    let ended = run(text, carriers, budget, work);
     // what the run left is kept even where it cannot be said how it ended
     let said = say(rt, ended);
     if matches!(
         ended.ending,
         Ending::Done | Ending::Stopped | Ending::Paused
     ) {
-        finish(rt, path, text, carriers, a, b, c)?;
+        finish(rt, path, text, carriers, work)?;
     }
     said
 }
@@ -89,16 +88,14 @@ fn run_kept(
     budget: u32,
     text: &[u8],
     carriers: &mut [u8],
-    a: &mut [u8],
-    b: &mut [u8],
-    c: &mut [u8],
+    work: &mut Work,
 ) -> io::Result<bool>
     requires { (length path.now ≤ 4096) × (length carriers.old ≤ 32768) }
 {
-    if !start(rt, path, text, carriers, a, b, c)? {
+    if !start(rt, path, text, carriers, work)? {
         return Ok(false);
     }
-    run_started(rt, path, budget, text, carriers, a, b, c)?;
+    run_started(rt, path, budget, text, carriers, work)?;
     Ok(true)
 }
 
@@ -110,13 +107,11 @@ fn run_first(
     text: &[u8],
     carriers: &mut [u8],
     size: usize,
-    a: &mut [u8],
-    b: &mut [u8],
-    c: &mut [u8],
+    work: &mut Work,
 ) -> io::Result<bool>
     requires { (length path.now ≤ 4096) × ((size ≤ 32768) × (32768 ≤ length carriers.old)) }
 {
-    run_kept(rt, path, budget, text, &mut carriers[..size], a, b, c)
+    run_kept(rt, path, budget, text, &mut carriers[..size], work)
 }
 
 // Runs an accepted text, and says which words it left.
@@ -127,15 +122,13 @@ fn run_accepted(
     text: &[u8],
     carriers: &mut [u8],
     size: usize,
-    a: &mut [u8],
-    b: &mut [u8],
-    c: &mut [u8],
+    work: &mut Work,
 ) -> io::Result<()>
-    requires text_len_bound { (length text.now ≤ longest_text) × ((65536 ≤ length a.old) × ((65536 ≤ length b.old) × (65536 ≤ length c.old))) }
+    requires text_len_bound { length text.now ≤ longest_text }
     requires path_len_bound { (length path.now ≤ 4096) × ((size ≤ 32768) × (32768 ≤ length carriers.old)) }
 {
-    if run_first(rt, path, budget, text, carriers, size, a, b, c)? {
-        return say_words(rt, text, carriers, a, b, c);
+    if run_first(rt, path, budget, text, carriers, size, work)? {
+        return say_words(rt, text, carriers, work);
     }
     Ok(())
 }
@@ -148,18 +141,16 @@ fn run_judged(
     text: &[u8],
     carriers: &mut [u8],
     judged: Answer,
-    a: &mut [u8],
-    b: &mut [u8],
-    c: &mut [u8],
+    work: &mut Work,
 ) -> io::Result<()>
-    requires text_len_bound { (length text.now ≤ longest_text) × ((65536 ≤ length a.old) × ((65536 ≤ length b.old) × (65536 ≤ length c.old))) }
+    requires text_len_bound { length text.now ≤ longest_text }
     requires path_len_bound { (length path.now ≤ 4096) × (32768 ≤ length carriers.old) }
 {
     if judged.ending == Ending::Refused {
         return say(rt, judged);
     }
     let size = carrier_bytes(judged.words);
-    run_accepted(rt, path, budget, text, carriers, size, a, b, c)
+    run_accepted(rt, path, budget, text, carriers, size, work)
 }
 
 fn go_on(
@@ -168,34 +159,21 @@ fn go_on(
     budget: u32,
     text: &[u8],
     carriers: &mut [u8],
-    a: &mut [u8],
-    b: &mut [u8],
-    c: &mut [u8],
+    work: &mut Work,
 ) -> io::Result<()>
-    requires text_len_bound { (length text.now ≤ longest_text) × ((65536 ≤ length a.old) × ((65536 ≤ length b.old) × (65536 ≤ length c.old))) }
+    requires text_len_bound { length text.now ≤ longest_text }
     requires path_len_bound { (length path.now ≤ 4096) × (32768 ≤ length carriers.old) }
 {
-    let judged = check(text, a, b, c);
-    run_judged(rt, path, budget, text, carriers, judged, a, b, c)
+    let judged = check(text, work);
+    run_judged(rt, path, budget, text, carriers, judged, work)
 }
 
 fn with_memory(rt: &HostRuntime, path: &[u8], budget: u32, text: &[u8]) -> io::Result<()>
     requires { (length path.now ≤ 4096) × (length text.now ≤ longest_text) }
 {
     let mut carriers = [0u8; 32768];
-    let mut a = [0u8; 65536];
-    let mut b = [0u8; 65536];
-    let mut c = [0u8; 65536];
-    go_on(
-        rt,
-        path,
-        budget,
-        text,
-        &mut carriers,
-        &mut a,
-        &mut b,
-        &mut c,
-    )
+    let mut work = Work::new();
+    go_on(rt, path, budget, text, &mut carriers, &mut work)
 }
 
 fn read_text(rt: &HostRuntime, path: &[u8], budget: u32) -> io::Result<()>

@@ -8,7 +8,7 @@ ghost use Rattle.std.specs.Prelude.{◌≤◌, length};
 ghost use Rattle.rules.specs.Limits.{longest_text};
 
 use crate::saying::{Saying, say, say_answer};
-use asking::{carrier_bytes, check};
+use asking::{Work, carrier_bytes, check};
 use lines::answers::{Answer, answer_of};
 use lists::files::{Unreadable, list_in};
 use rules::limits::LONGEST_TEXT;
@@ -24,17 +24,19 @@ const BUDGET: u32 = 1000000;
 const LONGEST_FILE: usize = 262144;
 
 // What the call answers.
-fn trace(
-    entries: &[u8],
-    text: &[u8],
-    carriers: &[u8],
-    a: &mut [u8],
-    b: &mut [u8],
-    c: &mut [u8],
-    d: &mut [u8],
-) -> Answer {
+fn trace(entries: &[u8], text: &[u8], carriers: &[u8], work: &mut Work, d: &mut [u8]) -> Answer {
     let mut answer = [0u8; 32];
-    let number = comparing::trace(text, carriers, BUDGET, entries, a, b, c, d, &mut answer);
+    let number = comparing::trace(
+        text,
+        carriers,
+        BUDGET,
+        entries,
+        &mut work.a,
+        &mut work.b,
+        &mut work.c,
+        d,
+        &mut answer,
+    );
     answer_of(number, &answer)
 }
 
@@ -44,14 +46,12 @@ fn compared(
     text: &[u8],
     carriers: &[u8],
     size: usize,
-    a: &mut [u8],
-    b: &mut [u8],
-    c: &mut [u8],
+    work: &mut Work,
     d: &mut [u8],
 ) -> Answer
     requires { (size ≤ 32768) × (32768 ≤ length carriers.now) }
 {
-    trace(entries, text, &carriers[..size], a, b, c, d)
+    trace(entries, text, &carriers[..size], work, d)
 }
 
 // The same for a text that has been judged, and says how that came out.
@@ -60,15 +60,13 @@ fn compare_judged(
     entries: &[u8],
     text: &[u8],
     size: usize,
-    a: &mut [u8],
-    b: &mut [u8],
-    c: &mut [u8],
+    work: &mut Work,
     d: &mut [u8],
 ) -> io::Result<()>
     requires { (length text.now ≤ longest_text) × (size ≤ 32768) }
 {
     let carriers = [0u8; 32768];
-    let answer = compared(entries, text, &carriers, size, a, b, c, d);
+    let answer = compared(entries, text, &carriers, size, work, d);
     say_answer(rt, answer, entries, text, size)
 }
 
@@ -77,26 +75,22 @@ fn compare(
     rt: &HostRuntime,
     entries: &[u8],
     text: &[u8],
-    a: &mut [u8],
-    b: &mut [u8],
-    c: &mut [u8],
+    work: &mut Work,
     d: &mut [u8],
 ) -> io::Result<()>
     requires { length text.now ≤ longest_text }
 {
-    let judged = check(text, a, b, c);
+    let judged = check(text, work);
     let size = carrier_bytes(judged.words);
-    compare_judged(rt, entries, text, size, a, b, c, d)
+    compare_judged(rt, entries, text, size, work, d)
 }
 
 fn with_memory(rt: &HostRuntime, entries: &[u8], text: &[u8]) -> io::Result<()>
     requires { length text.now ≤ longest_text }
 {
-    let mut a = [0u8; 65536];
-    let mut b = [0u8; 65536];
-    let mut c = [0u8; 65536];
+    let mut work = Work::new();
     let mut d = [0u8; 65536];
-    compare(rt, entries, text, &mut a, &mut b, &mut c, &mut d)
+    compare(rt, entries, text, &mut work, &mut d)
 }
 
 fn read_text(rt: &HostRuntime, entries: &[u8]) -> io::Result<()> {

@@ -2,6 +2,7 @@
 ghost use Rattle.std.specs.Prelude.{◌+◌, ◌*◌, ◌<◌, ◌≤◌, length};
 ghost use Rattle.rules.specs.Limits.{longest_text};
 
+use asking::Work;
 use cells::put64;
 use showing::put_words;
 
@@ -18,14 +19,20 @@ pub fn put_named(
     carriers: &mut [u8],
     word: usize,
     value: u64,
-    a: &mut [u8],
-    b: &mut [u8],
-    c: &mut [u8],
+    work: &mut Work,
 ) -> usize
-    requires text_len_bound { (length text.now ≤ longest_text) × ((65536 ≤ length a.old) × ((65536 ≤ length b.old) × (65536 ≤ length c.old))) }
+    requires text_len_bound { length text.now ≤ longest_text }
     requires in_bounds { (524544 ≤ length out.old) × ((32768 ≤ length carriers.old) × (8 * word + 8 ≤ length carriers.old)) }
     ensures { result ≤ length out.new }
 {
     put64(carriers, word, value);
-    put_words(out, 0, text, carriers, a, b, c)
+    put_words(
+        out,
+        0,
+        text,
+        carriers,
+        &mut work.a,
+        &mut work.b,
+        &mut work.c,
+    )
 }

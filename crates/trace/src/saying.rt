@@ -3,6 +3,7 @@ ghost use Rattle.std.specs.Prelude.{◌+◌, ◌*◌, ◌≤◌, length};
 ghost use Rattle.rules.specs.Limits.{longest_text};
 
 use crate::naming::{line_of, put_named};
+use asking::Work;
 use lines::answers::{Answer, Ending};
 use listed::entries::{Entry, count, entry_at};
 use positions::walked;
@@ -83,15 +84,13 @@ fn say_word(
     carriers: &mut [u8],
     word: usize,
     value: u64,
-    a: &mut [u8],
-    b: &mut [u8],
-    c: &mut [u8],
+    work: &mut Work,
 ) -> io::Result<()>
-    requires text_len_bound { (length text.now ≤ longest_text) × ((65536 ≤ length a.old) × ((65536 ≤ length b.old) × (65536 ≤ length c.old))) }
+    requires text_len_bound { length text.now ≤ longest_text }
     requires in_bounds { (32768 ≤ length carriers.old) × (8 * word + 8 ≤ length carriers.old) }
 {
     let mut out = page();
-    let end = put_named(&mut out, text, carriers, word, value, a, b, c);
+    let end = put_named(&mut out, text, carriers, word, value, work);
     rt.write_all(line_of(&out[..end], word))
 }
 
@@ -100,10 +99,8 @@ fn say_named(rt: &HostRuntime, text: &[u8], word: usize, value: u64) -> io::Resu
     requires { (length text.now ≤ longest_text) × (8 * word + 8 ≤ 32768) }
 {
     let mut carriers = [0u8; 32768];
-    let mut a = [0u8; 65536];
-    let mut b = [0u8; 65536];
-    let mut c = [0u8; 65536];
-    say_word(rt, text, &mut carriers, word, value, &mut a, &mut b, &mut c)
+    let mut work = Work::new();
+    say_word(rt, text, &mut carriers, word, value, &mut work)
 }
 
 // The entry n, which cannot be, of a description whose carriers have so many bytes.
