@@ -1,6 +1,6 @@
 -- Laws of what is said of a run, by its ending.
 -- Assumes nothing.
-use Prim.Native.Nat.{ℕ, zero, suc}
+use Prim.Native.Nat.{ℕ}
 use Rattle.std.specs.Prelude.{◌≡◌, refl, List}
 use Rattle.rules.specs.Text.Bytes.{bytes}
 use Rattle.lines.specs.Appended.{Appended}
