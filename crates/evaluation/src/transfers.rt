@@ -53,6 +53,7 @@ pub fn gather(
     let mut count: usize = 1;
     let mut bits = first.size;
     let mut at = first.next;
+    // A while: the accesses end at a place, and their number is not known before.
     while at != end {
         let more = access(records, values, carriers, at + 1, DEEPEST)?;
         put64(fields, count, packed(more));

@@ -204,6 +204,7 @@ fn chain(
         bits: right.bits,
     };
     let mut at = right.next;
+    // A loop: it takes an operator with its operand at a turn, up to a token that is no operator.
     loop {
         let kind = kind_at(records, at);
         let tight = tightness_of(kind);

@@ -16,6 +16,7 @@ fn any_matches(records: &[u8], values: &[u8], q: usize, x: u64) -> bool
     ensures { (v : ItemsView records.now values.now q) → result ≡ any_matches v.items x }
 {
     let mut at = q;
+    // A loop: an item takes one token or several, and the last one has no comma behind it.
     loop {
         let found = item_at(records, values, at);
         let item = found.item;
@@ -58,6 +59,7 @@ pub fn choose(records: &[u8], values: &[u8], p: usize, x: u64) -> Option<usize>
 {
     let mut at = p;
     let mut number: u64 = 0;
+    // A while: a link leads from each alternative to the next, up to the END.
     while kind_at(records, at) != END {
         if takes_value(records, values, at + 1, number, x) {
             return Some(inside_at(records, at));

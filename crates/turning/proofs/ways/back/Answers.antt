@@ -1,6 +1,5 @@
 -- `turning::ways::back` meets its contract: activations are left until one goes on.
 -- Assumes nothing.
-use borrow.Author.Rules.{rules}
 use native.Mathlib.Omega.{arith}
 use mathlib.Core.Path.{refl}
 use Rattle.turning.specs.Laws.Ways.{top_within, top_linked, behind_few, none_left, one_left, out_of_all, gone_on}
@@ -28,9 +27,6 @@ returns-then-behind-ne0 c = λ v. gone_on v (c.loop-top.invariant.1 v) c.loop-to
 
 pub leave-requires : goal.leave-requires
 leave-requires c = let w = (c.loop-top.invariant.1 c.requires).rest in (w.long, (w.list, w.sound))
-
-pub loop-top-smaller : goal.loop-top-smaller
-loop-top-smaller c = search rules
 
 pub loop-top-preserved : goal.loop-top-preserved
 loop-top-preserved c = (omega (arith, c.leave.auto.room, c.loop-top.invariant.0), λ v. one_left v (c.loop-top.invariant.1 v) c.loop-top-test.true c.link_at-behind.ensures c.if-behind-ne0.false c.leave.ensures)

@@ -9,6 +9,3 @@ use Rattle.turning.proofs.ways.back.Given as goal
 
 abbrev pub invariant-loop-top : goal.invariant-loop-top
 invariant-loop-top l = (length l.room ≡ length l.initial.room) × ((v : WayAt l.records l.cells l.initial.room l.stack l.n l.depth return) → Returning v l.room l.top)
-
-abbrev pub decreases-loop-top : goal.decreases-loop-top
-decreases-loop-top l = l.top
