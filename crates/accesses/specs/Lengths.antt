@@ -1,27 +1,31 @@
 -- The length of an access by the names of its bits: all bits of the declaration, or the given ones if they lie inside and run the same way.
-use Rattle.std.specs.Prelude.{ℕ, ◌≤◌, max}
+use Rattle.std.specs.Prelude.{ℕ, ◌≤◌, max, Bool, true, false, Option, Some, None}
 use Rattle.rules.specs.Limits.{most_bits, largest_name}
 use Rattle.rules.specs.Declarations.{names, how_many, these}
 use Rattle.rules.specs.Faults.Declared.{inside}
 use Rattle.table.specs.declared.views.Names.{Names}
 use Rattle.table.specs.declared.views.Names.TheVariants.{Missing, Unnamed, Span}
-use Rattle.table.specs.Operators.{pick}
 
--- all bits of a declaration; 0 where it has none
-abbrev pub own_length : Names → ℕ
-own_length Missing = 0
-own_length Unnamed = 1
-own_length (Span l r) = how_many (names l r)
+-- all bits of a declaration, if it has bits
+abbrev pub own_length : Names → Option ℕ
+own_length Missing = None
+own_length Unnamed = Some 1
+own_length (Span l r) = Some (how_many (names l r))
 
--- those from l to r; 0 where they are outside or run the other way
-abbrev pub part_length : Names → ℕ → ℕ → ℕ
-part_length Missing l r = 0
-part_length Unnamed l r = 0
-part_length (Span a b) l r = pick (inside (these (names a b)) (names l r)) (how_many (names l r)) 0
+-- a number, if something holds
+abbrev pub kept : Bool → ℕ → Option ℕ
+kept true n = Some n
+kept false n = None
 
-abbrev pub access_length : Names → Names → ℕ
+-- those from l to r, if they are inside and run the same way
+abbrev pub part_length : Names → ℕ → ℕ → Option ℕ
+part_length Missing l r = None
+part_length Unnamed l r = None
+part_length (Span a b) l r = kept (inside (these (names a b)) (names l r)) (how_many (names l r))
+
+abbrev pub access_length : Names → Names → Option ℕ
 access_length own Missing = own_length own
-access_length own Unnamed = 0
+access_length own Unnamed = None
 access_length own (Span l r) = part_length own l r
 
 -- bits that 31 lets pass

@@ -18,37 +18,37 @@ fn how_many(l: u64, r: u64) -> u32
     (l - r + 1) as u32
 }
 
-// All bits of a declaration.
-fn own_length(own: Names) -> u32
+// All bits of a declaration, if it has bits.
+fn own_length(own: Names) -> Option<u32>
     requires { Short own }
     ensures { result ≡ own_length own }
 {
     match own {
-        Names::Missing => 0,
-        Names::Unnamed => 1,
-        Names::Span(l, r) => how_many(l, r),
+        Names::Missing => None,
+        Names::Unnamed => Some(1),
+        Names::Span(l, r) => Some(how_many(l, r)),
     }
 }
 
-// The bits from l to r; 0 where they are outside or run the other way.
-fn part_length(own: Names, l: u64, r: u64) -> u32
+// The bits from l to r, if they are inside and run the same way.
+fn part_length(own: Names, l: u64, r: u64) -> Option<u32>
     requires { Short own }
     ensures { result ≡ part_length own l r }
 {
     match own {
-        Names::Span(left, right) if inside(left, right, l, r) => how_many(l, r),
-        _ => 0,
+        Names::Span(left, right) if inside(left, right, l, r) => Some(how_many(l, r)),
+        _ => None,
     }
 }
 
 // The length of an access to bits of a declaration, with or without names of its own.
-pub fn access_length(own: Names, given: Names) -> u32
+pub fn access_length(own: Names, given: Names) -> Option<u32>
     requires { Short own }
     ensures { result ≡ access_length own given }
 {
     match given {
         Names::Missing => own_length(own),
-        Names::Unnamed => 0,
+        Names::Unnamed => None,
         Names::Span(l, r) => part_length(own, l, r),
     }
 }

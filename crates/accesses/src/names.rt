@@ -58,14 +58,13 @@ fn declared_weight(
             bits: 0,
         };
     }
-    let bits = access_length(own, given);
-    if bits == 0 {
-        return Weight {
+    match access_length(own, given) {
+        None => Weight {
             key: fault_key(42, place),
             bits: 0,
-        };
+        },
+        Some(bits) => Weight { key: NO_KEY, bits },
     }
-    Weight { key: NO_KEY, bits }
 }
 
 // The name i of an access, with a subscript or without, whose bits stand from p on.

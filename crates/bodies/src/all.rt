@@ -18,10 +18,9 @@ fn body_fault(records: &[u8], values: &[u8], decls: &[u8], room: &mut [u8], i: u
         → result ≡ least_key (faults_of_body v) }
     ensures long { length room.new ≡ length room.old }
 {
-    let begin = body_of(records, i);
-    if begin == 0 {
+    let Some(begin) = body_of(records, i) else {
         return NO_KEY;
-    }
+    };
     push(records, room, 0, i);
     let inside = action(records, values, decls, room, begin, 1, DEEPEST);
     let labels = labels_fault(records, room, begin, inside.next);
@@ -36,11 +35,9 @@ pub fn fault40(records: &[u8], values: &[u8], decls: &[u8], room: &mut [u8], m: 
     ensures long { length room.new ≡ length room.old }
 {
     let mut key = NO_KEY;
-    let mut k: usize = 0;
-    while k < m {
+    for k in 0..m {
         let name = get16(decls, k) as usize;
         key = earlier(key, body_fault(records, values, decls, room, name));
-        k += 1;
     }
     key
 }

@@ -11,12 +11,6 @@ use Rattle.links.specs.Mains.{MainIn}
 use Rattle.reading.specs.Reading.{table_of}
 use Rattle.bounding.specs.Filling.{Ready}
 
--- the token r is MAIN's name
-pub record MainNamed {records decls : List ℕ} {m : ℕ} (v : MainIn records decls m) (r : ℕ) : Type 0 where
-  pub within : r < length v.tokens
-  pub kind : kind_byte records r ≡ kind_no Name
-  pub named : word_at v.tokens r ≡ main_name (declarations v.description)
-
 pub record Longest (records decls : List ℕ) (m n r : ℕ) : Type 0 where
   pub low : r ≤ endless
   pub is : (v : Ready records decls m n) → r ≡ count_down (table_of v.reading) longest_chain (main_name (table_of v.reading))

@@ -48,11 +48,10 @@ pub fn fill(
     if get64(table, k) != UNKNOWN {
         return;
     }
-    let body = body_at(records, decls, m, n, k);
-    if body == 0 {
+    let Some(body) = body_at(records, decls, m, n, k) else {
         put64(table, k, 1);
         return;
-    }
+    };
     descend(records, decls, table, room, m, n, body, left - 1);
     let count = walk(records, table, room, m, n, body);
     put64(table, k, count);

@@ -1,29 +1,14 @@
 // The count of MAIN.
 ghost use Rattle.std.specs.Prelude.{◌≤◌, length};
-ghost use Rattle.links.specs.Mains.{MainIn};
 ghost use Rattle.walking.specs.Walking.{table_size};
 ghost use Rattle.bounding.specs.Filling.{Ready, Fillable};
-ghost use Rattle.bounding.specs.Mains.{MainNamed, Longest};
+ghost use Rattle.bounding.specs.Mains.{Longest};
 
 use crate::filling::{blank, fill};
-use cells::{get16, get64};
+use cells::get64;
+use links::mains::main_name;
 use reading::names::index_of;
 use rules::limits::LONGEST_CHAIN;
-use table::views::main_of;
-
-// The token of MAIN's name.
-fn main_name(records: &[u8], decls: &[u8], m: usize) -> usize
-    requires { MainIn records.now decls.now m }
-    ensures { (v : MainIn records.now decls.now m) → MainNamed v result }
-{
-    for k in 0..m {
-        let name = get16(decls, k) as usize;
-        if main_of(records, name) != 0 {
-            return name;
-        }
-    }
-    0
-}
 
 // MAIN is filled in, and with it all that it reaches.
 fn main_count(

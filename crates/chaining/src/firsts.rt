@@ -62,10 +62,9 @@ pub fn first_of(
     ensures { (v : Reading records.now decls.now m n)
         → Numbered m result (first_in (table_of v) (in_level (table_of v) level.w all) (calls_in (act_at (table_of v) k))) }
 {
-    let body = body_at(records, decls, m, n, k);
-    if body == 0 {
+    let Some(body) = body_at(records, decls, m, n, k) else {
         return m;
-    }
+    };
     first_in(records, decls, m, n, body, level, all)
 }
 
@@ -82,13 +81,10 @@ pub fn refused_body(
         × ((v : Reading records.now decls.now m n) → Levelled (table_of v) over.w false longest_chain) }
     ensures { (v : Reading records.now decls.now m n) → Numbered m result (start_of (table_of v) place) }
 {
-    let mut k: usize = 0;
-    while k < m {
-        let at = k;
-        k += 1;
-        if name_place(records, decls, m, n, at) == place {
-            if has(over, at) {
-                return at;
+    for k in 0..m {
+        if name_place(records, decls, m, n, k) == place {
+            if has(over, k) {
+                return k;
             }
         }
     }

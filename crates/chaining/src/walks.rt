@@ -19,11 +19,10 @@ pub struct Numbers {
     pub n: [u32; 24],
 }
 
-// What is listed, by its numbers and as a set of bodies; the body that is listed next; and whether there is one.
+// What is listed, by its numbers and as a set of bodies; and the body that is listed next, if there is one.
 #[derive(Clone, Copy)]
 pub struct Walk {
-    pub going: bool,
-    pub body: usize,
+    pub body: Option<usize>,
     pub listed: Set,
     pub numbers: Numbers,
 }
@@ -57,11 +56,10 @@ fn with_body(
 
 // A walk that is over.
 fn ended(numbers: Numbers) -> Walk
-    ensures { (result.going ≡ false) × (result.numbers ≡ numbers) }
+    ensures { (result.body ≡ None) × (result.numbers ≡ numbers) }
 {
     Walk {
-        going: false,
-        body: 0,
+        body: None,
         listed: empty(),
         numbers,
     }
@@ -80,8 +78,7 @@ fn start(records: &[u8], decls: &[u8], m: usize, n: usize, over: Set, place: usi
     }
     numbers.n[0] = CHAIN;
     Walk {
-        going: true,
-        body,
+        body: Some(body),
         listed: empty(),
         numbers,
     }
@@ -98,14 +95,13 @@ fn step(
     k: usize,
     walk: Walk,
 ) -> Walk
-    requires { Reading records.now decls.now m n × ((k < longest_chain) × (walk.going ≡ true → walk.body < m)) }
+    requires { Reading records.now decls.now m n × ((k < longest_chain) × ((b : ℕ) → walk.body ≡ Some b → b < m)) }
     ensures { (place : ℕ) → ((v : Reading records.now decls.now m n) → Levelled (table_of v) level.w all k)
         → Walked records.now decls.now m n place (k + 1) walk → Walked records.now decls.now m n place k result }
 {
-    if !walk.going {
+    let Some(body) = walk.body else {
         return walk;
-    }
-    let body = walk.body;
+    };
     let before = walk.listed;
     let old = walk.numbers;
     let more = with_body(
@@ -125,8 +121,7 @@ fn step(
         return ended(more);
     }
     Walk {
-        going: true,
-        body: next,
+        body: Some(next),
         listed: union(only(body), before),
         numbers: more,
     }
@@ -163,9 +158,8 @@ pub fn chain_reason(records: &[u8], decls: &[u8], m: usize, n: usize, place: usi
     let above = descend(records, decls, m, n, bodies, 1, place);
     let walk = step(records, decls, m, n, empty(), true, 0, above);
     let numbers = walk.numbers;
-    let last = walk.body;
-    if !walk.going {
-        return numbers;
+    match walk.body {
+        None => numbers,
+        Some(last) => with_body(records, decls, m, n, numbers, last, FIRST + LONGEST_CHAIN),
     }
-    with_body(records, decls, m, n, numbers, last, FIRST + LONGEST_CHAIN)
 }

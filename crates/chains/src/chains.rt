@@ -84,10 +84,9 @@ fn rises(records: &[u8], decls: &[u8], m: usize, n: usize, k: usize, level: Set,
     requires { Reading records.now decls.now m n × (k < m) }
     ensures { (v : Reading records.now decls.now m n) → result ≡ activates_one (table_of v) (in_level (table_of v) level.w all) k }
 {
-    let body = body_at(records, decls, m, n, k);
-    if body == 0 {
+    let Some(body) = body_at(records, decls, m, n, k) else {
         return false;
-    }
+    };
     activates(records, decls, m, n, body, level, all)
 }
 
@@ -108,11 +107,8 @@ pub fn next_level(records: &[u8], decls: &[u8], m: usize, n: usize, level: Set, 
     ensures { (v : Reading records.now decls.now m n) (j : ℕ) → holds result.w j ≡ (ltb j m && activates_one (table_of v) (in_level (table_of v) level.w all) j) }
 {
     let mut set = empty();
-    let mut k: usize = 0;
-    while k < m {
-        let at = k;
-        k += 1;
-        set = grown(set, at, rises(records, decls, m, n, at, level, all));
+    for k in 0..m {
+        set = grown(set, k, rises(records, decls, m, n, k, level, all));
     }
     set
 }
@@ -123,13 +119,11 @@ pub fn over_longest(records: &[u8], decls: &[u8], m: usize, n: usize) -> Set
     ensures { (v : Reading records.now decls.now m n) → Levelled (table_of v) result.w false longest_chain }
 {
     let mut level = next_level(records, decls, m, n, empty(), true);
-    let mut k: usize = 1;
-    while k < LONGEST_CHAIN {
+    for _k in 1..LONGEST_CHAIN {
         if is_empty(level) {
             return level;
         }
         level = next_level(records, decls, m, n, level, false);
-        k += 1;
     }
     level
 }
@@ -153,11 +147,8 @@ pub fn chain_key(records: &[u8], decls: &[u8], m: usize, n: usize) -> u32
 {
     let over = over_longest(records, decls, m, n);
     let mut key = NO_KEY;
-    let mut k: usize = 0;
-    while k < m {
-        let at = k;
-        k += 1;
-        key = earlier(key, chain_at(records, decls, m, n, at, over));
+    for k in 0..m {
+        key = earlier(key, chain_at(records, decls, m, n, k, over));
     }
     key
 }

@@ -1,5 +1,5 @@
 // MAIN: that there is one, and no second.
-ghost use Rattle.std.specs.Prelude.{◌≡◌, not, ◌||◌, false, ◌<◌, eqb};
+ghost use Rattle.std.specs.Prelude.{◌≡◌, not, ◌||◌, false, ◌<◌, ℕ, is_some};
 ghost use Rattle.std.proofs.Math.Option.{Option};
 ghost use Rattle.rules.specs.Text.Tokens.{Info};
 ghost use Rattle.rules.specs.Faults.Fault.{when};
@@ -14,8 +14,8 @@ use keys::{NO_KEY, earlier, number_key};
 use records::fields::place_at;
 use table::views::main_of;
 
-// The MAIN of the declaration k, or 0.
-fn main_at(records: &[u8], decls: &[u8], m: usize, n: usize, k: usize) -> usize
+// The MAIN of the declaration k.
+fn main_at(records: &[u8], decls: &[u8], m: usize, n: usize, k: usize) -> Option<usize>
     requires { Reading records.now decls.now m n × (k < m) }
     ensures { Mainly records.now decls.now m n k result }
 {
@@ -23,13 +23,13 @@ fn main_at(records: &[u8], decls: &[u8], m: usize, n: usize, k: usize) -> usize
 }
 
 // The key of a second MAIN, at the token at.
-fn second_key(records: &[u8], decls: &[u8], m: usize, n: usize, at: usize, seen: bool) -> u32
-    requires { Reading records.now decls.now m n × (at < n) }
+fn second_key(records: &[u8], decls: &[u8], m: usize, n: usize, at: Option<usize>, seen: bool) -> u32
+    requires { Reading records.now decls.now m n × ((p : ℕ) → at ≡ Some p → p < n) }
     ensures { (v : Reading records.now decls.now m n) (x : Option Info) → MainAt v.tokens at x → result ≡ least_number_key (second_main seen x) }
 {
-    if at == 0 {
+    let Some(at) = at else {
         return NO_KEY;
-    }
+    };
     if seen {
         return number_key(50, place_at(records, at));
     }
@@ -37,13 +37,10 @@ fn second_key(records: &[u8], decls: &[u8], m: usize, n: usize, at: usize, seen:
 }
 
 // Whether MAIN is seen, with the token at.
-fn met(seen: bool, at: usize) -> bool
-    ensures { result ≡ (seen || not (eqb at 0)) }
+fn met(seen: bool, at: Option<usize>) -> bool
+    ensures { result ≡ (seen || is_some at) }
 {
-    if seen {
-        return true;
-    }
-    at != 0
+    seen || at.is_some()
 }
 
 // The key of a missing MAIN.
@@ -63,12 +60,10 @@ pub fn main_key(records: &[u8], decls: &[u8], m: usize, n: usize) -> u32
 {
     let mut key = NO_KEY;
     let mut seen = false;
-    let mut k: usize = 0;
-    while k < m {
+    for k in 0..m {
         let at = main_at(records, decls, m, n, k);
         key = earlier(key, second_key(records, decls, m, n, at, seen));
         seen = met(seen, at);
-        k += 1;
     }
     earlier(key, missing_key(seen))
 }

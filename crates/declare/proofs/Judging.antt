@@ -7,27 +7,19 @@ use mathlib.Core.List.{List}
 use mathlib.Core.Option.{Option, none, some}
 use native.Mathlib.Omega.{arith}
 use borrow.Author.Tests.{not-true, not-false}
-use Rattle.rules.specs.Grammar.Trees.{Tokens}
+use Rattle.std.specs.Prelude.{Option as Found, is_some}
 use Rattle.rules.specs.Declarations.{Names as Span-of, declared_of, Target, storage_words, words_of}
 use Rattle.rules.specs.Faults.Declared.{large_bits, large_words, good_target}
 use Rattle.rules.specs.Limits.{most_words}
 use Rattle.table.specs.Shown.{shown_words, shown_bits, shown_target}
 use Rattle.table.specs.Views.{View, TargetAt}
+use Rattle.table.specs.Laws.Views.{no_target, a_target}
 use Rattle.table.specs.declared.views.Names.{Names}
 use Rattle.declare.specs.Faults.{is_large}
 use Rattle.declare.specs.Laws.Lawful.{both_false}
 use Rattle.spans.specs.Spans.{far_shown, large_shown, missing_shown, storage_shown, fits_shown}
 use Rattle.spans.specs.Laws.Spans.{far_shown_lem, large_shown_lem, storage_shown_lem, fits_shown_lem}
 use Rattle.declare.specs.Listed.{SmallView}
-
--- 0 stands for no target
-pub no_target : (ts : Tokens) (r : ℕ) (o : Option Target) → TargetAt ts r o → r ≡ 0 → o ≡ none
-no_target ts r none a z = refl
-no_target ts r (some t) a z = absurd (omega (arith, a.past))
-
-pub a_target : (ts : Tokens) (r : ℕ) (o : Option Target) → TargetAt ts r o → (r ≡ 0 → ⊥) → (t : Target) × (o ≡ some t)
-a_target ts r none a n = absurd (n a)
-a_target ts r (some t) a n = (t, refl)
 
 module _ (records values : List ℕ) (p : ℕ) where
   -- 31
@@ -43,14 +35,14 @@ module _ (records values : List ℕ) (p : ℕ) where
     by_words y words far v = rw (large_bits_is v ∙ y) (far ∙ ap far_shown (words v) ∙ far_shown_lem (declared_of v.declaration).words)
 
   -- 32
-  module _ {r : ℕ} (target : (values : List ℕ) (v : View records values p) → TargetAt v.tokens r (declared_of v.declaration).target) where
-    pub mapping_adds_none : (r ≡ 0 → ⊥) → ((v : View records values p) → 0 ≡ words_of (declared_of v.declaration)) × (0 ≤ most_words)
+  module _ (r : Found ℕ) (target : (values : List ℕ) (v : View records values p) → TargetAt v.tokens r (declared_of v.declaration).target) where
+    pub mapping_adds_none : is_some r ≡ true → ((v : View records values p) → 0 ≡ words_of (declared_of v.declaration)) × (0 ≤ most_words)
     unfolding storage_words
     mapping_adds_none n = (λ v. rw (a_target v.tokens r (declared_of v.declaration).target (target values v) n).1, omega arith)
 
     module _ {b w : Names} (bits : (v : View records values p) → b ≡ shown_bits (declared_of v.declaration).bits)
         (words : (v : View records values p) → w ≡ shown_words (declared_of v.declaration).words) where
-      pub storage_adds : {n : ℕ} → r ≡ 0 → (n ≡ storage_shown b w) × (n ≤ most_words)
+      pub storage_adds : {n : ℕ} → is_some r ≡ false → (n ≡ storage_shown b w) × (n ≤ most_words)
           → ((v : View records values p) → n ≡ words_of (declared_of v.declaration)) × (n ≤ most_words)
       storage_adds z s = (
         λ v.
@@ -81,9 +73,9 @@ module _ (records values : List ℕ) (p q : ℕ) {w : Names} {a : Bool} (words :
       → false ≡ good_target (declared_of v.declaration).bits t.bits (some (declared_of x.declaration))
   words_spoil n v x t e = rw (good_target, (none_missing (declared_of x.declaration).words (sym (has_words x) ∙ not-true a n)).1)
 
-  module _ {r : ℕ} (wordless : not a ≡ false)
+  module _ (r : Found ℕ) (wordless : not a ≡ false)
       (target : (values : List ℕ) (v : View records values q) → TargetAt v.tokens r (declared_of v.declaration).target) where
-    pub mapping_spoils : (r ≡ 0 → ⊥) → (v : View records values p) (x : View records values q) (t : Target) → (declared_of v.declaration).target ≡ some t
+    pub mapping_spoils : is_some r ≡ true → (v : View records values p) (x : View records values q) (t : Target) → (declared_of v.declaration).target ≡ some t
         → false ≡ good_target (declared_of v.declaration).bits t.bits (some (declared_of x.declaration))
     mapping_spoils n v x t e =
         rw (
@@ -92,7 +84,7 @@ module _ (records values : List ℕ) (p q : ℕ) {w : Names} {a : Bool} (words :
           (a_target x.tokens r (declared_of x.declaration).target (target values x) n).1,
         )
 
-    pub fits_on : {c b s : Names} {f : Bool} → r ≡ 0 → ((v : View records values q) → c ≡ shown_bits (declared_of v.declaration).bits)
+    pub fits_on : {c b s : Names} {f : Bool} → is_some r ≡ false → ((v : View records values q) → c ≡ shown_bits (declared_of v.declaration).bits)
         → ((v : View records values p) → b ≡ shown_bits (declared_of v.declaration).bits)
         → ((v : View records values p) → s ≡ shown_target (declared_of v.declaration).target) → f ≡ fits_shown c b s
         → (v : View records values p) (x : View records values q) (t : Target) → (declared_of v.declaration).target ≡ some t

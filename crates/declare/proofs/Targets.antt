@@ -19,11 +19,12 @@ use Rattle.table.specs.Kth.{map_found}
 use Rattle.table.specs.Declarations.{declaration_list}
 use Rattle.records.specs.Words.{NameAt, word_at, TwoNames, same_words}
 use Rattle.table.specs.Views.{View, TargetAt}
+use Rattle.table.specs.Laws.Views.{no_target}
+use Rattle.std.specs.Prelude.{Some, None}
 use Rattle.table.specs.Lookups.{nth}
 use Rattle.table.specs.Meaning.{meaning_by, meaning_of}
 use Rattle.declare.specs.Listed.{Listed, outer_of, table_of, Chosen, chosen_of}
 use Rattle.declare.proofs.Choosing.{chosen_room, outer_word, outer_and, chosen_view, number_below}
-use Rattle.declare.proofs.Judging.{no_target}
 
 -- a name of a table: the declaration that it means
 module _ {text records values decls : List ℕ} {m i : ℕ} (v : Listed text records values decls m) (n : NameAt v.tokens i) where
@@ -70,27 +71,26 @@ record Aimed (ts : Tokens) (t : ℕ) (o : Option Target) : Type 0 where
   pub name : NameAt ts t
   pub word : word_at ts t ≡ target.name.word
 
-aim : (ts : Tokens) (t : ℕ) (o : Option Target) → TargetAt ts t o → (t ≡ 0 → ⊥) → Aimed ts t o
-aim ts t none a f = absurd (f a)
-aim ts t (some x) a f = record {
+aim : (ts : Tokens) (t : ℕ) (o : Option Target) → TargetAt ts (Some t) o → Aimed ts t o
+aim ts t none a = absurd a
+aim ts t (some x) a = record {
   target = x;
   is = refl;
   name = record { within = a.within; kind = ap (λ (y : Token). y.kind) a.name };
   word = ap (λ (y : Token). y.info.word) a.name;
 }
 
-module _ (text records values decls : List ℕ) (m k : ℕ) {p t : ℕ} (place : p ≡ cell 2 decls k)
-    (target : (values : List ℕ) (v : View records values p) → TargetAt v.tokens t (declared_of v.declaration).target) where
+module _ (text records values decls : List ℕ) (m k : ℕ) {p : ℕ} (place : p ≡ cell 2 decls k) where
   abbrev Bad : Bool → Type 0
   Bad b = (v : Chosen text records values decls m k) → b ≡ bad_mapping (outer_of v.listed) (table_of v.listed) (chosen_of v) (chosen_of v).target
 
-  pub no_mapping : t ≡ 0 → Bad false
+  pub no_mapping : ((values : List ℕ) (v : View records values p) → TargetAt v.tokens None (declared_of v.declaration).target) → Bad false
   unfolding bad_mapping
-  no_mapping z v = rw (no_target v.listed.tokens t (chosen_of v).target (target values (chosen_view v place)) z)
+  no_mapping target v = rw (no_target v.listed.tokens None (chosen_of v).target (target values (chosen_view v place)) refl)
 
-  module _ (some_target : t ≡ 0 → ⊥) where
+  module _ {t : ℕ} (target : (values : List ℕ) (v : View records values p) → TargetAt v.tokens (Some t) (declared_of v.declaration).target) where
     aimed : (v : Chosen text records values decls m k) → Aimed v.listed.tokens t (chosen_of v).target
-    aimed v = aim v.listed.tokens t (chosen_of v).target (target values (chosen_view v place)) some_target
+    aimed v = aim v.listed.tokens t (chosen_of v).target (target values (chosen_view v place))
 
     pub target_and_outer : Chosen text records values decls m k → TwoNames text records 0 t
     target_and_outer v = outer_and v.listed (aimed v).name

@@ -43,7 +43,7 @@ pub fn words_in(records: &[u8], values: &[u8], p: usize) -> usize
     requires { SmallView records.now values.now p }
     ensures { ((v : View records.now values.now p) → result ≡ words_of (declared_of v.declaration)) × (result ≤ most_words) }
 {
-    if target_of(records, p) != 0 {
+    if target_of(records, p).is_some() {
         return 0;
     }
     storage_words(bits_of(records, values, p), words_of(records, values, p))
@@ -58,7 +58,7 @@ fn good_target(records: &[u8], values: &[u8], p: usize, q: usize) -> bool
     if !is_missing(words_of(records, values, q)) {
         return false;
     }
-    if target_of(records, q) != 0 {
+    if target_of(records, q).is_some() {
         return false;
     }
     fits(
@@ -75,10 +75,9 @@ fn bad_mapping(text: &[u8], records: &[u8], values: &[u8], decls: &[u8], m: usiz
         → result ≡ bad_mapping (outer_of v.listed) (table_of v.listed) (chosen_of v) (chosen_of v).target }
 {
     let p = get16(decls, k) as usize;
-    let t = target_of(records, p);
-    if t == 0 {
+    let Some(t) = target_of(records, p) else {
         return false;
-    }
+    };
     if same_word(text, records, 0, t) {
         return true;
     }

@@ -17,8 +17,7 @@ pub fn owner(records: &[u8], values: &[u8], decls: &[u8], i: usize) -> Option<u8
         return None;
     }
     let d = get16(decls, number as usize) as usize;
-    let target = target_of(records, d);
-    if target != 0 {
+    if let Some(target) = target_of(records, d) {
         return Some(inside16_at(records, target) as u8);
     }
     if is_missing(bits_of(records, values, d)) {

@@ -14,7 +14,7 @@ use chains::chains::chain_key;
 use chains::mains::main_key;
 use gathering::gathering::gather_all;
 use keys::{NO_KEY, earlier};
-use racing::telling::{Reason, race_reason};
+use racing::telling::{Race, race_reason};
 use reader::declaring::Standing;
 
 // The race at the place of a text that stands in the table.
@@ -26,7 +26,7 @@ fn race_at(
     m: usize,
     n: usize,
     place: usize,
-) -> Reason
+) -> Option<Race>
     requires checks { Checks text.now (refused 53 place) × Reread text.now records.now decls.now m n }
     requires in_bounds { 65536 ≤ length memo.old }
     ensures { (d : Description) → flatten d ≡ (scan text.now).tokens → reason_in result ≡ reason53 (declarations d) place }
@@ -36,20 +36,20 @@ fn race_at(
         chain_key(records, decls, m, n),
     );
     if first != NO_KEY {
-        return Reason::Nothing;
+        return None;
     }
     gather_all(records, decls, memo, m, n);
     race_reason(records, decls, memo, m, n, place)
 }
 
 // The reason of 53 at the place.
-pub fn race_of(text: &[u8], a: &mut [u8], b: &mut [u8], c: &mut [u8], place: usize) -> Reason
+pub fn race_of(text: &[u8], a: &mut [u8], b: &mut [u8], c: &mut [u8], place: usize) -> Option<Race>
     requires checks { Checks text.now (refused 53 place) × (length text.now ≤ longest_text) }
     requires in_bounds { (65536 ≤ length a.old) × ((65536 ≤ length b.old) × (65536 ≤ length c.old)) }
     ensures { (d : Description) → flatten d ≡ (scan text.now).tokens → reason_in result ≡ reason53 (declarations d) place }
 {
     match reread(text, a, b, c) {
-        Standing::Refused(_, _) => Reason::Nothing,
+        Standing::Refused(_, _) => None,
         Standing::Fine(m, n) => race_at(text, a, b, c, m, n, place),
     }
 }

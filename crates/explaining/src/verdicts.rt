@@ -9,7 +9,7 @@ ghost use Rattle.explaining.specs.Reasons.{Judged, Explained};
 use crate::activations::chain_of;
 use crate::races::race_of;
 use chaining::walks::Numbers;
-use racing::telling::Reason;
+use racing::telling::Race;
 
 // A race has this in front.
 const RACE: u32 = 1;
@@ -27,19 +27,19 @@ fn nothing_more() -> Numbers
 }
 
 // The numbers of a race.
-fn race_numbers(found: Reason) -> Numbers
+fn race_numbers(found: Option<Race>) -> Numbers
     ensures { result.n ≡ reason_numbers (reason_in found) }
 {
     match found {
-        Reason::Nothing => nothing_more(),
-        Reason::Race(earlier, later, carrier, name, who) => {
+        None => nothing_more(),
+        Some(race) => {
             let mut numbers = nothing_more();
             numbers.n[0] = RACE;
-            numbers.n[1] = earlier;
-            numbers.n[2] = later;
-            numbers.n[3] = carrier;
-            numbers.n[4] = name;
-            numbers.n[5] = who;
+            numbers.n[1] = race.earlier;
+            numbers.n[2] = race.later;
+            numbers.n[3] = race.carrier;
+            numbers.n[4] = race.name;
+            numbers.n[5] = race.who;
             numbers
         }
     }

@@ -43,11 +43,10 @@ pub fn gather(
     if mark_in(memo, 9 * k) != 0 {
         return;
     }
-    let body = body_at(records, decls, m, n, k);
-    if body == 0 {
+    let Some(body) = body_at(records, decls, m, n, k) else {
         remember(memo, k, nothing());
         return;
-    }
+    };
     descend(records, decls, memo, m, n, body, left - 1);
     let t = touched(records, decls, memo, m, n, body);
     remember(memo, k, t);

@@ -41,11 +41,9 @@ fn declaration(text: &[u8], records: &mut [u8], decls: &[u8], labels: &mut [u8],
         → Partly v.before records.new decls.now v.description (k + 1) }
 {
     let name = get16(decls, k) as usize;
-    let start = body_of(records, name);
-    if start == 0 {
-        return;
+    if let Some(start) = body_of(records, name) {
+        body(text, records, labels, name, start);
     }
-    body(text, records, labels, name, start);
 }
 
 // All m declarations, where names are spelled. The room takes the labels around an action; what it holds afterwards means nothing.

@@ -67,13 +67,13 @@ pub fn is_storage(records: &[u8], values: &[u8], p: usize) -> bool
     requires { View records.now values.now p }
     ensures { (v : View records.now values.now p) → result ≡ is_storage_of (declared_of v.declaration) }
 {
-    if target_of(records, p) != 0 {
-        return false;
-    }
-    match bits_of(records, values, p) {
-        Names::Missing => false,
-        Names::Unnamed => true,
-        Names::Span(_, _) => true,
+    match target_of(records, p) {
+        Some(_) => false,
+        None => match bits_of(records, values, p) {
+            Names::Missing => false,
+            Names::Unnamed => true,
+            Names::Span(_, _) => true,
+        },
     }
 }
 
@@ -90,8 +90,8 @@ pub fn test_number(
     ensures { (v : Written text.now records.now decls.now m n) → Test (whole v) (folded test.now) result }
 {
     let k = number_of(text, records, decls, m, n, test)?;
-    if body_at(records, decls, m, n, k) == 0 {
-        return None;
+    match body_at(records, decls, m, n, k) {
+        Some(_) => Some(k),
+        None => None,
     }
-    Some(k)
 }

@@ -13,10 +13,10 @@ pub fn is_storage(records: &[u8], values: &[u8], p: usize) -> bool
     requires { View records.now values.now p }
     ensures { (v : View records.now values.now p) → result ≡ is_storage_of (declared_of v.declaration) }
 {
-    if target_of(records, p) != 0 {
-        return false;
+    match target_of(records, p) {
+        Some(_) => false,
+        None => !is_missing(bits_of(records, values, p)),
     }
-    !is_missing(bits_of(records, values, p))
 }
 
 fn is_unnamed(a: Names) -> bool

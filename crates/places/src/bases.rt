@@ -130,11 +130,10 @@ pub fn base_of(
 {
     let p = get16(decls, k) as usize;
     let own = bits_of(records, values, p);
-    let t = target_of(records, p);
-    if t == 0 {
+    let Some(t) = target_of(records, p) else {
         let words = words_of(records, values, p);
         return storage(get16(firsts, k) as u64, words, own);
-    }
+    };
     let on = lies_on(records, values, decls, firsts, m, p, t);
     Base {
         first: on.first,

@@ -37,7 +37,7 @@ fn words_in(records: &[u8], values: &[u8], p: usize) -> u64
     ensures { (result ≤ most_words) × ((v : View records.now values.now p)
         → words_of (declared_of v.declaration) ≤ most_words → result ≡ words_of (declared_of v.declaration)) }
 {
-    if target_of(records, p) != 0 {
+    if target_of(records, p).is_some() {
         return 0;
     }
     let own = bits_of(records, values, p);

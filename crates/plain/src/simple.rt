@@ -46,7 +46,7 @@ fn call_fault(records: &[u8], decls: &[u8], i: usize) -> u32
         return fault_key(41, place);
     }
     let declared = get16(decls, number as usize) as usize;
-    if body_of(records, declared) == 0 {
+    if body_of(records, declared).is_none() {
         return fault_key(41, place);
     }
     NO_KEY

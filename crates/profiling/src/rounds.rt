@@ -67,7 +67,7 @@ fn declaration(
     requires { PartAt records.now decls.now table.now next.old room.old t k }
     ensures { Part records.now decls.now table.now next.old next.new t k }
 {
-    if body_at(records, decls, t.m, t.n, k) == 0 {
+    if body_at(records, decls, t.m, t.n, k).is_none() {
         put_known(next, k, true, UNSEEN);
         return;
     }

@@ -1,5 +1,5 @@
 -- What is found of members and groups by their first tokens.
-use Rattle.std.specs.Prelude.{ℕ, ◌+◌, ◌<◌, ◌≤◌, ◌≡◌, List, [], ◌∷◌, length, drop}
+use Rattle.std.specs.Prelude.{ℕ, ◌+◌, ◌<◌, ◌≤◌, ◌≡◌, List, [], ◌∷◌, length, drop, Option as Found, Some, None}
 use Rattle.std.proofs.Math.Option.{Option, none, some}
 use Rattle.rules.specs.Text.Tokens.{Semi, kind_no}
 use Rattle.rules.specs.Grammar.Trees.{Tokens}
@@ -8,6 +8,7 @@ use Rattle.reading.specs.Kinds.{next_no}
 use Rattle.reading.specs.Behind.{behind}
 use Rattle.reading.specs.Reading.{Reading, table_of}
 use Rattle.rules.specs.Reasons.{Member, earliest, Race, race_at, race_from}
+use Rattle.racing.specs.declared.members.Pair.{Pair}
 use Rattle.racing.specs.Groups.{member_here, group_here, race_here}
 
 -- the members from the token i up to that at k, each with `;` behind it
@@ -43,16 +44,16 @@ pub record RacesAt (records decls : List ℕ) (m n from later place r : ℕ) : T
   pub one : r < later → (v : Reading records decls m n) (xs : List Member) → PathTo v from later xs → race_at place xs (member_at v later) ≡ some (race_of v r later)
   pub nothing : later ≤ r → (v : Reading records decls m n) (xs : List Member) → PathTo v from later xs → race_at place xs (member_at v later) ≡ none
 
--- two members by their tokens, or the same token twice where there are none
-pub record FoundIn (records decls : List ℕ) (m n : ℕ) (earlier later : ℕ) (race : (v : Reading records decls m n) → Option Race) : Type 0 where
-  pub one : earlier < later → (v : Reading records decls m n) → race v ≡ some (race_of v earlier later)
-  pub nothing : later ≤ earlier → (v : Reading records decls m n) → race v ≡ none
+-- two members by their tokens, if there are two
+pub record FoundIn (records decls : List ℕ) (m n : ℕ) (p : Found Pair) (race : (v : Reading records decls m n) → Option Race) : Type 0 where
+  pub apart : {q : Pair} → p ≡ Some q → q.earlier < q.later
+  pub one : {q : Pair} → p ≡ Some q → (v : Reading records decls m n) → race v ≡ some (race_of v q.earlier q.later)
+  pub nothing : p ≡ None → (v : Reading records decls m n) → race v ≡ none
 
 -- in the group at from
-abbrev pub InGroup : (records decls : List ℕ) (m n from place earlier later : ℕ) → Type 0
-InGroup records decls m n from place earlier later =
-    FoundIn records decls m n earlier later (λ v. race_from place [] (group_here (table_of v) (drop from v.tokens)))
+abbrev pub InGroup : (records decls : List ℕ) (m n from place : ℕ) → Found Pair → Type 0
+InGroup records decls m n from place p = FoundIn records decls m n p (λ v. race_from place [] (group_here (table_of v) (drop from v.tokens)))
 
 -- among all groups from the token i on
-pub record InTokens (records decls : List ℕ) (m n i place earlier later : ℕ) : Type 0 where
-  pub found : FoundIn records decls m n earlier later (λ v. race_here (table_of v) place (drop i v.tokens))
+pub record InTokens (records decls : List ℕ) (m n i place : ℕ) (p : Found Pair) : Type 0 where
+  pub found : FoundIn records decls m n p (λ v. race_here (table_of v) place (drop i v.tokens))

@@ -1,9 +1,8 @@
 -- A reason, as the code has it.
-use Rattle.rules.specs.Reasons.{no_reason, racing}
-use Rattle.rules.specs.Reasons.{Reason as Said}
-use Rattle.racing.specs.declared.telling.Reason.{Reason}
-use Rattle.racing.specs.declared.telling.Reason.TheVariants.{Nothing, Race}
+use Rattle.std.specs.Prelude.{Option, Some, None}
+use Rattle.rules.specs.Reasons.{Reason, no_reason, racing}
+use Rattle.racing.specs.declared.telling.Race.{Race}
 
-abbrev pub reason_in : Reason → Said
-reason_in Nothing = no_reason
-reason_in (Race e l c n w) = racing e l c n w
+abbrev pub reason_in : Option Race → Reason
+reason_in None = no_reason
+reason_in (Some r) = racing r.earlier r.later r.carrier r.name r.who

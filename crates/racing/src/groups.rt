@@ -12,23 +12,16 @@ use whole::walks::opens;
 const BEFORE_DECLARATIONS: usize = 3;
 
 // The race of the member at the place.
-pub fn race(records: &[u8], decls: &[u8], memo: &[u8], m: usize, n: usize, place: usize) -> Pair
+pub fn race(records: &[u8], decls: &[u8], memo: &[u8], m: usize, n: usize, place: usize) -> Option<Pair>
     requires { Reading records.now decls.now m n × ((72 * m ≤ length memo.now) × Complete records.now decls.now memo.now m n) }
-    ensures { InTokens records.now decls.now m n 3 place result.earlier result.later }
+    ensures { InTokens records.now decls.now m n 3 place result }
 {
-    let mut i = BEFORE_DECLARATIONS;
-    while i < n {
-        let at = i;
-        i += 1;
-        if opens(kind_at(records, at)) {
-            let found = race_in(records, decls, memo, m, n, at + 1, place);
-            if found.earlier < found.later {
-                return found;
+    for i in BEFORE_DECLARATIONS..n {
+        if opens(kind_at(records, i)) {
+            if let Some(found) = race_in(records, decls, memo, m, n, i + 1, place) {
+                return Some(found);
             }
         }
     }
-    Pair {
-        earlier: 0,
-        later: 0,
-    }
+    None
 }

@@ -9,7 +9,7 @@ use reading::kinds::{end_of, kind_of};
 use rules::kinds::SEMI;
 use whole::groups::{place_of, races};
 
-// Two members by their tokens. Where the later one is not behind the earlier one there are none.
+// Two members by their tokens.
 #[derive(Clone, Copy)]
 pub struct Pair {
     pub earlier: usize,
@@ -70,23 +70,20 @@ pub fn race_in(
     n: usize,
     from: usize,
     place: usize,
-) -> Pair
+) -> Option<Pair>
     requires { Reading records.now decls.now m n × ((72 * m ≤ length memo.now) × Complete records.now decls.now memo.now m n) }
-    ensures { InGroup records.now decls.now m n from place result.earlier result.later }
+    ensures { InGroup records.now decls.now m n from place result }
 {
     let mut i = from;
     loop {
         let at = i;
         let earlier = earlier_at(records, decls, memo, m, n, from, at, place);
         if earlier < at {
-            return Pair { earlier, later: at };
+            return Some(Pair { earlier, later: at });
         }
         let end = end_of(records, n, at);
         if kind_of(records, n, end) != SEMI {
-            return Pair {
-                earlier: 0,
-                later: 0,
-            };
+            return None;
         }
         i = end + 1;
     }

@@ -12,11 +12,14 @@ use gathering::touches::touched;
 use sharing::{first_conflict, name_place, writers};
 use whole::groups::place_of;
 
-// Nothing; or the places of both members, the carrier's number, the place of its name, and who writes it.
+// The places of both members, the carrier's number, the place of its name, and who writes it.
 #[derive(Clone, Copy)]
-pub enum Reason {
-    Nothing,
-    Race(u32, u32, u32, u32, u32),
+pub struct Race {
+    pub earlier: u32,
+    pub later: u32,
+    pub carrier: u32,
+    pub name: u32,
+    pub who: u32,
 }
 
 // What the members at two tokens share.
@@ -28,7 +31,7 @@ fn shared(
     n: usize,
     earlier: usize,
     later: usize,
-) -> Reason
+) -> Option<Race>
     requires { Reading records.now decls.now m n × ((72 * m ≤ length memo.now) × Complete records.now decls.now memo.now m n) }
     ensures { (v : Reading records.now decls.now m n) → reason_in result ≡ race_reason (table_of v) (some (race_of v earlier later)) }
 {
@@ -36,13 +39,19 @@ fn shared(
     let t = touched(records, decls, memo, m, n, later);
     let k = first_conflict(u, t, m);
     if m <= k {
-        return Reason::Nothing;
+        return None;
     }
     let first = place_of(records, decls, m, n, earlier);
     let second = place_of(records, decls, m, n, later);
     let name = name_place(records, decls, m, n, k);
     let who = writers(u, t, k);
-    Reason::Race(first as u32, second as u32, k as u32, name as u32, who)
+    Some(Race {
+        earlier: first as u32,
+        later: second as u32,
+        carrier: k as u32,
+        name: name as u32,
+        who,
+    })
 }
 
 // The reason of 53 at the place.
@@ -53,15 +62,10 @@ pub fn race_reason(
     m: usize,
     n: usize,
     place: usize,
-) -> Reason
+) -> Option<Race>
     requires { Reading records.now decls.now m n × ((72 * m ≤ length memo.now) × Complete records.now decls.now memo.now m n) }
     ensures { (v : Reading records.now decls.now m n) → reason_in result ≡ reason53 (table_of v) place }
 {
-    let found = race(records, decls, memo, m, n, place);
-    let earlier = found.earlier;
-    let later = found.later;
-    if later <= earlier {
-        return Reason::Nothing;
-    }
-    shared(records, decls, memo, m, n, earlier, later)
+    let found = race(records, decls, memo, m, n, place)?;
+    shared(records, decls, memo, m, n, found.earlier, found.later)
 }

@@ -1,5 +1,5 @@
 -- The body of a declaration in the table, and what it activates.
-use Rattle.std.specs.Prelude.{ℕ, ◌≡◌, List, drop}
+use Rattle.std.specs.Prelude.{ℕ, ◌<◌, ◌≡◌, List, drop, Option as Found, Some, None}
 use Rattle.std.proofs.Math.Option.{none, some}
 use Rattle.rules.specs.Text.Tokens.{Info}
 use Rattle.rules.specs.Grammar.Trees.{Tokens, Action, block, action_tokens, Members}
@@ -19,7 +19,8 @@ pub record Block (a : Action) : Type 0 where
   pub others : Members
   pub is : a ≡ block opens first others
 
--- the body of the declaration k stands from b on; at 0 there is none
-pub record Body {records decls : List ℕ} {m n : ℕ} (v : Reading records decls m n) (k b : ℕ) : Type 0 where
-  pub missing : b ≡ 0 → body_number (table_of v) (some k) ≡ none
-  pub there : (b ≡ 0 → ⊥) → (a : Action) × (body_number (table_of v) (some k) ≡ some a) × Block a × ((rest : Tokens) × (drop b v.tokens ≡ action_tokens a rest))
+-- the body of the declaration k stands from b on
+pub record Body {records decls : List ℕ} {m n : ℕ} (v : Reading records decls m n) (k : ℕ) (b : Found ℕ) : Type 0 where
+  pub missing : b ≡ None → body_number (table_of v) (some k) ≡ none
+  pub past : {s : ℕ} → b ≡ Some s → 0 < s
+  pub there : {s : ℕ} → b ≡ Some s → (a : Action) × (body_number (table_of v) (some k) ≡ some a) × Block a × ((rest : Tokens) × (drop s v.tokens ≡ action_tokens a rest))

@@ -6,8 +6,8 @@ ghost use Rattle.reading.specs.Bodies.{Body};
 use cells::get16;
 use table::views::body_of;
 
-// The BEGIN of the body of the declaration k, or 0.
-pub fn body_at(records: &[u8], decls: &[u8], m: usize, n: usize, k: usize) -> usize
+// The BEGIN of the body of the declaration k.
+pub fn body_at(records: &[u8], decls: &[u8], m: usize, n: usize, k: usize) -> Option<usize>
     requires { Reading records.now decls.now m n × (k < m) }
     ensures { (v : Reading records.now decls.now m n) → Body v k result }
 {

@@ -28,8 +28,7 @@ pub fn carrier(records: &[u8], decls: &[u8], m: usize, n: usize, i: usize) -> us
         return NONE;
     }
     let p = get16(decls, k) as usize;
-    let target = target_of(records, p);
-    if target != 0 {
+    if let Some(target) = target_of(records, p) {
         return inside_at(records, target);
     }
     if kind_at(records, p + 1) == BECOMES {

@@ -16,7 +16,7 @@ pub fn main_number(records: &[u8], decls: &[u8], m: usize, n: usize) -> usize
 {
     for k in 0..m {
         let p = get16(decls, k) as usize;
-        if main_of(records, p) != 0 {
+        if main_of(records, p).is_some() {
             return inside_at(records, p);
         }
     }

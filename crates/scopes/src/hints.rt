@@ -17,6 +17,7 @@ fn hint_cell(records: &[u8], name: usize) -> usize
 }
 
 // The hint for the name, or 0 where the labels' part is too short to have one.
+// 0 is a hint like any other that may be wrong.
 pub fn hint(records: &[u8], labels: &[u8], name: usize) -> usize
     requires { 8 * name + 8 ≤ length records.now }
 {

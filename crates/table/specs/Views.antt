@@ -1,5 +1,5 @@
 -- A declaration whose name is the token i of a table, and its parts: words, bits, and what `:=` gives it.
-use Rattle.std.specs.Prelude.{ℕ, ◌+◌, ◌<◌, ◌≡◌, List, [], ◌∷◌, length, drop}
+use Rattle.std.specs.Prelude.{ℕ, ◌+◌, ◌<◌, ◌≡◌, List, [], ◌∷◌, length, drop, Option as Found, Some, None, ⊤}
 use Rattle.std.proofs.Math.Option.{Option, none, some}
 use Rattle.rules.specs.Text.Tokens.{Name, Const, LBra, RBra, Less, Colon, MAIN, Info, Token, tk}
 use Rattle.rules.specs.Grammar.Trees.{Tokens, Action, body, meaning_tokens, Given, carrier, given, words, with_bits, bare_body, MainBits, main_bits_tokens, Declaration, plain, main, declarations_tokens}
@@ -35,17 +35,21 @@ given_part (main k n o e b a m) = given e (body b a m)
 abbrev pub words_size_of : Declaration → ℕ
 words_size_of d = length (words_tokens d [])
 
--- what `:=` gives stands from r on; 0 where there is none
-abbrev pub GivenAt : Tokens → ℕ → Given → Tokens → Type 0
-GivenAt ts r carrier rest = r ≡ 0
-GivenAt ts r (given e m) rest = (0 < r) × (drop r ts ≡ meaning_tokens m rest)
+-- what `:=` gives stands from r on
+abbrev pub GivenAt : Tokens → Found ℕ → Given → Tokens → Type 0
+GivenAt ts None carrier rest = ⊤
+GivenAt ts (Some r) carrier rest = ⊥
+GivenAt ts None (given e m) rest = ⊥
+GivenAt ts (Some r) (given e m) rest = (0 < r) × (drop r ts ≡ meaning_tokens m rest)
 
--- a body stands from r on; 0 where there is none
-abbrev pub BodyAt : Tokens → ℕ → Option Action → Type 0
-BodyAt ts r none = r ≡ 0
-BodyAt ts r (some a) = (0 < r) × ((j : ℕ) × ActionAt ts r a j)
+-- a body stands from r on
+abbrev pub BodyAt : Tokens → Found ℕ → Option Action → Type 0
+BodyAt ts None none = ⊤
+BodyAt ts (Some r) none = ⊥
+BodyAt ts None (some a) = ⊥
+BodyAt ts (Some r) (some a) = (0 < r) × ((j : ℕ) × ActionAt ts r a j)
 
--- the name of a mapping's target is the token r, and its bits stand behind it; 0 where there is none
+-- the name of a mapping's target is the token r, and its bits stand behind it
 pub record TargetStands (ts : Tokens) (r : ℕ) (t : Target) : Type 0 where
   pub past : 0 < r
   pub within : r < length ts
@@ -57,11 +61,15 @@ pub record TargetStands (ts : Tokens) (r : ℕ) (t : Target) : Type 0 where
   pub ends : next.kind ≡ Less → ⊥
   pub reads : drop (r + 1) ts ≡ main_bits_tokens bits (next ∷ rest)
 
-abbrev pub TargetAt : Tokens → ℕ → Option Target → Type 0
-TargetAt ts r none = r ≡ 0
-TargetAt ts r (some t) = TargetStands ts r t
+abbrev pub TargetAt : Tokens → Found ℕ → Option Target → Type 0
+TargetAt ts None none = ⊤
+TargetAt ts (Some r) none = ⊥
+TargetAt ts None (some t) = ⊥
+TargetAt ts (Some r) (some t) = TargetStands ts r t
 
--- MAIN is the token r; 0 where there is none
-abbrev pub MainAt : Tokens → ℕ → Option Info → Type 0
-MainAt ts r none = r ≡ 0
-MainAt ts r (some k) = (0 < r) × ((r < length ts) × (token_at ts r ≡ tk MAIN k))
+-- MAIN is the token r
+abbrev pub MainAt : Tokens → Found ℕ → Option Info → Type 0
+MainAt ts None none = ⊤
+MainAt ts (Some r) none = ⊥
+MainAt ts None (some k) = ⊥
+MainAt ts (Some r) (some k) = (0 < r) × ((r < length ts) × (token_at ts r ≡ tk MAIN k))

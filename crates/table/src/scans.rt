@@ -8,16 +8,11 @@ use rules::kinds::{BEGIN, COMMA, END, NEXT, SEMI};
 pub const SEPARATOR: u8 = 0;
 
 // Whether it stands behind an action: `,`, `;`, END or NEXT.
+#[tactic(auto, unfolding(crate::specs::Scans::separates, rules::specs::Whole::Sets::member))]
 fn separates(kind: u8) -> bool
     ensures { result ≡ separates kind }
 {
-    match kind {
-        COMMA => true,
-        SEMI => true,
-        END => true,
-        NEXT => true,
-        _ => false,
-    }
+    matches!(kind, COMMA | SEMI | END | NEXT)
 }
 
 // Whether it is what is looked for.
@@ -34,10 +29,7 @@ fn stops(goal: u8, kind: u8) -> bool
 pub fn halts(goal: u8, d: usize, kind: u8) -> bool
     ensures { result ≡ halts goal d kind }
 {
-    if d == 0 {
-        return stops(goal, kind);
-    }
-    false
+    d == 0 && stops(goal, kind)
 }
 
 // How many BEGINs are open behind a token, with d before it.

@@ -82,47 +82,41 @@ pub fn bits_of(records: &[u8], values: &[u8], i: usize) -> Names
     names_at(records, values, i + 1 + size)
 }
 
-// The number of the token behind `:=`, or 0.
-fn given_at(records: &[u8], i: usize) -> usize
+// The number of the token behind `:=`.
+fn given_at(records: &[u8], i: usize) -> Option<usize>
     requires { (values : List ℕ) × View records.now values i }
     ensures { (values : List ℕ) (v : View records.now values i) → GivenAt v.tokens result (given_part v.declaration) (behind v) }
 {
     let p = i + 1 + words_size(records, i);
     let q = p + bits_size(records, p);
     if kind_at(records, q) == BECOMES {
-        return q + 1;
+        return Some(q + 1);
     }
-    0
+    None
 }
 
-// The number of the body's BEGIN, or 0.
-pub fn body_of(records: &[u8], i: usize) -> usize
+// The number of the body's BEGIN.
+pub fn body_of(records: &[u8], i: usize) -> Option<usize>
     requires { (values : List ℕ) × View records.now values i }
     ensures { (values : List ℕ) (v : View records.now values i) → BodyAt v.tokens result (declared_of v.declaration).body }
 {
-    let g = given_at(records, i);
-    if g == 0 {
-        return 0;
-    }
+    let g = given_at(records, i)?;
     if kind_at(records, g) == BEGIN {
-        return g;
+        return Some(g);
     }
-    0
+    None
 }
 
-// The number of the name that a mapping lies on, or 0.
-pub fn target_of(records: &[u8], i: usize) -> usize
+// The number of the name that a mapping lies on.
+pub fn target_of(records: &[u8], i: usize) -> Option<usize>
     requires { (values : List ℕ) × View records.now values i }
     ensures { (values : List ℕ) (v : View records.now values i) → TargetAt v.tokens result (declared_of v.declaration).target }
 {
-    let g = given_at(records, i);
-    if g == 0 {
-        return 0;
-    }
+    let g = given_at(records, i)?;
     if kind_at(records, g) == BEGIN {
-        return 0;
+        return None;
     }
-    g
+    Some(g)
 }
 
 // The names of the bits that a mapping lies on.
@@ -130,21 +124,20 @@ pub fn target_bits(records: &[u8], values: &[u8], i: usize) -> Names
     requires { View records.now values.now i }
     ensures { (v : View records.now values.now i) → result ≡ shown_target (declared_of v.declaration).target }
 {
-    let t = target_of(records, i);
-    if t == 0 {
-        return Names::Missing;
+    match target_of(records, i) {
+        None => Names::Missing,
+        Some(t) => names_at(records, values, t + 1),
     }
-    names_at(records, values, t + 1)
 }
 
-// The number of the MAIN before the name, or 0.
-pub fn main_of(records: &[u8], i: usize) -> usize
+// The number of the MAIN before the name.
+pub fn main_of(records: &[u8], i: usize) -> Option<usize>
     requires { (values : List ℕ) × View records.now values i }
     ensures { (values : List ℕ) (v : View records.now values i) → MainAt v.tokens result (declared_of v.declaration).mainly }
 {
     let before = i - 1;
     if kind_at(records, before) == MAIN {
-        return before;
+        return Some(before);
     }
-    0
+    None
 }

@@ -139,10 +139,9 @@ fn body_key(
     requires { Written text.now records.now decls.now m n × (Roomy records.now decls.now room.old m n × (k < m)) }
     ensures { BodyKey text.now records.now decls.now room.old room.new m n k result }
 {
-    let body = body_at(records, decls, m, n, k);
-    if body == 0 {
+    let Some(body) = body_at(records, decls, m, n, k) else {
         return NO_KEY;
-    }
+    };
     walk_key(text, records, decls, room, m, n, body)
 }
 

@@ -1,8 +1,8 @@
 -- Laws of the length of an access: by the names of its bits it is the one that the rules give, and it fits.
 -- Assumes nothing.
-use Rattle.std.specs.Prelude.{ℕ, ◌<◌, ◌≤◌, min, max, ◌≡◌, refl, Bool, true, false, not, leb, ltb, eqb}
+use Rattle.std.specs.Prelude.{ℕ, ◌<◌, ◌≤◌, min, max, ◌≡◌, refl, Bool, true, false, not, leb, ltb, Some, None, is_none, unwrap_or}
 use Rattle.std.proofs.Math.Option.{Option, none, some}
-use Rattle.std.proofs.Common.{arith, ltb-false, leb-true, ne_eqb}
+use Rattle.std.proofs.Common.{arith, ltb-false, leb-true}
 use Rattle.rules.specs.Limits.{most_bits}
 use Rattle.rules.specs.Grammar.Trees.{bit, upto, Bits, all_bits, bits}
 use Rattle.rules.specs.Declarations.{Names as Span-of, names, how_many, BitNames, one_unnamed, these, bit_count, main_names}
@@ -14,8 +14,7 @@ use Rattle.table.specs.Shown.{shown_bits}
 use Rattle.table.specs.declared.views.Names.{Names}
 use Rattle.table.specs.declared.views.Names.TheVariants.{Missing, Unnamed, Span}
 use Rattle.accesses.specs.Laws.Tests.{both_true, either_false}
-use Rattle.table.specs.Operators.{pick}
-use Rattle.accesses.specs.Lengths.{Short, part_length, access_length}
+use Rattle.accesses.specs.Lengths.{Short, kept, part_length, access_length}
 
 pub shown_short : (b : Option BitNames) → large_bits b ≡ false → Short (shown_bits b)
 shown_short none e = tt
@@ -41,38 +40,43 @@ inside_fewer s t e =
     let r = among_within s t.right (both_true (among s t.right) _ q.1).0 in
     omega arith
 
--- 42 where the length is 0
+never : {A : Type 0} → ◌≡◌ {A = ℕ} 0 1 → A
+never e = absurd (omega arith)
+
+-- 42 where there is no length
 named_judged : (p : ℕ) (b : BitNames) (s : Span-of)
     → judged_as (when (not (inside b s)) 42 p) (how_many s)
-    ≡ judged_as (when (eqb (part_length (shown_bits (some b)) s.left s.right) 0) 42 p) (part_length (shown_bits (some b)) s.left s.right)
+    ≡ judged_as (when (is_none (part_length (shown_bits (some b)) s.left s.right)) 42 p) (unwrap_or (part_length (shown_bits (some b)) s.left s.right) 0)
 unfolding inside
 named_judged p one_unnamed s = refl
 named_judged p (these b) s = go (inside (these b) s)
   where
-    go : (t : Bool) → judged_as (when (not t) 42 p) (how_many s) ≡ judged_as (when (eqb (pick t (how_many s) 0) 0) 42 p) (pick t (how_many s) 0)
-    go true = rw (ne_eqb (how_many s) 0 (λ z. omega (arith, how_many_some s)))
+    go : (t : Bool) → judged_as (when (not t) 42 p) (how_many s)
+        ≡ judged_as (when (is_none (kept t (how_many s))) 42 p) (unwrap_or (kept t (how_many s)) 0)
+    go true = refl
     go false = refl
 
 pub bits_judged_lem : (p : ℕ) (b : BitNames) (x : Bits) → let n = access_length (shown_bits (some b)) (shown_bits (main_names (access_bits x))) in
-    bits_judged p b x ≡ judged_as (when (eqb n 0) 42 p) n
+    bits_judged p b x ≡ judged_as (when (is_none n) 42 p) (unwrap_or n 0)
 unfolding bit_count
 bits_judged_lem p one_unnamed all_bits = refl
-bits_judged_lem p (these s) all_bits = rw (ne_eqb (how_many s) 0 (λ z. omega (arith, how_many_some s)))
+bits_judged_lem p (these s) all_bits = refl
 bits_judged_lem p b (bits l n (bit g)) = named_judged p b (names n.value n.value)
 bits_judged_lem p b (bits l n (upto c m g)) = named_judged p b (names n.value m.value)
 
--- a length fits, where the declared bits do
-pub access_fits : (own given : Names) → Short own → access_length own given ≤ most_bits
-access_fits Missing Missing h = omega arith
-access_fits Missing Unnamed h = omega arith
-access_fits Missing (Span l r) h = omega arith
-access_fits Unnamed Missing h = omega arith
-access_fits Unnamed Unnamed h = omega arith
-access_fits Unnamed (Span l r) h = omega arith
-access_fits (Span a b) Missing h = h.0
-access_fits (Span a b) Unnamed h = omega arith
-access_fits (Span a b) (Span l r) h = go (inside (these (names a b)) (names l r)) (inside_fewer (names a b) (names l r))
+-- a length is a number of bits, and fits where the declared bits do
+pub access_fits : (own given : Names) → Short own → {n : ℕ} → access_length own given ≡ Some n → (0 < n) × (n ≤ most_bits)
+access_fits Missing Missing h e = never (cc)
+access_fits Missing Unnamed h e = never (cc)
+access_fits Missing (Span l r) h e = never (cc)
+access_fits Unnamed Missing h {n} e = let q : 1 ≡ n = cc in (omega arith, omega arith)
+access_fits Unnamed Unnamed h e = never (cc)
+access_fits Unnamed (Span l r) h e = never (cc)
+access_fits (Span a b) Missing h {n} e = let q : how_many (names a b) ≡ n = cc in (omega (arith, how_many_some (names a b)), omega (arith, h.0))
+access_fits (Span a b) Unnamed h e = never (cc)
+access_fits (Span a b) (Span l r) h {n} e = go (inside (these (names a b)) (names l r)) (inside_fewer (names a b) (names l r)) e
   where
-    go : (t : Bool) → (t ≡ true → how_many (names l r) ≤ how_many (names a b)) → pick t (how_many (names l r)) 0 ≤ most_bits
-    go true f = let q = f refl in let u = h.0 in omega arith
-    go false f = omega arith
+    go : (t : Bool) → (t ≡ true → how_many (names l r) ≤ how_many (names a b)) → kept t (how_many (names l r)) ≡ Some n
+        → (0 < n) × (n ≤ most_bits)
+    go true f e = let q : how_many (names l r) ≡ n = cc in (omega (arith, how_many_some (names l r)), omega (arith, f refl, h.0))
+    go false f e = never (cc)

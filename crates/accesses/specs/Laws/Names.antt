@@ -1,7 +1,7 @@
 -- Laws of a name in an access: each way in which it is judged by its declaration.
 -- Assumes nothing.
-use Rattle.std.specs.Prelude.{ℕ, ◌+◌, ◌*◌, ◌<◌, ◌≤◌, ◌≡◌, refl, Bool, true, false, not, List, [], ◌∷◌, ◌++◌, eqb, length, drop}
-use Rattle.std.proofs.Common.{sym, ap, ◌∙◌, arith, ne_eqb}
+use Rattle.std.specs.Prelude.{ℕ, ◌+◌, ◌*◌, ◌<◌, ◌≤◌, ◌≡◌, refl, Bool, true, false, not, List, [], ◌∷◌, ◌++◌, length, drop, Some, None, is_none, unwrap_or}
+use Rattle.std.proofs.Common.{sym, ap, ◌∙◌, arith}
 use Rattle.std.proofs.Math.Option.{Option, none, some}
 use Rattle.rules.specs.Text.Tokens.{Name, kind_no, Token, tk}
 use Rattle.rules.specs.Limits.{longest_text}
@@ -60,7 +60,7 @@ present_bits (some c) e = (c, refl)
 
 with_bits : (p : ℕ) (words own given : Names) (t : Bool) (w : Option Span-of) (c : BitNames) (x : Index) (g : Bits)
     → fits_words words t ≡ subscripted w x → own ≡ shown_bits (some c) → given ≡ shown_bits (main_names (access_bits g)) → let n = access_length own given in
-    access_judged p w (some c) x g ≡ judged_as (when (not (fits_words words t)) 41 p ++ when (eqb n 0) 42 p) (sound_bits (when (eqb n 0) 42 p) n)
+    access_judged p w (some c) x g ≡ judged_as (when (not (fits_words words t)) 41 p ++ when (is_none n) 42 p) (sound_bits (when (is_none n) 42 p) (unwrap_or n 0))
 with_bits p words own given t w c x g f o h = rw (f, o, h, bits_judged_lem p c g)
 
 module _ (p : ℕ) {words own given : Names} {t : Bool} {w : Option Span-of} {b : Option BitNames} {x : Index} {g : Bits} (s : Shows words own given t w b x g) where
@@ -75,22 +75,22 @@ module _ (p : ℕ) {words own given : Names} {t : Bool} {w : Option Span-of} {b 
     fits = ap (λ n. fits_words n t) s.words_shown ∙ ap (fits_words (shown_words w)) s.index_shown ∙ fits_words_lem w x
 
     by_length : let n = access_length own given in
-        access_judged p w b x g ≡ judged_as (when (not (fits_words words t)) 41 p ++ when (eqb n 0) 42 p) (sound_bits (when (eqb n 0) 42 p) n)
+        access_judged p w b x g ≡ judged_as (when (not (fits_words words t)) 41 p ++ when (is_none n) 42 p) (sound_bits (when (is_none n) 42 p) (unwrap_or n 0))
     by_length =
         ap (λ b. access_judged p w b x g) bits_are.1
         ∙ with_bits p words own given t w bits_are.0 x g fits (s.own_shown ∙ ap shown_bits bits_are.1) s.given_shown
 
     pub access_unfit : fits_words words t ≡ false → p ≤ longest_text → Weighs (key (fault 41 p)) 0 (access_judged p w b x g)
-    access_unfit e l = rw (by_length, e) (weighs_first p (sound_bits (when (eqb (access_length own given) 0) 42 p) (access_length own given)) (eqb (access_length own given) 0) l)
+    access_unfit e l = rw (by_length, e) (weighs_first p (sound_bits (when (is_none (access_length own given)) 42 p) (unwrap_or (access_length own given) 0)) (is_none (access_length own given)) l)
 
     module _ (fit : fits_words words t ≡ true) where
-      pub access_outside : access_length own given ≡ 0 → p ≤ longest_text → Weighs (key (fault 42 p)) 0 (access_judged p w b x g)
+      pub access_outside : access_length own given ≡ None → p ≤ longest_text → Weighs (key (fault 42 p)) 0 (access_judged p w b x g)
       access_outside e l = rw (by_length, fit, e) (weighs_one 42 p 0 (omega arith) l)
 
-      pub access_sound : (access_length own given ≡ 0 → ⊥) → Short own → Weighs no_key (access_length own given) (access_judged p w b x g)
-      access_sound n h =
-          let l : 0 < access_length own given = omega (arith, n) in
-          rw (by_length, fit, ne_eqb (access_length own given) 0 n) (weighs_sound (access_length own given) refl l (access_fits own given h))
+      pub access_sound : {n : ℕ} → access_length own given ≡ Some n → Short own → Weighs no_key n (access_judged p w b x g)
+      access_sound {n} e h =
+          let f = access_fits own given h e in
+          rw (by_length, fit, e) (weighs_sound n refl f.0 f.1)
 
 -- by what the name's cell says
 place_small : {records values decls : List ℕ} (s : Scene records values decls) (i : ℕ) (t : Token) → i < length s.tokens → token_at s.tokens i ≡ t

@@ -1,6 +1,6 @@
 -- The body of one declaration: where it stands, and what its action and its labels come to.
 -- Assumes nothing.
-use Rattle.std.specs.Prelude.{ℕ, ◌+◌, ◌<◌, ◌≤◌, min, ◌≡◌, false, List, [], ◌∷◌, length, drop}
+use Rattle.std.specs.Prelude.{ℕ, ◌+◌, ◌<◌, ◌≤◌, min, ◌≡◌, false, List, [], ◌∷◌, length, drop, Some, None}
 use Rattle.std.proofs.Math.Path.{refl, sym, ap}
 use Rattle.std.proofs.Common.{ap₂, ◌∙◌, arith}
 use Rattle.std.proofs.Math.Option.{Option, none, some}
@@ -22,8 +22,7 @@ use Rattle.keys.specs.Laws.Keys.{least_append}
 use Rattle.table.specs.Laws.Positions.{here, behind_far}
 use Rattle.records.specs.Words.{NameAt}
 use Rattle.table.specs.Views.{View, behind, given_part, words_size_of, BodyAt}
-use Rattle.table.specs.Laws.Views.{bits_part}
-use Rattle.table.specs.Laws.Views.{name_token, bits_reads}
+use Rattle.table.specs.Laws.Views.{bits_part, name_token, bits_reads, no_body}
 use Rattle.stacks.specs.Stacks.{stacked_words, Stacked, NameView, Pushed}
 use Rattle.room.specs.Bodies.{index_from}
 use Rattle.stacks.specs.Laws.Kept.{none_stacked}
@@ -120,13 +119,9 @@ module _ {text records values decls room : List ℕ} {i : ℕ} (v : BodyView tex
   name_at : NameAt v.stage.tokens i
   name_at = let n = name_token v.stands in record { within = n.0; kind = ap (λ (t : Token). t.kind) n.1 }
 
-  pub bodiless : {b : ℕ} → BodyAt v.stage.tokens b its_body → b ≡ 0 → no_key ≡ least_key (faults_of_body v)
+  pub bodiless : BodyAt v.stage.tokens None its_body → no_key ≡ least_key (faults_of_body v)
   unfolding least_by
-  bodiless {b} at z = go its_body refl at
-    where
-      go : (o : Option Action) → its_body ≡ o → BodyAt v.stage.tokens b o → no_key ≡ least_key (faults_of_body v)
-      go none e _ = sym (ap (λ o. least_key (body_faults (outer_of v.stage) (table_of v.stage) word o)) e)
-      go (some a) e at = absurd (omega (arith, at.0))
+  bodiless at = sym (ap (λ o. least_key (body_faults (outer_of v.stage) (table_of v.stage) word o)) (no_body v.stage.tokens None its_body at refl))
 
   -- the body begins with the token b
   pub record Begins (b : ℕ) : Type 0 where
@@ -139,11 +134,11 @@ module _ {text records values decls room : List ℕ} {i : ℕ} (v : BodyView tex
     pub shallow : action_nest action ≤ deepest
     pub past : 0 < b
 
-  pub begins : {b : ℕ} → BodyAt v.stage.tokens b its_body → (b ≡ 0 → ⊥) → Begins b
-  begins {b} at n = go its_body refl at
+  pub begins : {b : ℕ} → BodyAt v.stage.tokens (Some b) its_body → Begins b
+  begins {b} at = go its_body refl at
     where
-      go : (o : Option Action) → its_body ≡ o → BodyAt v.stage.tokens b o → Begins b
-      go none e at = absurd (n at)
+      go : (o : Option Action) → its_body ≡ o → BodyAt v.stage.tokens (Some b) o → Begins b
+      go none e at = absurd at
       go (some a) e at =
           let f = follows v.stands.following in
           record {

@@ -1,6 +1,6 @@
 -- Laws of filling: no chain of activations is over 16 bodies long, so each body's count is known once those that it activates are, and it is right.
 use Prim.Native.Nat.{ℕ, zero, suc, ◌+◌, ◌-◌, ◌*◌, ◌<◌, ◌≤◌}
-use Rattle.std.specs.Prelude.{◌≡◌, Bool, ◌||◌, List, [], ◌∷◌, map, length, drop}
+use Rattle.std.specs.Prelude.{◌≡◌, Bool, ◌||◌, List, [], ◌∷◌, map, length, drop, Some, None}
 use Rattle.std.proofs.Math.Path.{refl, sym, ap}
 use Rattle.std.proofs.Common.{◌∙◌}
 use Rattle.std.proofs.Math.Bool.{false}
@@ -112,13 +112,13 @@ scene {decls = decls} {table} v right h = record {
 }
 
 -- the body of the declaration k
-module _ {records decls : List ℕ} {m n : ℕ} (v : Reading records decls m n) (k b : ℕ) (within : k < m) (is : Body v k b) (there : b ≡ 0 → ⊥) where
+module _ {records decls : List ℕ} {m n : ℕ} (v : Reading records decls m n) (k b : ℕ) (within : k < m) (is : Body v k (Some b)) where
   abbrev act : Action
-  act = (is.there there).0
+  act = (is.there refl).0
 
   its : (declared_of (declares v k within).declaration).body ≡ some act
   unfolding body_number
-  its = sym (rw ((declares v k within).found, body_number)) ∙ (is.there there).1
+  its = sym (rw ((declares v k within).found, body_number)) ∙ (is.there refl).1
 
   shallow : action_nest act ≤ deepest
   shallow =
@@ -128,8 +128,8 @@ module _ {records decls : List ℕ} {m n : ℕ} (v : Reading records decls m n) 
 
   walked : (counts : Word → ℕ) → run counts 0 outset (drop b v.tokens) ≡ walk counts act 0
   walked counts =
-      let q = (is.there there).2 in
-      let y = (is.there there).3 in
+      let q = (is.there refl).2 in
+      let y = (is.there refl).3 in
       ap (run counts 0 outset) (y.1 ∙ ap (λ a. action_tokens a y.0) q.is)
       ∙ (body_read counts q.opens q.first q.others y.0 (omega (arith, shallow, ap action_nest q.is)) ∙ ap (λ a. walk counts a 0) (sym q.is))
 
@@ -208,46 +208,45 @@ module _ {records decls table room : List ℕ} {m n i : ℕ} (f : Fillable recor
             done = λ v. record { there = λ z. some_there (sym here ∙ (ap (cell 8 new) (own v) ∙ z)) };
           }
 
-      module _ {body : ℕ} (is : (v : Reading records decls m n) → Body v k body) where
-        pub fill_bodiless : {new : List ℕ} → body ≡ 0 → new ≡ put_cell 8 table k 1 → Fills records decls table new m n i
-        unfolding body_of
-        fill_bodiless z p =
-            fill_put unchanged refl (omega arith) p
-            (λ v w q. count_none (table_of v.reading) 15 w (ap (body_number (table_of v.reading)) q ∙ (is v.reading).missing z))
+      pub fill_bodiless : {new : List ℕ} → ((v : Reading records decls m n) → Body v k None) → new ≡ put_cell 8 table k 1 → Fills records decls table new m n i
+      unfolding body_of
+      fill_bodiless is p =
+          fill_put unchanged refl (omega arith) p
+          (λ v w q. count_none (table_of v.reading) 15 w (ap (body_number (table_of v.reading)) q ∙ (is v.reading).missing refl))
 
-        module _ (z : body ≡ 0 → ⊥) where
-          -- a chain that is not over `left` bodies long goes down to bodies whose chains are not over one less
-          pub chain_down : (left : ℕ) → ((v : Ready records decls m n) → ShortFrom v i left)
-              → (v : Ready records decls m n) → any_name (chain_over (table_of v.reading) (left - 1)) (calls_from v body) ≡ false
-          unfolding chain_over
-          chain_down left short v = by left (short v)
+      module _ {body : ℕ} (is : (v : Reading records decls m n) → Body v k (Some body)) where
+        -- a chain that is not over `left` bodies long goes down to bodies whose chains are not over one less
+        pub chain_down : (left : ℕ) → ((v : Ready records decls m n) → ShortFrom v i left)
+            → (v : Ready records decls m n) → any_name (chain_over (table_of v.reading) (left - 1)) (calls_from v body) ≡ false
+        unfolding chain_over
+        chain_down left short v = by left (short v)
+          where
+            by : (y : ℕ) → ShortFrom v i y → any_name (chain_over (table_of v.reading) (y - 1)) (calls_from v body) ≡ false
+            by zero x = absurd (false≢true (sym x))
+            by (suc y) x =
+                let ds = table_of v.reading in
+                let less : suc y - 1 ≡ y = omega arith in
+                ap (λ t. any_name (chain_over ds t) (calls_from v body)) less
+                ∙ (body_calls (is v.reading) (chain_over ds y)
+                ∙ (ap (λ a. any_name (chain_over ds y) (calls_in a)) (sym (act_of ds (word_at v.reading.tokens i) k (number v))) ∙ x))
+
+        module _ {below : List ℕ} (d : Descends records decls table below m n body) (size : length below ≡ length table) where
+          pub to_walk : {now : List ℕ} → length now ≡ length room → Beginning records below now m n
+          to_walk s = record { scene = scene f.ready (d.grows.right f.ready) (omega (arith, f.table_room)); space = omega (arith, f.space) }
+
+          pub fill_body : {new : List ℕ} {x : ℕ} → Walked records below m n body x → new ≡ put_cell 8 below k x → Fills records decls table new m n i
+          unfolding body_of scene
+          fill_body {x = x} t p = fill_put d.grows size t.low p right
             where
-              by : (y : ℕ) → ShortFrom v i y → any_name (chain_over (table_of v.reading) (y - 1)) (calls_from v body) ≡ false
-              by zero x = absurd (false≢true (sym x))
-              by (suc y) x =
+              right : (v : Ready records decls m n) (w : Word) → number_of (table_of v.reading) w ≡ some k → x ≡ count_down (table_of v.reading) longest_chain w
+              right v w q =
                   let ds = table_of v.reading in
-                  let less : suc y - 1 ≡ y = omega arith in
-                  ap (λ t. any_name (chain_over ds t) (calls_from v body)) less
-                  ∙ (body_calls (is v.reading) (chain_over ds y) z
-                  ∙ (ap (λ a. any_name (chain_over ds y) (calls_in a)) (sym (act_of ds (word_at v.reading.tokens i) k (number v))) ∙ x))
-
-          module _ {below : List ℕ} (d : Descends records decls table below m n body) (size : length below ≡ length table) where
-            pub to_walk : {now : List ℕ} → length now ≡ length room → Beginning records below now m n
-            to_walk s = record { scene = scene f.ready (d.grows.right f.ready) (omega (arith, f.table_room)); space = omega (arith, f.space) }
-
-            pub fill_body : {new : List ℕ} {x : ℕ} → Walked records below m n body x → new ≡ put_cell 8 below k x → Fills records decls table new m n i
-            unfolding body_of scene
-            fill_body {x = x} t p = fill_put d.grows size t.low p right
-              where
-                right : (v : Ready records decls m n) (w : Word) → number_of (table_of v.reading) w ≡ some k → x ≡ count_down (table_of v.reading) longest_chain w
-                right v w q =
-                    let ds = table_of v.reading in
-                    let r = d.grows.right v in
-                    let there = (is v.reading).there z in
-                    t.is (scene v r (omega (arith, f.table_room)))
-                    ∙ (walked v.reading k body declared (is v.reading) z (count_in v below)
-                    ∙ body_known ds (count_in v below) r.counts w there.0 (ap (body_number ds) q ∙ there.1) (no_chains ds v.whole w)
-                    (ap (λ a. any_name (unknown v below) (calls_in a)) (act_of ds w k q) ∙ (sym (body_calls (is v.reading) (unknown v below) z) ∙ d.done v)))
+                  let r = d.grows.right v in
+                  let there = (is v.reading).there refl in
+                  t.is (scene v r (omega (arith, f.table_room)))
+                  ∙ (walked v.reading k body declared (is v.reading) (count_in v below)
+                  ∙ body_known ds (count_in v below) r.counts w there.0 (ap (body_number ds) q ∙ there.1) (no_chains ds v.whole w)
+                  (ap (λ a. any_name (unknown v below) (calls_in a)) (act_of ds w k q) ∙ (sym (body_calls (is v.reading) (unknown v below)) ∙ d.done v)))
 
 -- a chain goes on only where it may
 pub some_left : {records decls : List ℕ} {m n : ℕ} (i left : ℕ) → Ready records decls m n → ((v : Ready records decls m n) → ShortFrom v i left) → 1 ≤ left

@@ -17,7 +17,7 @@ use Rattle.table.specs.Declarations.{declaration_list, all_declared}
 use Rattle.table.specs.Lookups.{nth}
 use Rattle.table.specs.Views.{MainAt}
 use Rattle.table.specs.Laws.Views.{name_token}
-use Rattle.links.specs.Mains.{MainIn}
+use Rattle.links.specs.Mains.{MainIn, MainNamed}
 use Rattle.links.specs.Laws.Mains.{Searching, view_at}
 use Rattle.reading.specs.Reading.{Reading, table_of}
 use Rattle.reading.specs.Laws.Names.{number_bound}
@@ -26,41 +26,8 @@ use Rattle.counting.specs.Holding.{enough}
 use Rattle.reading.specs.Indexes.{number_or, index_of}
 use Rattle.walking.specs.Walking.{table_size}
 use Rattle.bounding.specs.Filling.{Ready, count_in, ShortFrom, Blank, Fillable, Fills}
-use Rattle.bounding.specs.Mains.{MainNamed, Longest}
+use Rattle.bounding.specs.Mains.{Longest}
 use Rattle.bounding.specs.Laws.Knowing.{no_chains}
-
--- the first declaration with MAIN before its name has MAIN's name
-main_named : (list : List Declaration) (k : ℕ) (x : Declaration) (i : Info)
-    → ((j : ℕ) (y : Declaration) → get_elem? list j ≡ some y → j < k → (declared_of y).mainly ≡ none) → get_elem? list k ≡ some x → (declared_of x).mainly ≡ some i
-    → (declared_of x).name.word ≡ main_name (map declared_of list)
-unfolding main_name
-main_named [] k x i p h e = absurd (none-ne-some x h)
-main_named (y ∷ list) zero x i p h e =
-    let q : y ≡ x = some-injective y x h in
-    let its : (declared_of y).mainly ≡ some i = ap (λ (z : Declaration). (declared_of z).mainly) q ∙ e in
-    ap (λ (z : Declaration). (declared_of z).name.word) (sym q)
-    ∙ sym (ap (λ (o : Option Info). elim o [ none ↦ main_name (map declared_of list) | some i ↦ (declared_of y).name.word ]) its)
-main_named (y ∷ list) (suc k) x i p h e =
-    main_named list k x i (λ j z g l. p (suc j) z g (omega arith)) h e
-    ∙ sym (ap (λ (o : Option Info). elim o [ none ↦ main_name (map declared_of list) | some i ↦ (declared_of y).name.word ]) (p 0 y refl (omega arith)))
-
-module _ {records decls : List ℕ} {m k : ℕ} (s : Searching records decls m k) (more : k < m) {name : ℕ} (e : name ≡ cell 2 decls k) {r : ℕ}
-    (says : (v : MainIn records decls m) → MainAt v.tokens r (declared_of (view_at s more e v).declaration).mainly) where
-  pub main_here : (r ≡ 0 → ⊥) → (v : MainIn records decls m) → MainNamed v name
-  main_here n v = by (declared_of (view_at s more e v).declaration).mainly refl (says v)
-    where
-      by : (o : Option Info) → (declared_of (view_at s more e v).declaration).mainly ≡ o → MainAt v.tokens r o → MainNamed v name
-      by none f z = absurd (n z)
-      by (some i) f z =
-          let here = name_token (view_at s more e v).stands in
-          let x = nth (declaration_list v.description) k (omega (arith, v.count)) in
-          record {
-            within = here.0;
-            kind = (v.holds.entry name here.0).kind ∙ ap (λ (t : Token). kind_no t.kind) here.1;
-            named =
-                ap (λ (t : Token). t.info.word) here.1
-                ∙ (main_named (declaration_list v.description) k x.declaration i (s.passed v) x.found f ∙ ap main_name (sym (all_declared v.description)));
-          }
 
 -- a description as the search for MAIN reads it
 abbrev pub main_in : {records decls : List ℕ} {m n : ℕ} → Ready records decls m n → MainIn records decls m

@@ -1,5 +1,5 @@
 -- The activations that are heard in the text of a body are those of its tree, in the same order.
-use Rattle.std.specs.Prelude.{ℕ, suc, ◌≡◌, refl, drop}
+use Rattle.std.specs.Prelude.{ℕ, suc, ◌≡◌, refl, drop, Some, None}
 use Rattle.std.proofs.Common.{sym, ◌∙◌}
 use Rattle.std.proofs.Math.Path.{ap}
 use mathlib.Core.List.{List, [], ◌++◌, append_assoc, append-nil}
@@ -101,13 +101,13 @@ mutual
   calls_more (selected_more i s) es = calls_selected s es
 
 -- of a body that stands in the table
-module _ {records decls : List ℕ} {m n k b : ℕ} {v : Reading records decls m n} (x : Body v k b) where
-  pub heard_calls : (b ≡ 0 → ⊥) → calls_of (heard 0 0 (drop b v.tokens)) ≡ calls_in (act_at (table_of v) k)
-  unfolding calls_of
-  heard_calls q =
-      let y = body_events x q in
-      ap calls_of y.2 ∙ (calls_action y.0 [] ∙ (append-nil (calls_in (act_of y.0)) ∙ ap calls_in (sym y.1)))
+pub heard_calls : {records decls : List ℕ} {m n k b : ℕ} {v : Reading records decls m n} → Body v k (Some b)
+    → calls_of (heard 0 0 (drop b v.tokens)) ≡ calls_in (act_at (table_of v) k)
+unfolding calls_of
+heard_calls x =
+    let y = body_events x in
+    ap calls_of y.2 ∙ (calls_action y.0 [] ∙ (append-nil (calls_in (act_of y.0)) ∙ ap calls_in (sym y.1)))
 
-  pub missing_calls : b ≡ 0 → calls_in (act_at (table_of v) k) ≡ []
-  unfolding calls_in calls_i
-  missing_calls q = ap (λ (o : Option Action). calls_in (act_or o)) (x.missing q)
+pub missing_calls : {records decls : List ℕ} {m n k : ℕ} {v : Reading records decls m n} → Body v k None → calls_in (act_at (table_of v) k) ≡ []
+unfolding calls_in calls_i
+missing_calls x = ap (λ (o : Option Action). calls_in (act_or o)) (x.missing refl)

@@ -1,5 +1,5 @@
 -- Laws of the first activation of a level, and of the body that a refusal 51 names.
-use Rattle.std.specs.Prelude.{ℕ, ◌+◌, ◌-◌, ◌<◌, ◌≤◌, ◌≡◌, refl, Bool, ◌&&◌, List, [], ◌∷◌}
+use Rattle.std.specs.Prelude.{ℕ, ◌+◌, ◌-◌, ◌<◌, ◌≤◌, ◌≡◌, refl, Bool, ◌&&◌, List, [], ◌∷◌, Some, None}
 use Rattle.std.proofs.Math.Path.{sym, ap}
 use Rattle.std.proofs.Common.{◌∙◌, arith, eq-eqb, ne_eqb, drop_of_length-le}
 use Rattle.std.proofs.Math.Bool.{true, false, and-false}
@@ -90,16 +90,17 @@ module _ {records decls : List ℕ} {m n from : ℕ} {w : List ℕ} {all : Bool}
       pub choose_on : r ≡ false → Choosing records decls m n from w all next deep new_mode
       choose_on t = record { shallow = (c.found h).shallow; counted = (c.found h).counted; reading = inv.reading; left = λ v. here v ∙ rw t refl }
 
--- the declaration k, with its body at b
-module _ {records decls : List ℕ} {m n k b : ℕ} (w : List ℕ) (all : Bool) (is : (v : Reading records decls m n) → Body v k b) where
-  pub first_bodiless : b ≡ 0 → (v : Reading records decls m n) → Numbered m m (first_in (table_of v) (in_level (table_of v) w all) (calls_in (act_at (table_of v) k)))
+-- the declaration k, without a body and with one at b
+module _ {records decls : List ℕ} {m n k : ℕ} (w : List ℕ) (all : Bool) where
+  pub first_bodiless : ((v : Reading records decls m n) → Body v k None)
+      → (v : Reading records decls m n) → Numbered m m (first_in (table_of v) (in_level (table_of v) w all) (calls_in (act_at (table_of v) k)))
   unfolding first_in
-  first_bodiless z v = none_numbered (omega arith) (ap (first_in (table_of v) (in_level (table_of v) w all)) (missing_calls (is v) z))
+  first_bodiless is v = none_numbered (omega arith) (ap (first_in (table_of v) (in_level (table_of v) w all)) (missing_calls (is v)))
 
-  pub first_body : {r : ℕ} → (b ≡ 0 → ⊥)
+  pub first_body : {b r : ℕ} → ((v : Reading records decls m n) → Body v k (Some b))
       → ((v : Reading records decls m n) → Numbered m r (first_in (table_of v) (in_level (table_of v) w all) (calls_of (heard 0 0 (drop b v.tokens)))))
       → (v : Reading records decls m n) → Numbered m r (first_in (table_of v) (in_level (table_of v) w all) (calls_in (act_at (table_of v) k)))
-  first_body z h v = numbered_by (ap (first_in (table_of v) (in_level (table_of v) w all)) (sym (heard_calls (is v) z))) (h v)
+  first_body is h v = numbered_by (ap (first_in (table_of v) (in_level (table_of v) w all)) (sym (heard_calls (is v)))) (h v)
 
 -- the search for the refused body, when the declarations before k are passed
 pub record Seeking (records decls : List ℕ) (m n place k : ℕ) : Type 0 where

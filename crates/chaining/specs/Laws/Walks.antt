@@ -1,8 +1,8 @@
 -- Laws of the walk down a chain.
-use Rattle.std.specs.Prelude.{ℕ, suc, ◌+◌, ◌-◌, ◌<◌, ◌≤◌, ◌≡◌, refl, Bool, not, ◌&&◌, eqb, ltb, length}
+use Rattle.std.specs.Prelude.{ℕ, suc, ◌+◌, ◌-◌, ◌<◌, ◌≤◌, ◌≡◌, refl, Bool, ◌&&◌, eqb, ltb, length, Some, None}
 use Rattle.std.proofs.Common.{sym, ◌∙◌, subst, add-one, arith}
 use Rattle.std.proofs.Math.Path.{ap, ap₂}
-use Rattle.std.proofs.Math.Bool.{true, false, ◌||◌, not-not}
+use Rattle.std.proofs.Math.Bool.{true, false, ◌||◌}
 use mathlib.Core.List.{List, [], ◌∷◌, ◌++◌, append_assoc, append-nil}
 use Rattle.std.proofs.Math.Option.{Option, none, some}
 use Rattle.std.proofs.Math.ListN.{get_elem?, length-append}
@@ -25,12 +25,6 @@ use Rattle.chaining.specs.Laws.Firsts.{level_first}
 use Rattle.chaining.specs.declared.walks.Walk.{Walk}
 use Rattle.chaining.specs.declared.walks.Numbers.{Numbers}
 
-pub is_on : (b : Bool) → not b ≡ false → b ≡ true
-is_on b e = sym (not-not b) ∙ ap not e
-
-is_off : (b : Bool) → not b ≡ true → b ≡ false
-is_off b e = sym (not-not b) ∙ ap not e
-
 -- where a walk begins
 starts_none : (ds : Table) (place : ℕ) → start_of ds place ≡ none → reason51 ds place ≡ no_reason
 unfolding reason51
@@ -49,119 +43,120 @@ starts_at ds place b e = by (refused_body ds place ds) e
     by (some n) e = ap (chain_of ds) e
 
 module _ {records decls : List ℕ} {m n place b : ℕ} (at : (v : Reading records decls m n) → Numbered m b (start_of (table_of v) place)) where
-  pub start_none : {w : Walk} {numbers : Numbers} → m ≤ b → w.going ≡ false → w.numbers ≡ numbers → numbers.n ≡ reason_numbers no_reason
+  pub start_none : {w : Walk} {numbers : Numbers} → m ≤ b → w.body ≡ None → w.numbers ≡ numbers → numbers.n ≡ reason_numbers no_reason
       → Walked records decls m n place longest_chain w
   start_none l g e z = record {
     goes = λ t. impossible (cc);
     ended = λ f v. ap (λ (x : Numbers). x.n) e ∙ (z ∙ ap reason_numbers (sym (starts_none (table_of v) place ((at v).nothing l))));
   }
 
-  pub start_one : (w : Walk) → b < m → w.going ≡ true → w.body ≡ b → ((j : ℕ) → holds w.listed.w j ≡ false) → w.numbers.n ≡ reason_numbers (chained [])
+  pub start_one : (w : Walk) → b < m → w.body ≡ Some b → ((j : ℕ) → holds w.listed.w j ≡ false) → w.numbers.n ≡ reason_numbers (chained [])
       → Walked records decls m n place longest_chain w
   unfolding member
-  start_one w l g e h z = record {
-    goes = λ t v. record {
-      places = [];
-      bodies = [];
-      held = h;
-      numbers = z;
-      count = refl;
-      body_there = omega (arith, e);
-      is = starts_at (table_of v) place w.body ((at v).one l ∙ ap some (sym e));
-    };
+  start_one w l g h z = record {
+    goes = λ {c} t v.
+        let same : b ≡ c = cc in
+        record {
+          places = [];
+          bodies = [];
+          held = h;
+          numbers = z;
+          count = refl;
+          body_there = omega (arith, same);
+          is = starts_at (table_of v) place c ((at v).one l ∙ ap some same);
+        };
     ended = λ f. impossible (cc);
   }
 
 -- one step
 module _ {records decls : List ℕ} {m n place k : ℕ} (level : List ℕ) (all : Bool) (w : Walk)
-    (lev : (v : Reading records decls m n) → Levelled (table_of v) level all k) (x : Walked records decls m n place (k + 1) w) (g : not w.going ≡ false) (small : k < 16)
+    (lev : (v : Reading records decls m n) → Levelled (table_of v) level all k) (x : Walked records decls m n place (k + 1) w) {a : ℕ} (g : w.body ≡ Some a) (small : k < 16)
     {more : Numbers} (put : (v : Reading records decls m n) (places : List ℕ) → w.numbers.n ≡ reason_numbers (chained places)
-    → 2 + length places ≡ 17 - k → more.n ≡ reason_numbers (chained (places ++ (place_in (table_of v) w.body ∷ [])))) {b : Bool} (has : b ≡ holds w.listed.w w.body) where
-  going : (v : Reading records decls m n) → Going (table_of v) m place (suc k) w
-  going v = rw (add-one k) at (x.goes (is_on w.going g) v)
+    → 2 + length places ≡ 17 - k → more.n ≡ reason_numbers (chained (places ++ (place_in (table_of v) a ∷ [])))) {b : Bool} (has : b ≡ holds w.listed.w a) where
+  going : (v : Reading records decls m n) → Going (table_of v) m place (suc k) w a
+  going v = rw (add-one k) at (x.goes g v)
 
-  listed : (v : Reading records decls m n) → more.n ≡ reason_numbers (chained ((going v).places ++ (place_in (table_of v) w.body ∷ [])))
+  listed : (v : Reading records decls m n) → more.n ≡ reason_numbers (chained ((going v).places ++ (place_in (table_of v) a ∷ [])))
   listed v = put v (going v).places (going v).numbers (omega (arith, (going v).count))
 
   -- the chain that is left
   abbrev rest : (v : Reading records decls m n) (c : Option ℕ) → List ℕ
-  rest v c = elim c [ none ↦ [] | some d ↦ chain_behind (table_of v) k (w.body ∷ (going v).bodies) d ]
+  rest v c = elim c [ none ↦ [] | some d ↦ chain_behind (table_of v) k (a ∷ (going v).bodies) d ]
 
-  behind_closed : b ≡ true → (v : Reading records decls m n) → chain_behind (table_of v) (suc k) (going v).bodies w.body ≡ w.body ∷ []
+  behind_closed : b ≡ true → (v : Reading records decls m n) → chain_behind (table_of v) (suc k) (going v).bodies a ≡ a ∷ []
   unfolding chain_behind
   behind_closed t v =
-      ap (λ (y : Bool). elim y [ true ↦ w.body ∷ [] | false ↦ w.body ∷ rest v (first_over (table_of v) k (calls_in (body_of_number (table_of v) w.body))) ])
-      (sym ((going v).held w.body) ∙ (sym has ∙ t))
+      ap (λ (y : Bool). elim y [ true ↦ a ∷ [] | false ↦ a ∷ rest v (first_over (table_of v) k (calls_in (body_of_number (table_of v) a))) ])
+      (sym ((going v).held a) ∙ (sym has ∙ t))
 
-  behind_open : b ≡ false → (v : Reading records decls m n) → chain_behind (table_of v) (suc k) (going v).bodies w.body
-      ≡ w.body ∷ rest v (first_in (table_of v) (in_level (table_of v) level all) (calls_in (act_at (table_of v) w.body)))
+  behind_open : b ≡ false → (v : Reading records decls m n) → chain_behind (table_of v) (suc k) (going v).bodies a
+      ≡ a ∷ rest v (first_in (table_of v) (in_level (table_of v) level all) (calls_in (act_at (table_of v) a)))
   unfolding chain_behind
   behind_open f v =
-      ap (λ (y : Bool). elim y [ true ↦ w.body ∷ [] | false ↦ w.body ∷ rest v (first_over (table_of v) k (calls_in (body_of_number (table_of v) w.body))) ])
-      (sym ((going v).held w.body) ∙ (sym has ∙ f))
-      ∙ ap (λ (y : Option ℕ). w.body ∷ rest v y) (level_first (table_of v) k level all (calls_in (body_of_number (table_of v) w.body)) (lev v))
+      ap (λ (y : Bool). elim y [ true ↦ a ∷ [] | false ↦ a ∷ rest v (first_over (table_of v) k (calls_in (body_of_number (table_of v) a))) ])
+      (sym ((going v).held a) ∙ (sym has ∙ f))
+      ∙ ap (λ (y : Option ℕ). a ∷ rest v y) (level_first (table_of v) k level all (calls_in (body_of_number (table_of v) a)) (lev v))
 
   -- the reason, by what is left behind the body
-  with_rest : (v : Reading records decls m n) (r : List ℕ) → chain_behind (table_of v) (suc k) (going v).bodies w.body ≡ w.body ∷ r
-      → reason51 (table_of v) place ≡ chained (((going v).places ++ (place_in (table_of v) w.body ∷ [])) ++ places_in (table_of v) r)
+  with_rest : (v : Reading records decls m n) (r : List ℕ) → chain_behind (table_of v) (suc k) (going v).bodies a ≡ a ∷ r
+      → reason51 (table_of v) place ≡ chained (((going v).places ++ (place_in (table_of v) a ∷ [])) ++ places_in (table_of v) r)
   unfolding places_in
   with_rest v r e =
       (going v).is ∙ (ap (λ (l : List ℕ). chained ((going v).places ++ places_in (table_of v) l)) e
-      ∙ ap chained (sym (append_assoc (going v).places (place_in (table_of v) w.body ∷ []) (places_in (table_of v) r))))
+      ∙ ap chained (sym (append_assoc (going v).places (place_in (table_of v) a ∷ []) (places_in (table_of v) r))))
 
-  over : {r : Walk} → r.going ≡ false → r.numbers ≡ more
-      → ((v : Reading records decls m n) → chain_behind (table_of v) (suc k) (going v).bodies w.body ≡ w.body ∷ []) → Walked records decls m n place k r
+  over : {r : Walk} → r.body ≡ None → r.numbers ≡ more
+      → ((v : Reading records decls m n) → chain_behind (table_of v) (suc k) (going v).bodies a ≡ a ∷ []) → Walked records decls m n place k r
   unfolding places_in
   over f e h = record {
     goes = λ t. impossible (cc);
     ended = λ q v. ap (λ (y : Numbers). y.n) e ∙ (listed v ∙ ap reason_numbers (sym (with_rest v [] (h v)
-        ∙ ap chained (append-nil ((going v).places ++ (place_in (table_of v) w.body ∷ []))))));
+        ∙ ap chained (append-nil ((going v).places ++ (place_in (table_of v) a ∷ []))))));
   }
 
-  pub step_closed : {r : Walk} → b ≡ true → r.going ≡ false → r.numbers ≡ more → Walked records decls m n place k r
+  pub step_closed : {r : Walk} → b ≡ true → r.body ≡ None → r.numbers ≡ more → Walked records decls m n place k r
   step_closed t f e = over f e (behind_closed t)
 
-  module _ (f : b ≡ false) {c : ℕ} (next : (v : Reading records decls m n) → Numbered m c (first_in (table_of v) (in_level (table_of v) level all) (calls_in (act_at (table_of v) w.body)))) where
-    pub step_none : {r : Walk} → m ≤ c → r.going ≡ false → r.numbers ≡ more → Walked records decls m n place k r
-    step_none l q e = over q e (λ v. behind_open f v ∙ ap (λ (y : Option ℕ). w.body ∷ rest v y) ((next v).nothing l))
+  module _ (f : b ≡ false) {c : ℕ} (next : (v : Reading records decls m n) → Numbered m c (first_in (table_of v) (in_level (table_of v) level all) (calls_in (act_at (table_of v) a)))) where
+    pub step_none : {r : Walk} → m ≤ c → r.body ≡ None → r.numbers ≡ more → Walked records decls m n place k r
+    step_none l q e = over q e (λ v. behind_open f v ∙ ap (λ (y : Option ℕ). a ∷ rest v y) ((next v).nothing l))
 
-    pub step_on : (r : Walk) (one : List ℕ) → c < m → r.going ≡ true → r.body ≡ c → r.numbers ≡ more → ((j : ℕ) → holds one j ≡ eqb j w.body)
+    pub step_on : (r : Walk) (one : List ℕ) → c < m → r.body ≡ Some c → r.numbers ≡ more → ((j : ℕ) → holds one j ≡ eqb j a)
         → ((j : ℕ) → holds r.listed.w j ≡ (holds one j || holds w.listed.w j)) → Walked records decls m n place k r
     unfolding member
-    step_on r one l t i e o u = record {
-      goes = λ y v. record {
-        places = (going v).places ++ (place_in (table_of v) w.body ∷ []);
-        bodies = w.body ∷ (going v).bodies;
-        held = λ j. u j ∙ ap₂ ◌||◌ (o j) ((going v).held j);
-        numbers = ap (λ (z : Numbers). z.n) e ∙ listed v;
-        count = omega (arith, (going v).count, length-append (going v).places (place_in (table_of v) w.body ∷ []));
-        body_there = omega (arith, i);
-        is = with_rest v (chain_behind (table_of v) k (w.body ∷ (going v).bodies) r.body)
-            (behind_open f v ∙ (ap (λ (z : Option ℕ). w.body ∷ rest v z) ((next v).one l)
-            ∙ ap (λ (z : ℕ). w.body ∷ chain_behind (table_of v) k (w.body ∷ (going v).bodies) z) (sym i)));
-      };
+    step_on r one l t e o u = record {
+      goes = λ {d} y v.
+          let same : c ≡ d = cc in
+          record {
+            places = (going v).places ++ (place_in (table_of v) a ∷ []);
+            bodies = a ∷ (going v).bodies;
+            held = λ j. u j ∙ ap₂ ◌||◌ (o j) ((going v).held j);
+            numbers = ap (λ (z : Numbers). z.n) e ∙ listed v;
+            count = omega (arith, (going v).count, length-append (going v).places (place_in (table_of v) a ∷ []));
+            body_there = omega (arith, same);
+            is = with_rest v (chain_behind (table_of v) k (a ∷ (going v).bodies) d)
+                (behind_open f v ∙ (ap (λ (z : Option ℕ). a ∷ rest v z) ((next v).one l)
+                ∙ ap (λ (z : ℕ). a ∷ chain_behind (table_of v) k (a ∷ (going v).bodies) z) same));
+          };
       ended = λ q. impossible (cc);
     }
 
 -- a walk that is over stays so
-pub step_over : {records decls : List ℕ} {m n place k : ℕ} (w : Walk) → not w.going ≡ true → Walked records decls m n place (k + 1) w → Walked records decls m n place k w
-step_over w f x = record { goes = λ t. let e = is_off w.going f in impossible (cc); ended = x.ended }
+pub step_over : {records decls : List ℕ} {m n place k : ℕ} (w : Walk) → w.body ≡ None → Walked records decls m n place (k + 1) w → Walked records decls m n place k w
+step_over w f x = record { goes = λ t. impossible (cc); ended = x.ended }
 
-pub walk_over : {records decls : List ℕ} {m n place : ℕ} (w : Walk) → not w.going ≡ true → Walked records decls m n place 0 w
-    → (v : Reading records decls m n) → w.numbers.n ≡ reason_numbers (reason51 (table_of v) place)
-walk_over w f x = x.ended (is_off w.going f)
-
-pub body_there : {records decls : List ℕ} {m n place k : ℕ} {w : Walk} → Reading records decls m n → Walked records decls m n place k w → w.going ≡ true → w.body < m
-body_there v x g = (x.goes g v).body_there
+pub body_there : {records decls : List ℕ} {m n place k : ℕ} {w : Walk} → Reading records decls m n → Walked records decls m n place k w
+    → (b : ℕ) → w.body ≡ Some b → b < m
+body_there v x b g = (x.goes g v).body_there
 
 -- the last body
-pub last_listed : {records decls : List ℕ} {m n place : ℕ} (w : Walk) {more : Numbers} → not w.going ≡ false → Walked records decls m n place 0 w
+pub last_listed : {records decls : List ℕ} {m n place : ℕ} (w : Walk) {a : ℕ} {more : Numbers} → w.body ≡ Some a → Walked records decls m n place 0 w
     → ((v : Reading records decls m n) (places : List ℕ) → w.numbers.n ≡ reason_numbers (chained places)
-    → 2 + length places ≡ 18 → more.n ≡ reason_numbers (chained (places ++ (place_in (table_of v) w.body ∷ []))))
+    → 2 + length places ≡ 18 → more.n ≡ reason_numbers (chained (places ++ (place_in (table_of v) a ∷ []))))
     → (v : Reading records decls m n) → more.n ≡ reason_numbers (reason51 (table_of v) place)
 unfolding chain_behind places_in
 last_listed w g x put v =
-    let h = x.goes (is_on w.going g) v in put v h.places h.numbers (omega (arith, h.count)) ∙ ap reason_numbers (sym h.is)
+    let h = x.goes g v in put v h.places h.numbers (omega (arith, h.count)) ∙ ap reason_numbers (sym h.is)
 
 -- one level above another
 pub level_above : {records decls : List ℕ} {m n k : ℕ} (w r : List ℕ) (all : Bool) → ((v : Reading records decls m n) → Levelled (table_of v) w all k)

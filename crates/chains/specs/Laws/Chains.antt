@@ -1,5 +1,5 @@
 -- Laws of chains by levels: what a pass over the bodies makes of a level.
-use Rattle.std.specs.Prelude.{ℕ, zero, suc, ◌+◌, ◌-◌, ◌<◌, ◌≤◌, ◌≡◌, refl, Bool, true, false, ◌||◌, ◌&&◌, List, [], ◌∷◌, eqb, ltb, length, drop}
+use Rattle.std.specs.Prelude.{ℕ, zero, suc, ◌+◌, ◌-◌, ◌<◌, ◌≤◌, ◌≡◌, refl, Bool, true, false, ◌||◌, ◌&&◌, List, [], ◌∷◌, eqb, ltb, length, drop, Some, None}
 use Rattle.std.proofs.Math.Path.{sym, ap}
 use Rattle.std.proofs.Common.{ap₂, ◌∙◌, zero-add, suc-add, arith, eq-eqb, ne_eqb, lt-ltb, le-ltb}
 use Rattle.std.proofs.Math.Bool.{or-false, and-true, and-false}
@@ -72,17 +72,17 @@ module _ {records decls : List ℕ} {m n from : ℕ} {w : List ℕ} {all : Bool}
       pub ask_on : r ≡ false → Asking records decls m n from w all next deep new_mode
       ask_on t = record { shallow = (c.found h).shallow; counted = (c.found h).counted; reading = inv.reading; left = λ v. step v ∙ rw t }
 
--- the declaration k, with its body at b
-module _ {records decls : List ℕ} {m n k b : ℕ} (w : List ℕ) (all : Bool) (is : (v : Reading records decls m n) → Body v k b) where
-  pub no_body : b ≡ 0 → (v : Reading records decls m n) → false ≡ activates_one (table_of v) (in_level (table_of v) w all) k
+-- the declaration k, without a body and with one at b
+module _ {records decls : List ℕ} {m n k : ℕ} (w : List ℕ) (all : Bool) where
+  pub no_body : ((v : Reading records decls m n) → Body v k None) → (v : Reading records decls m n) → false ≡ activates_one (table_of v) (in_level (table_of v) w all) k
   unfolding activates_one
-  no_body z v = sym (bodiless_calls (is v) (in_level (table_of v) w all) z)
+  no_body is v = sym (bodiless_calls (is v) (in_level (table_of v) w all))
 
-  pub its_body : {r : Bool} → (b ≡ 0 → ⊥) → ((v : Reading records decls m n) → r ≡ any_name (in_level (table_of v) w all)
-      (calls_of (heard 0 0 (drop b v.tokens))))
+  pub its_body : {b : ℕ} {r : Bool} → ((v : Reading records decls m n) → Body v k (Some b))
+      → ((v : Reading records decls m n) → r ≡ any_name (in_level (table_of v) w all) (calls_of (heard 0 0 (drop b v.tokens))))
       → (v : Reading records decls m n) → r ≡ activates_one (table_of v) (in_level (table_of v) w all) k
   unfolding activates_one
-  its_body z h v = h v ∙ body_calls (is v) (in_level (table_of v) w all) z
+  its_body is h v = h v ∙ body_calls (is v) (in_level (table_of v) w all)
 
 -- a set with one more number, or not
 module _ (k : ℕ) {more : Bool} (s : List ℕ) where

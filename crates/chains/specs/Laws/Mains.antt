@@ -1,7 +1,7 @@
 -- Laws of the faults of 50: what a turn keeps while the declarations are read.
-use Rattle.std.specs.Prelude.{ℕ, ◌+◌, ◌<◌, ◌≤◌, min, ◌≡◌, Bool, true, false, not, ◌||◌, List, ◌∷◌, ◌++◌, eqb, drop}
+use Rattle.std.specs.Prelude.{ℕ, ◌+◌, ◌<◌, ◌≤◌, min, ◌≡◌, Bool, true, false, not, ◌||◌, List, ◌∷◌, ◌++◌, drop, Option as Found, Some, None, is_some}
 use Rattle.std.proofs.Math.Path.{sym}
-use Rattle.std.proofs.Common.{ap, ap₂, ◌∙◌, subst, arith, eq-eqb, ne_eqb, drop_of_length-le}
+use Rattle.std.proofs.Common.{ap, ap₂, ◌∙◌, subst, arith, drop_of_length-le}
 use Rattle.std.proofs.Math.Bool.{or-false, or-true}
 use Rattle.std.proofs.Math.Option.{Option, none, some}
 use Rattle.std.proofs.Math.ListN.{length}
@@ -12,6 +12,7 @@ use Rattle.rules.specs.Faults.Fault.{fault, when}
 use Rattle.rules.specs.Faults.Whole.{mains}
 use Rattle.records.specs.Holds.{place_cell}
 use Rattle.table.specs.Views.{View, MainAt}
+use Rattle.table.specs.Laws.Views.{no_main}
 use Rattle.keys.specs.Keys.{no_key, number_key, least_number_key}
 use Rattle.keys.specs.Laws.Keys.{least_append, least_bounded, least_none}
 use Rattle.reading.specs.Reading.{Reading, table_of}
@@ -20,10 +21,10 @@ use Rattle.reading.specs.Laws.Meanings.{view, table_size_lem}
 use Rattle.chains.specs.Laws.Least.{when_key, next_declared, name_there}
 use Rattle.chains.specs.Mains.{Mainly, second_main}
 
-pub main_there : {records decls : List ℕ} {m n k p r : ℕ} → Reading records decls m n → k < m → p ≡ cell 2 decls k
+pub main_there : {records decls : List ℕ} {m n k p : ℕ} (r : Found ℕ) → Reading records decls m n → k < m → p ≡ cell 2 decls k
     → ((values : List ℕ) (w : View records values p) → MainAt w.tokens r (declared_of w.declaration).mainly) → Mainly records decls m n k r
-main_there {records} {decls} {m} {n} {k} {p} {r} x l at f = record {
-  within = by (declared_of (declares x k l).declaration).mainly (there x l);
+main_there {records} {decls} {m} {n} {k} {p} r x l at f = record {
+  within = λ q e. by q (declared_of (declares x k l).declaration).mainly (subst (λ (y : Found ℕ). MainAt x.tokens y (declared_of (declares x k l).declaration).mainly) e (there x l));
   is = there;
 }
   where
@@ -31,38 +32,34 @@ main_there {records} {decls} {m} {n} {k} {p} {r} x l at f = record {
     there v h = subst (λ (p : ℕ). (values : List ℕ) (w : View records values p) → MainAt w.tokens r (declared_of w.declaration).mainly) at f v.values
         (view v k h)
 
-    by : (o : Option Info) → MainAt x.tokens r o → r < n
-    by none z = omega (arith, (name_there l at x).0, x.count, z)
-    by (some i) z = omega (arith, z.1.0, x.count)
+    by : (q : ℕ) (o : Option Info) → MainAt x.tokens (Some q) o → q < n
+    by q none z = absurd z
+    by q (some i) z = omega (arith, z.1.0, x.count)
 
-module _ {records decls : List ℕ} {m n at : ℕ} (seen : Bool) where
-  pub second_none : at ≡ 0 → (v : Reading records decls m n) (x : Option Info) → MainAt v.tokens at x → no_key ≡ least_number_key (second_main seen x)
-  second_none z v none h = sym (least_none number_key)
-  second_none z v (some i) h = absurd (omega (arith, h.0))
+module _ {records decls : List ℕ} {m n : ℕ} (seen : Bool) (at : Found ℕ) where
+  pub second_none : at ≡ None → (v : Reading records decls m n) (x : Option Info) → MainAt v.tokens at x → no_key ≡ least_number_key (second_main seen x)
+  second_none z v x h = rw (no_main v.tokens at x h (ap is_some z)) (sym (least_none number_key))
 
-  module _ {p : ℕ} (within : at < n) (q : p ≡ place_cell records at) where
+  pub second_first : seen ≡ false → (v : Reading records decls m n) (x : Option Info) → MainAt v.tokens at x → no_key ≡ least_number_key (second_main seen x)
+  second_first e v none h = sym (least_none number_key)
+  second_first e v (some i) h = sym (ap (λ (b : Bool). least_number_key (when b 50 i.place)) e ∙ least_none number_key)
+
+  module _ {q p : ℕ} (there : at ≡ Some q) (within : q < n) (is : p ≡ place_cell records q) where
     pub second_small : Reading records decls m n → p ≤ 32768
-    second_small v = let y = v.ready.holds.entry at (omega (arith, v.count)) in omega (arith, y.place, y.inside, v.ready.holds.short)
+    second_small v = let y = v.ready.holds.entry q (omega (arith, v.count)) in omega (arith, y.place, y.inside, v.ready.holds.short)
 
-    pub second_again : {key : ℕ} → (at ≡ 0 → ⊥) → seen ≡ true → key ≡ number_key (fault 50 p) → (v : Reading records decls m n) (x : Option Info) → MainAt
-        v.tokens at x
+    pub second_again : {key : ℕ} → seen ≡ true → key ≡ number_key (fault 50 p) → (v : Reading records decls m n) (x : Option Info) → MainAt v.tokens at x
         → key ≡ least_number_key (second_main seen x)
-    second_again z e f v none h = absurd (z h)
-    second_again z e f v (some i) h =
-        f ∙ (sym (when_key true 50 p (omega arith) (second_small v))
-        ∙ ap₂ (λ (b : Bool) (y : ℕ). least_number_key (when b 50 y)) (sym e)
-        (q ∙ ((v.ready.holds.entry at (omega (arith, v.count))).place ∙ ap (λ (t : Token). t.info.place) h.1.1)))
-
-pub second_first : {records decls : List ℕ} {m n : ℕ} (seen : Bool) (at : ℕ) → seen ≡ false → (v : Reading records decls m n) (x : Option Info) → MainAt
-    v.tokens at x
-    → no_key ≡ least_number_key (second_main seen x)
-second_first seen at e v none h = sym (least_none number_key)
-second_first seen at e v (some i) h = sym (ap (λ (b : Bool). least_number_key (when b 50 i.place)) e ∙ least_none number_key)
+    second_again {key} e f v x h = by x (subst (λ (y : Found ℕ). MainAt v.tokens y x) there h)
+      where
+        by : (o : Option Info) → MainAt v.tokens (Some q) o → key ≡ least_number_key (second_main seen o)
+        by none z = absurd z
+        by (some i) z =
+            f ∙ (sym (when_key true 50 p (omega arith) (second_small v))
+            ∙ ap₂ (λ (b : Bool) (y : ℕ). least_number_key (when b 50 y)) (sym e)
+            (is ∙ ((v.ready.holds.entry q (omega (arith, v.count))).place ∙ ap (λ (t : Token). t.info.place) z.1.1)))
 
 -- whether MAIN is seen at last
-pub met_unseen : {seen : Bool} (at : ℕ) → seen ≡ false → not (eqb at 0) ≡ (seen || not (eqb at 0))
-met_unseen at e = sym (rw e)
-
 pub main_present : {seen : Bool} → seen ≡ true → no_key ≡ least_number_key (when (not seen) 50 0)
 main_present e = sym (rw e (least_none number_key))
 
@@ -79,31 +76,27 @@ pub record Seeing (records decls : List ℕ) (m n key : ℕ) (seen : Bool) (k : 
 pub none_seen : {records decls : List ℕ} {m n : ℕ} → Reading records decls m n → Seeing records decls m n no_key false 0
 none_seen x = record { within = omega arith; small = omega arith; reading = x; so_far = λ v. omega (arith, least_bounded number_key (mains false (table_of v))) }
 
-met_none : (seen : Bool) (at : ℕ) → at ≡ 0 → (seen || not (eqb at 0)) ≡ seen
-met_none seen at z = ap (λ (b : Bool). seen || not b) (eq-eqb at 0 z) ∙ or-false seen
-
-met_some : (seen : Bool) (at : ℕ) → 0 < at → (seen || not (eqb at 0)) ≡ true
-met_some seen at z = ap (λ (b : Bool). seen || not b) (ne_eqb at 0 (λ e. omega arith)) ∙ or-true seen
-
-one_more : (seen : Bool) (at : ℕ) (d : Declared) (ds : Table) (ts : List Token) → MainAt ts at d.mainly
-    → least_number_key (mains seen (d ∷ ds)) ≡ min (least_number_key (second_main seen d.mainly)) (least_number_key (mains (seen || not (eqb at 0)) ds))
+one_more : (seen : Bool) (at : Found ℕ) (d : Declared) (ds : Table) (ts : List Token) → MainAt ts at d.mainly
+    → least_number_key (mains seen (d ∷ ds)) ≡ min (least_number_key (second_main seen d.mainly)) (least_number_key (mains (seen || is_some at) ds))
 unfolding mains
-one_more seen at d ds ts h = by d.mainly h
+one_more seen at d ds ts h = by at d.mainly h
   where
-    by : (x : Option Info) → MainAt ts at x → least_number_key (elim x [ none ↦ mains seen ds | some i ↦ when seen 50 i.place ++ mains true ds ])
-        ≡ min (least_number_key (second_main seen x)) (least_number_key (mains (seen || not (eqb at 0)) ds))
-    by none z =
-        let e : least_number_key (mains (seen || not (eqb at 0)) ds) ≡ least_number_key (mains seen ds) = ap (λ (b : Bool). least_number_key (mains b ds)) (met_none seen at z) in
+    by : (at : Found ℕ) (x : Option Info) → MainAt ts at x → least_number_key (elim x [ none ↦ mains seen ds | some i ↦ when seen 50 i.place ++ mains true ds ])
+        ≡ min (least_number_key (second_main seen x)) (least_number_key (mains (seen || is_some at) ds))
+    by None none z =
+        let e : least_number_key (mains (seen || false) ds) ≡ least_number_key (mains seen ds) = ap (λ (b : Bool). least_number_key (mains b ds)) (or-false seen) in
         omega (arith, least_none number_key, least_bounded number_key (mains seen ds))
-    by (some i) z =
+    by (Some p) none z = absurd z
+    by None (some i) z = absurd z
+    by (Some p) (some i) z =
         least_append number_key (when seen 50 i.place) (mains true ds)
-        ∙ ap (λ (b : Bool). min (least_number_key (when seen 50 i.place)) (least_number_key (mains b ds))) (sym (met_some seen at z.0))
+        ∙ ap (λ (b : Bool). min (least_number_key (when seen 50 i.place)) (least_number_key (mains b ds))) (sym (or-true seen))
 
 module _ {records decls : List ℕ} {m n key : ℕ} {seen : Bool} {k : ℕ} (inv : Seeing records decls m n key seen k) where
-  pub see_more : {at r next : ℕ} {s : Bool} → k < m → Mainly records decls m n k at
+  pub see_more : (at : Found ℕ) {r next : ℕ} {s : Bool} → k < m → Mainly records decls m n k at
       → ((v : Reading records decls m n) (x : Option Info) → MainAt v.tokens at x → r ≡ least_number_key (second_main seen x))
-      → next ≡ min key r → s ≡ (seen || not (eqb at 0)) → Seeing records decls m n next s (k + 1)
-  see_more {at} {r} {next} {s} h x f q e = record {
+      → next ≡ min key r → s ≡ (seen || is_some at) → Seeing records decls m n next s (k + 1)
+  see_more at {r} {next} {s} h x f q e = record {
     within = omega arith;
     small = omega (arith, inv.small);
     reading = inv.reading;

@@ -1,5 +1,5 @@
 -- Laws of the reason of a verdict.
-use Rattle.std.specs.Prelude.{ℕ, ◌≡◌, List, set}
+use Rattle.std.specs.Prelude.{ℕ, ◌≡◌, List, set, Option as Found}
 use Rattle.std.proofs.Common.{sym, ap, ◌∙◌, arith}
 use Rattle.rules.specs.Text.Scan.{scan}
 use Rattle.rules.specs.Grammar.Trees.{Description, flatten}
@@ -10,13 +10,13 @@ use Rattle.rules.specs.Reasons.{no_reason, racing, reason53, reason51, unexplain
 use Rattle.rules.specs.Reasons.{Reason as Said}
 use Rattle.rules.specs.Calls.Why.{padded, reason_numbers}
 use Rattle.racing.specs.Told.{reason_in}
-use Rattle.racing.specs.declared.telling.Reason.{Reason}
+use Rattle.racing.specs.declared.telling.Race.{Race}
 use Rattle.reasons.specs.Laws.Whole.{whole_refused}
 use Rattle.explaining.specs.Reasons.{verdict_place, Judged, Gives, Explained}
 
 -- the numbers of a race, by its case
-pub numbers_by : {r q : Reason} {ns : List ℕ} → ns ≡ reason_numbers (reason_in q) → r ≡ q → ns ≡ reason_numbers (reason_in r)
-numbers_by h e = h ∙ ap (λ (x : Reason). reason_numbers (reason_in x)) (sym e)
+pub numbers_by : {r q : Found Race} {ns : List ℕ} → ns ≡ reason_numbers (reason_in q) → r ≡ q → ns ≡ reason_numbers (reason_in r)
+numbers_by h e = h ∙ ap (λ (x : Found Race). reason_numbers (reason_in x)) (sym e)
 
 -- a race stands in front of nothing
 pub race_front : (ns : List ℕ) (e l c n w : ℕ) → ns ≡ reason_numbers no_reason

@@ -1,6 +1,6 @@
 -- Laws of gathering: no chain of activations is over 16 bodies long, so each body is gathered once and is right.
 use Prim.Native.Nat.{ℕ, zero, suc, ◌+◌, ◌-◌, ◌*◌, ◌/◌, ◌%◌, ◌<◌, ◌≤◌}
-use Rattle.std.specs.Prelude.{◌≡◌, refl, Bool, true, List, [], ◌∷◌, ◌++◌, eqb, length, drop}
+use Rattle.std.specs.Prelude.{◌≡◌, refl, Bool, true, List, [], ◌∷◌, ◌++◌, eqb, length, drop, Some, None}
 use Rattle.std.proofs.Math.Path.{sym, ap}
 use Rattle.std.proofs.Common.{◌∙◌, subst, append_assoc, append-nil}
 use Rattle.std.proofs.Math.Bool.{false}
@@ -163,21 +163,21 @@ module _ {records decls memo : List ℕ} {m n i k : ℕ} (f : Fillable records d
       done = λ v. record { marked = λ j x z. is_marked s (sym st.marked ∙ (ap (mark_of new) (sym (own v j x)) ∙ z)) };
     }
 
-    module _ {body : ℕ} (is : (v : Reading records decls m n) → Body v k body) where
-      pub fill_bodiless : {new r w : List ℕ} (s : Bool) → body ≡ 0 → ((j : ℕ) → holds r j ≡ false) → ((j : ℕ) → holds w j ≡ false) → s ≡ false
-          → Stored memo new k r w (mark_for s) → Fills records decls memo new m n i
-      unfolding sets_of stops_in member
-      fill_bodiless s z a b c st =
-          fill_stored s same_memo st
-          (λ v j. a j ∙ sym (ap (λ o. member j (sets_of (table_of v) (body_sets (table_of v) longest_chain) (act_or o)).reads) ((is v).missing z)))
-          (λ v j. b j ∙ sym (ap (λ o. member j (sets_of (table_of v) (body_sets (table_of v) longest_chain) (act_or o)).writes) ((is v).missing z)))
-          (λ v. c ∙ sym (ap (λ o. stops_in (body_stops (table_of v) longest_chain) (act_or o)) ((is v).missing z)))
+    pub fill_bodiless : {new r w : List ℕ} (s : Bool) → ((v : Reading records decls m n) → Body v k None) → ((j : ℕ) → holds r j ≡ false) → ((j : ℕ) → holds w j ≡ false) → s ≡ false
+        → Stored memo new k r w (mark_for s) → Fills records decls memo new m n i
+    unfolding sets_of stops_in member
+    fill_bodiless s is a b c st =
+        fill_stored s same_memo st
+        (λ v j. a j ∙ sym (ap (λ o. member j (sets_of (table_of v) (body_sets (table_of v) longest_chain) (act_or o)).reads) ((is v).missing refl)))
+        (λ v j. b j ∙ sym (ap (λ o. member j (sets_of (table_of v) (body_sets (table_of v) longest_chain) (act_or o)).writes) ((is v).missing refl)))
+        (λ v. c ∙ sym (ap (λ o. stops_in (body_stops (table_of v) longest_chain) (act_or o)) ((is v).missing refl)))
 
+    module _ {body : ℕ} (is : (v : Reading records decls m n) → Body v k (Some body)) where
       -- a chain that is not over `left` bodies long goes down to bodies whose chains are not over one less
-      pub chain_down : (left : ℕ) → (body ≡ 0 → ⊥) → ((v : Reading records decls m n) → chain_over (table_of v) left (word_at v.tokens i) ≡ false)
+      pub chain_down : (left : ℕ) → ((v : Reading records decls m n) → chain_over (table_of v) left (word_at v.tokens i) ≡ false)
           → (v : Reading records decls m n) → any_name (chain_over (table_of v) (left - 1)) (calls_of (heard 0 0 (drop body v.tokens))) ≡ false
       unfolding chain_over
-      chain_down left z c v = by left (c v)
+      chain_down left c v = by left (c v)
         where
           by : (y : ℕ) → chain_over (table_of v) y (word_at v.tokens i) ≡ false → any_name (chain_over (table_of v) (y - 1))
               (calls_of (heard 0 0 (drop body v.tokens))) ≡ false
@@ -185,19 +185,19 @@ module _ {records decls memo : List ℕ} {m n i k : ℕ} (f : Fillable records d
           by (suc y) x =
               let less : suc y - 1 ≡ y = omega arith in
               ap (λ (t : ℕ). any_name (chain_over (table_of v) t) (calls_of (heard 0 0 (drop body v.tokens)))) less
-              ∙ (body_calls (is v) (chain_over (table_of v) y) z
+              ∙ (body_calls (is v) (chain_over (table_of v) y)
               ∙ (ap (λ a. any_name (chain_over (table_of v) y) (calls_in a)) (sym (act_of v (f.short v) (word_at v.tokens i) (means_number v i k h e q l))) ∙ x))
 
-      pub fill_body : {below new r w : List ℕ} (s : Bool) → (body ≡ 0 → ⊥) → Grows records decls memo below m n
+      pub fill_body : {below new r w : List ℕ} (s : Bool) → Grows records decls memo below m n
           → ((v : Reading records decls m n) → AllDone v below (calls_of (heard 0 0 (drop body v.tokens))))
           → Gathers records decls below m n body r w s → Stored below new k r w (mark_for s) → Fills records decls memo new m n i
-      fill_body {below} {new} {r} {w} s z g d t st =
+      fill_body {below} {new} {r} {w} s g d t st =
           fill_stored s g st
-          (λ v c. (shown v).reading c ∙ (any_of_body (is v) (read_hit (table_of v) (body_sets (table_of v) longest_chain) c) z ∙ sym
+          (λ v c. (shown v).reading c ∙ (any_of_body (is v) (read_hit (table_of v) (body_sets (table_of v) longest_chain) c) ∙ sym
           (act_reads (table_of v) (body_sets (table_of v) longest_chain) c (act_at (table_of v) k))))
-          (λ v c. (shown v).writing c ∙ (any_of_body (is v) (write_hit (table_of v) (body_sets (table_of v) longest_chain) c) z ∙ sym
+          (λ v c. (shown v).writing c ∙ (any_of_body (is v) (write_hit (table_of v) (body_sets (table_of v) longest_chain) c) ∙ sym
           (act_writes (table_of v) (body_sets (table_of v) longest_chain) c (act_at (table_of v) k))))
-          (λ v. (shown v).stopping ∙ (any_of_body (is v) (stop_hit (body_stops (table_of v) longest_chain)) z ∙ sym
+          (λ v. (shown v).stopping ∙ (any_of_body (is v) (stop_hit (body_stops (table_of v) longest_chain)) ∙ sym
           (act_stops (body_stops (table_of v) longest_chain) (act_at (table_of v) k))))
         where
           shown : (v : Reading records decls m n) → Shown v r w s (heard 0 0 (drop body v.tokens))

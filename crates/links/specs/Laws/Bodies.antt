@@ -1,6 +1,6 @@
 -- Laws of the bodies one after the other: one more is linked, and in the end all are.
 -- Assumes nothing.
-use Rattle.std.specs.Prelude.{ℕ, suc, ◌+◌, ◌*◌, ◌<◌, ◌≤◌, ◌≡◌, List, ◌∷◌, length}
+use Rattle.std.specs.Prelude.{ℕ, suc, ◌+◌, ◌*◌, ◌<◌, ◌≤◌, ◌≡◌, List, ◌∷◌, length, Some, None}
 use Rattle.std.proofs.Math.Path.{refl, subst}
 use Rattle.std.proofs.Common.{sym, ap, ◌∙◌, arith, eqb-true}
 use Rattle.std.proofs.Math.Option.{Option, none, some}
@@ -21,7 +21,7 @@ use Rattle.records.specs.Words.{NameAt, word_at}
 use Rattle.table.specs.Declarations.{DeclaredAt, declaration_list}
 use Rattle.table.specs.Lookups.{Nth, nth}
 use Rattle.table.specs.Views.{View, BodyAt}
-use Rattle.table.specs.Laws.Views.{name_token}
+use Rattle.table.specs.Laws.Views.{name_token, no_body}
 use Rattle.table.specs.Ready.{Ready}
 use Rattle.ways.specs.Seeking.{Ground, Starts}
 use Rattle.records.specs.Kept.{Kept, LinkPut}
@@ -113,7 +113,7 @@ module _ {text records values decls : List ℕ} {ts : Tokens} {d : Description} 
   body_laid = subst (λ i. BodyLaid ts i (body_starts d k) (ends (suc k) d) (declared_of x).body) (sym at_name) place.body
 
   -- where a body is found, it begins
-  pub at_body : (s : ℕ) (a : Action) → (declared_of x).body ≡ some a → BodyAt ts s (some a) → s ≡ body_starts d k
+  pub at_body : (s : ℕ) (a : Action) → (declared_of x).body ≡ some a → BodyAt ts (Some s) (some a) → s ≡ body_starts d k
   at_body s a e b =
       let p : BodyStands ts place.name (body_starts d k) (ends (suc k) d) a = subst (BodyLaid ts place.name (body_starts d k) (ends (suc k) d)) e place.body in
       let f = here ts s _ _ (b.1.1.reads ∙ action_head a _) in
@@ -187,77 +187,73 @@ module _ {text records decls labels : List ℕ} {k : ℕ} (v : PartlyAt text rec
       stands = subst (λ i. DeclaredAt v.tokens i x) (sym e) (v.ready.declared.each k x there.found);
     }
 
-    module _ {start : ℕ} (b : BodyAt view_here.tokens start (declared_of view_here.declaration).body) where
-      pub without_body : start ≡ 0 → Partly v.before records decls d (k + 1)
+    pub without_body : BodyAt view_here.tokens None (declared_of view_here.declaration).body → Partly v.before records decls d (k + 1)
+    unfolding view_here
+    without_body b =
+        one_more (kept_none records (ends k d) (ends (suc k) d))
+        (subst (BodyLinked records (outer_name d).word (declarations d) (declared_of x).name.word (cell 2 decls k) (body_starts d k))
+        (sym (no_body v.tokens None (declared_of x).body b refl)) tt)
+
+    name_late : ends k d ≤ name
+    name_late = omega (arith, at_name v.ready k x there.found, (place v.ready k x there.found).after)
+
+    module _ {start : ℕ} (b : BodyAt view_here.tokens (Some start) (declared_of view_here.declaration).body) where
+      has_body : (a : Action) × ((declared_of x).body ≡ some a) × BodyAt v.tokens (Some start) (some a)
       unfolding view_here
-      without_body z = by (declared_of x).body refl b
+      has_body = by (declared_of x).body refl b
         where
-          by : (o : Option Action) → (declared_of x).body ≡ o → BodyAt v.tokens start o → Partly v.before records decls d (k + 1)
-          by none q c =
-              one_more (kept_none records (ends k d) (ends (suc k) d))
-              (subst (BodyLinked records (outer_name d).word (declarations d) (declared_of x).name.word (cell 2 decls k) (body_starts d k)) (sym q) tt)
-          by (some a) q c = absurd (omega (arith, c.0))
+          by : (o : Option Action) → (declared_of x).body ≡ o → BodyAt v.tokens (Some start) o
+              → (a : Action) × ((declared_of x).body ≡ some a) × BodyAt v.tokens (Some start) (some a)
+          by none q c = absurd c
+          by (some a) q c = (a, q, c)
 
-      module _ (nz : start ≡ 0 → ⊥) where
-        has_body : (a : Action) × ((declared_of x).body ≡ some a) × BodyAt v.tokens start (some a)
-        unfolding view_here
-        has_body = by (declared_of x).body refl b
-          where
-            by : (o : Option Action) → (declared_of x).body ≡ o → BodyAt v.tokens start o
-                → (a : Action) × ((declared_of x).body ≡ some a) × BodyAt v.tokens start (some a)
-            by none q c = absurd (nz c)
-            by (some a) q c = (a, q, c)
+      starts_there : start ≡ body_starts d k
+      starts_there = let (a, q, c) = has_body in at_body v.ready k x there.found start a q c
 
-        starts_there : start ≡ body_starts d k
-        starts_there = let (a, q, c) = has_body in at_body v.ready k x there.found start a q c
+      stands_there : BodyStands v.tokens name start (ends (suc k) d) has_body.0
+      stands_there =
+          let (a, q, c) = has_body in
+          let p : BodyStands v.tokens (cell 2 decls k) (body_starts d k) (ends (suc k) d) a
+          = subst (BodyLaid v.tokens (cell 2 decls k) (body_starts d k) (ends (suc k) d)) q (body_laid v.ready k x there.found) in
+          subst (λ n. BodyStands v.tokens n start (ends (suc k) d) a) (sym e)
+          (subst (λ s. BodyStands v.tokens (cell 2 decls k) s (ends (suc k) d) a) (sym starts_there) p)
 
-        stands_there : BodyStands v.tokens name start (ends (suc k) d) has_body.0
-        stands_there =
-            let (a, q, c) = has_body in
-            let p : BodyStands v.tokens (cell 2 decls k) (body_starts d k) (ends (suc k) d) a
-            = subst (BodyLaid v.tokens (cell 2 decls k) (body_starts d k) (ends (suc k) d)) q (body_laid v.ready k x there.found) in
-            subst (λ n. BodyStands v.tokens n start (ends (suc k) d) a) (sym e)
-            (subst (λ s. BodyStands v.tokens (cell 2 decls k) s (ends (suc k) d) a) (sym starts_there) p)
+      pub body_in : BodyIn ground text records labels name start
+      body_in =
+          let (a, q, c) = has_body in
+          let p = stands_there in
+          let l = name_late in
+          let u = p.past in
+          record {
+            same_text = refl;
+            holds = now_holds;
+            room = v.space;
+            named = subst (NameAt v.tokens) (sym e) (name_there v.ready k x there.found).0;
+            past = p.past;
+            far = omega (arith, ends_rise 0 k d (omega arith), ends_first d);
+            action = a;
+            next = p.next;
+            rest = p.rest;
+            reads = p.reads;
+            ends = p.ends;
+            means = λ t g h n. (v.so_far.kept.inside t (λ f i. omega arith) ∙ v.ready.means.means t h n, v.so_far.kept.link t (λ f i. omega arith));
+            shallow = omega (arith, body_shallow d k x a there.found q, v.ready.shallow);
+          }
 
-        name_late : ends k d ≤ name
-        name_late = omega (arith, at_name v.ready k x there.found, (place v.ready k x there.found).after)
-
-        pub body_in : BodyIn ground text records labels name start
-        body_in =
-            let (a, q, c) = has_body in
-            let p = stands_there in
-            let l = name_late in
-            let u = p.past in
-            record {
-              same_text = refl;
-              holds = now_holds;
-              room = v.space;
-              named = subst (NameAt v.tokens) (sym e) (name_there v.ready k x there.found).0;
-              past = p.past;
-              far = omega (arith, ends_rise 0 k d (omega arith), ends_first d);
-              action = a;
-              next = p.next;
-              rest = p.rest;
-              reads = p.reads;
-              ends = p.ends;
-              means = λ t g h n. (v.so_far.kept.inside t (λ f i. omega arith) ∙ v.ready.means.means t h n, v.so_far.kept.link t (λ f i. omega arith));
-              shallow = omega (arith, body_shallow d k x a there.found q, v.ready.shallow);
-            }
-
-        pub with_body : {now : List ℕ} → BodyDone body_in now → Partly v.before now decls d (k + 1)
-        unfolding body_in
-        with_body {now} f =
-            let (a, q, c) = has_body in
-            let p = stands_there in
-            let i = p.inside in
-            let l = name_late in
-            let w = subst (λ n. word_at v.tokens n ≡ (declared_of x).name.word) (sym e) (name_there v.ready k x there.found).1 in
-            let made : BodyLinked now (outer_name d).word (declarations d) (word_at v.tokens name) name start (some a) = (f.first, f.linked) in
-            one_more (kept_wide (ends k d) (ends (suc k) d) f.kept l i)
-            (subst (BodyLinked now (outer_name d).word (declarations d) (declared_of x).name.word (cell 2 decls k) (body_starts d k)) (sym q)
-            (subst (λ s. BodyLinked now (outer_name d).word (declarations d) (declared_of x).name.word (cell 2 decls k) s (some a)) starts_there
-            (subst (λ n. BodyLinked now (outer_name d).word (declarations d) (declared_of x).name.word n start (some a)) e
-            (subst (λ o. BodyLinked now (outer_name d).word (declarations d) o name start (some a)) w made))))
+      pub with_body : {now : List ℕ} → BodyDone body_in now → Partly v.before now decls d (k + 1)
+      unfolding body_in
+      with_body {now} f =
+          let (a, q, c) = has_body in
+          let p = stands_there in
+          let i = p.inside in
+          let l = name_late in
+          let w = subst (λ n. word_at v.tokens n ≡ (declared_of x).name.word) (sym e) (name_there v.ready k x there.found).1 in
+          let made : BodyLinked now (outer_name d).word (declarations d) (word_at v.tokens name) name start (some a) = (f.first, f.linked) in
+          one_more (kept_wide (ends k d) (ends (suc k) d) f.kept l i)
+          (subst (BodyLinked now (outer_name d).word (declarations d) (declared_of x).name.word (cell 2 decls k) (body_starts d k)) (sym q)
+          (subst (λ s. BodyLinked now (outer_name d).word (declarations d) (declared_of x).name.word (cell 2 decls k) s (some a)) starts_there
+          (subst (λ n. BodyLinked now (outer_name d).word (declarations d) (declared_of x).name.word n start (some a)) e
+          (subst (λ o. BodyLinked now (outer_name d).word (declarations d) o name start (some a)) w made))))
 
 -- the loop: whatever description it is
 pub record Going (text before decls : List ℕ) (m : ℕ) (now : List ℕ) (k : ℕ) : Type 0 where

@@ -1,13 +1,13 @@
 -- Laws of the search for MAIN's body.
 -- Assumes nothing.
-use Rattle.std.specs.Prelude.{ℕ, zero, suc, ◌+◌, ◌*◌, ◌<◌, ◌≤◌, ◌≡◌, refl, true, List, [], ◌∷◌, ◌++◌, map, length}
+use Rattle.std.specs.Prelude.{ℕ, zero, suc, ◌+◌, ◌*◌, ◌<◌, ◌≤◌, ◌≡◌, refl, true, List, [], ◌∷◌, ◌++◌, map, length, Option as Found, is_some}
 use Rattle.std.proofs.Common.{sym, ap, ◌∙◌, subst, arith}
 use Rattle.std.proofs.Math.Bool.{false}
 use Rattle.std.proofs.Math.Option.{Option, none, some}
 use Rattle.std.proofs.Math.Decide.{dec_lt}
 use Rattle.std.proofs.Math.ListN.{get_elem?}
 use Rattle.cells.specs.Cells.{cell}
-use Rattle.rules.specs.Text.Tokens.{Info}
+use Rattle.rules.specs.Text.Tokens.{Info, Token, kind_no}
 use Rattle.rules.specs.Grammar.Trees.{Action, body, mapped, carrier, given, words, with_bits, bare_body, Declaration, plain, main}
 use Rattle.rules.specs.Declarations.{declared_of, declarations}
 use Rattle.rules.specs.Faults.Fault.{Fault, when}
@@ -19,8 +19,8 @@ use Rattle.table.specs.Laws.Positions.{record_within}
 use Rattle.table.specs.Declarations.{DeclaredAt, declaration_list, all_declared}
 use Rattle.table.specs.Lookups.{Nth, nth}
 use Rattle.table.specs.Views.{View, MainAt}
-use Rattle.table.specs.Laws.Views.{name_token}
-use Rattle.links.specs.Mains.{MainIn, MainFound}
+use Rattle.table.specs.Laws.Views.{name_token, no_main, a_main}
+use Rattle.links.specs.Mains.{MainIn, MainNamed, MainFound}
 
 -- none of the first k declarations is MAIN's
 abbrev Passed : List Declaration → ℕ → Type 0
@@ -91,38 +91,30 @@ module _ {records decls : List ℕ} {m k : ℕ} (s : Searching records decls m k
         stands = subst (λ i. DeclaredAt v.tokens i (there v).declaration) (sym e) (v.declared.each k (there v).declaration (there v).found);
       }
 
-      pub name_fits : (v : MainIn records decls m) → (8 * name + 8 ≤ length records) × (name < 8192)
-      name_fits v =
-          let n = name_token (view_at v).stands in
-          (record_within v.holds name n.0, omega (arith, n.0, v.holds.few))
+      module _ (r : Found ℕ) (says : (v : MainIn records decls m) → MainAt v.tokens r (declared_of (there v).declaration).mainly) where
+        pub main_here : is_some r ≡ true → (v : MainIn records decls m) → MainNamed v name
+        main_here n v =
+            let i = a_main v.tokens r (declared_of (there v).declaration).mainly (says v) n in
+            let b = main_body (there v).declaration i.0 i.1 in
+            let here = name_token (view_at v).stands in
+            let first = main_named (declaration_list v.description) k (there v).declaration i.0 (s.passed v) (there v).found i.1
+            ∙ ap main_name (sym (all_declared v.description)) in
+            record {
+              within = here.0;
+              kind = (v.holds.entry name here.0).kind ∙ ap (λ (t : Token). kind_no t.kind) here.1;
+              named = ap (λ (t : Token). t.info.word) here.1 ∙ first;
+              number = k;
+              declaration = (there v).declaration;
+              found = (there v).found;
+              declared = first;
+              body = b.0;
+              its = b.1;
+              stands = e;
+            }
 
-      module _ {r : ℕ} (says : (v : MainIn records decls m) → MainAt v.tokens r (declared_of (there v).declaration).mainly) where
-        pub main_here : (r ≡ 0 → ⊥) → {x : ℕ} → x ≡ link_cell records name → (v : MainIn records decls m) → MainFound v x
-        main_here n {x} q v = by (declared_of (there v).declaration).mainly refl (says v)
-          where
-            by : (o : Option Info) → (declared_of (there v).declaration).mainly ≡ o → MainAt v.tokens r o → MainFound v x
-            by none f z = absurd (n z)
-            by (some i) f z =
-                let (a, its) = main_body (there v).declaration i f in
-                record {
-                  number = k;
-                  declaration = (there v).declaration;
-                  found = (there v).found;
-                  named =
-                      main_named (declaration_list v.description) k (there v).declaration i (s.passed v) (there v).found f
-                      ∙ ap main_name (sym (all_declared v.description));
-                  body = a;
-                  its = its;
-                  leads = q ∙ ap (link_cell records) e;
-                }
-
-        pub main_later : r ≡ 0 → Searching records decls m (k + 1)
+        pub main_later : is_some r ≡ false → Searching records decls m (k + 1)
         main_later z = record { few = omega arith; passed = λ v j x h l. by v j x h (dec_lt j k) (omega arith) }
           where
-            here : (v : MainIn records decls m) → (o : Option Info) → MainAt v.tokens r o → o ≡ none
-            here v none q = refl
-            here v (some i) q = absurd (omega (arith, q.0))
-
             by : (v : MainIn records decls m) (j : ℕ) (x : Declaration) → get_elem? (declaration_list v.description) j ≡ some x → Dec (j < k) → j ≤ k
                 → (declared_of x).mainly ≡ none
             by v j x h (yes l) q = s.passed v j x h l
@@ -130,4 +122,14 @@ module _ {records decls : List ℕ} {m k : ℕ} (s : Searching records decls m k
                 let same : j ≡ k = omega arith in
                 let found : get_elem? (declaration_list v.description) k ≡ some x = subst (λ i. get_elem? (declaration_list v.description) i ≡ some x) same h in
                 let is : (there v).declaration ≡ x = cc (there v).found in
-                ap (λ (y : Declaration). (declared_of y).mainly) (sym is) ∙ here v (declared_of (there v).declaration).mainly (says v)
+                ap (λ (y : Declaration). (declared_of y).mainly) (sym is) ∙ no_main v.tokens r (declared_of (there v).declaration).mainly (says v) z
+
+-- where it begins
+module _ {records decls : List ℕ} {m name : ℕ} (found : (v : MainIn records decls m) → MainNamed v name) where
+  pub name_fits : (v : MainIn records decls m) → (8 * name + 8 ≤ length records) × (name < 8192)
+  name_fits v = (record_within v.holds name (found v).within, omega (arith, (found v).within, v.holds.few))
+
+  pub main_leads : {x : ℕ} → x ≡ link_cell records name → (v : MainIn records decls m) → MainFound v x
+  main_leads q v =
+      let f = found v in
+      record { number = f.number; declaration = f.declaration; found = f.found; named = f.declared; body = f.body; its = f.its; leads = q ∙ ap (link_cell records) f.stands }

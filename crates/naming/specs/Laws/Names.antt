@@ -15,6 +15,7 @@ use Rattle.records.specs.Holds.{size_byte, place_cell, folded_at}
 use Rattle.records.specs.Words.{NameAt, word_at}
 use Rattle.records.specs.Laws.Words.{word_folded, word_inside}
 use Rattle.table.specs.Views.{View, TargetAt}
+use Rattle.table.specs.Laws.Views.{no_target, target_here}
 use Rattle.table.specs.Shown.{shown_bits}
 use Rattle.table.specs.declared.views.Names.{Names}
 use Rattle.table.specs.declared.views.Names.TheVariants.{Missing, Unnamed, Span}
@@ -114,18 +115,18 @@ module _ {text records decls : List ℕ} {m n : ℕ} (v : Written text records d
   unfolding body_of body_number
   no_such_test e = record { missing = λ z. ap (body_number (whole v)) (unknown (number_of (whole v) w) is e); there = λ k z. cc }
 
-  module _ {r : ℕ} (d : o ≡ Some r) {b : ℕ} (body : Body (reading v) r b) where
+  module _ {r : ℕ} (d : o ≡ Some r) where
     its_body : body_of (whole v) w ≡ body_number (whole v) (some r)
     unfolding body_of
     its_body = ap (body_number (whole v)) (known (number_of (whole v) w) is d)
 
-    pub bodiless_test : b ≡ 0 → Test (whole v) w None
-    bodiless_test z = record { missing = λ q. its_body ∙ body.missing z; there = λ k q. cc }
+    pub bodiless_test : Body (reading v) r None → Test (whole v) w None
+    bodiless_test body = record { missing = λ q. its_body ∙ body.missing refl; there = λ k q. cc }
 
-    pub test_there : (b ≡ 0 → ⊥) → Test (whole v) w (Some r)
-    test_there z = record {
+    pub test_there : {b : ℕ} → Body (reading v) r (Some b) → Test (whole v) w (Some r)
+    test_there body = let y = body.there refl in record {
       missing = λ q. cc;
-      there = λ k q. (known (number_of (whole v) w) is (d ∙ q), λ e. none-ne-some (body.there z).0 (sym e ∙ (its_body ∙ (body.there z).1)));
+      there = λ k q. (known (number_of (whole v) w) is (d ∙ q), λ e. none-ne-some y.0 (sym e ∙ (its_body ∙ y.1)));
     }
 
   -- the output
@@ -164,40 +165,35 @@ module _ {text records decls : List ℕ} {m n : ℕ} (v : Written text records d
     }
 
 -- a declaration that is storage or not, as the table shows it
-module _ {records values : List ℕ} {p t : ℕ} (is : (values : List ℕ) (v : View records values p) → TargetAt v.tokens t (declared_of v.declaration).target) where
-  pub mapping_stores_not : (t ≡ 0 → ⊥) → (v : View records values p) → false ≡ is_storage_of (declared_of v.declaration)
-  mapping_stores_not d v = by (declared_of v.declaration).target (is values v)
+module _ {records values : List ℕ} {p : ℕ} where
+  pub mapping_stores_not : {t : ℕ} → ((values : List ℕ) (v : View records values p) → TargetAt v.tokens (Some t) (declared_of v.declaration).target)
+      → (v : View records values p) → false ≡ is_storage_of (declared_of v.declaration)
+  mapping_stores_not is v = rw (target_here v.tokens (declared_of v.declaration).target (is values v)).1
+
+module _ {records values : List ℕ} {p : ℕ} (is : (values : List ℕ) (v : View records values p) → TargetAt v.tokens None (declared_of v.declaration).target)
+    {s : Names} (bits : (v : View records values p) → s ≡ shown_bits (declared_of v.declaration).bits) where
+  by_bits : (v : View records values p) {b : Bool} → ((o : Option BitNames) → s ≡ shown_bits o → b ≡ has_storage none o) → b ≡ is_storage_of (declared_of v.declaration)
+  by_bits v {b} h =
+      rw (no_target v.tokens None (declared_of v.declaration).target (is values v) refl) (h (declared_of v.declaration).bits (bits v))
+
+  pub bitless_stores_not : s ≡ Missing → (v : View records values p) → false ≡ is_storage_of (declared_of v.declaration)
+  bitless_stores_not e v = by_bits v bitless
     where
-      by : (o : Option Target) → TargetAt v.tokens t o → false ≡ has_storage o (declared_of v.declaration).bits
-      by none z = absurd (d z)
-      by (some x) z = refl
+      bitless : (o : Option BitNames) → s ≡ shown_bits o → false ≡ has_storage none o
+      bitless none q = refl
+      bitless (some one_unnamed) q = let z : ◌≡◌ {A = ℕ} 0 1 = cc in absurd (omega arith)
+      bitless (some (these b)) q = let z : ◌≡◌ {A = ℕ} 0 1 = cc in absurd (omega arith)
 
-  module _ (zero_target : t ≡ 0) {s : Names} (bits : (v : View records values p) → s ≡ shown_bits (declared_of v.declaration).bits) where
-    by_bits : (v : View records values p) {b : Bool} → ((o : Option BitNames) → s ≡ shown_bits o → b ≡ has_storage none o) → b ≡ is_storage_of (declared_of v.declaration)
-    by_bits v {b} h = by (declared_of v.declaration).target (is values v)
-      where
-        by : (o : Option Target) → TargetAt v.tokens t o → b ≡ has_storage o (declared_of v.declaration).bits
-        by none z = h (declared_of v.declaration).bits (bits v)
-        by (some x) z = absurd (omega (arith, z.past))
+  pub unnamed_stores : s ≡ Unnamed → (v : View records values p) → true ≡ is_storage_of (declared_of v.declaration)
+  unnamed_stores e v = by_bits v one
+    where
+      one : (o : Option BitNames) → s ≡ shown_bits o → true ≡ has_storage none o
+      one none q = let z : ◌≡◌ {A = ℕ} 0 1 = cc in absurd (omega arith)
+      one (some b) q = refl
 
-    pub bitless_stores_not : s ≡ Missing → (v : View records values p) → false ≡ is_storage_of (declared_of v.declaration)
-    bitless_stores_not e v = by_bits v bitless
-      where
-        bitless : (o : Option BitNames) → s ≡ shown_bits o → false ≡ has_storage none o
-        bitless none q = refl
-        bitless (some one_unnamed) q = let z : ◌≡◌ {A = ℕ} 0 1 = cc in absurd (omega arith)
-        bitless (some (these b)) q = let z : ◌≡◌ {A = ℕ} 0 1 = cc in absurd (omega arith)
-
-    pub unnamed_stores : s ≡ Unnamed → (v : View records values p) → true ≡ is_storage_of (declared_of v.declaration)
-    unnamed_stores e v = by_bits v one
-      where
-        one : (o : Option BitNames) → s ≡ shown_bits o → true ≡ has_storage none o
-        one none q = let z : ◌≡◌ {A = ℕ} 0 1 = cc in absurd (omega arith)
-        one (some b) q = refl
-
-    pub named_stores : {l r : ℕ} → s ≡ Span l r → (v : View records values p) → true ≡ is_storage_of (declared_of v.declaration)
-    named_stores e v = by_bits v several
-      where
-        several : (o : Option BitNames) → s ≡ shown_bits o → true ≡ has_storage none o
-        several none q = let z : ◌≡◌ {A = ℕ} 0 1 = cc in absurd (omega arith)
-        several (some b) q = refl
+  pub named_stores : {l r : ℕ} → s ≡ Span l r → (v : View records values p) → true ≡ is_storage_of (declared_of v.declaration)
+  named_stores e v = by_bits v several
+    where
+      several : (o : Option BitNames) → s ≡ shown_bits o → true ≡ has_storage none o
+      several none q = let z : ◌≡◌ {A = ℕ} 0 1 = cc in absurd (omega arith)
+      several (some b) q = refl

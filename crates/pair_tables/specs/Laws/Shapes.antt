@@ -1,14 +1,14 @@
 -- What the code finds of storage and of names is what the rules say.
 -- Assumes nothing.
-use Rattle.std.specs.Prelude.{ℕ, ◌≡◌, refl, Bool, true, false, not, ◌&&◌, List, eqb}
+use Rattle.std.specs.Prelude.{ℕ, ◌≡◌, refl, Bool, true, false, not, ◌&&◌, List, eqb, Some, None}
 use Rattle.std.proofs.Common.{sym, ap, ap₂, ◌∙◌, arith, eq-eqb, ne_eqb}
 use Rattle.std.proofs.Math.Option.{Option, none, some}
 use Rattle.std.proofs.lemmas.Bool.{not-true, not-false}
-use Rattle.rules.specs.Grammar.Trees.{Tokens}
-use Rattle.rules.specs.Declarations.{Names as Span-of, BitNames, one_unnamed, these, Target, declared_of}
+use Rattle.rules.specs.Declarations.{Names as Span-of, BitNames, one_unnamed, these, declared_of}
 use Rattle.rules.specs.Pair.{has_storage, is_storage_of, same_words, same_own_bits, same_shape}
 use Rattle.table.specs.Shown.{shown_words, shown_bits}
 use Rattle.table.specs.Views.{View, TargetAt}
+use Rattle.table.specs.Laws.Views.{no_target, target_here}
 use Rattle.table.specs.declared.views.Names.{Names}
 use Rattle.spans.specs.Spans.{missing_shown}
 use Rattle.table.specs.declared.views.Names.TheVariants.{Span}
@@ -43,26 +43,22 @@ bits_shown (some (these a)) (some one_unnamed) = refl
 bits_shown (some (these a)) (some (these b)) = refl
 
 -- storage, by the token of a mapping's target and by the bits
-mapping_none : (ts : Tokens) (t : ℕ) (o : Option Target) (b : Option BitNames) → TargetAt ts t o → (t ≡ 0 → ⊥) → has_storage o b ≡ false
-mapping_none ts t none b e n = absurd (n e)
-mapping_none ts t (some x) b e n = refl
+storage_bits : (b : Option BitNames) → not (missing_shown (shown_bits b)) ≡ has_storage none b
+storage_bits none = refl
+storage_bits (some one_unnamed) = refl
+storage_bits (some (these b)) = refl
 
-storage_bits : (ts : Tokens) (t : ℕ) (o : Option Target) (b : Option BitNames) → TargetAt ts t o → t ≡ 0 → not (missing_shown (shown_bits b)) ≡ has_storage o b
-storage_bits ts t none none e z = refl
-storage_bits ts t none (some one_unnamed) e z = refl
-storage_bits ts t none (some (these b)) e z = refl
-storage_bits ts t (some x) b e z = absurd (omega (arith, e.past))
+module _ {records values : List ℕ} {p : ℕ} where
+  pub no_storage : {t : ℕ} → ((values : List ℕ) (v : View records values p) → TargetAt v.tokens (Some t) (declared_of v.declaration).target)
+      → (v : View records values p) → false ≡ is_storage_of (declared_of v.declaration)
+  no_storage at v = rw (target_here v.tokens (declared_of v.declaration).target (at values v)).1
 
-module _ {records values : List ℕ} {p t : ℕ}
-    (at : (values : List ℕ) (v : View records values p) → TargetAt v.tokens t (declared_of v.declaration).target) (v : View records values p) where
-  pub no_storage : (t ≡ 0 → ⊥) → false ≡ is_storage_of (declared_of v.declaration)
-  no_storage n = sym (mapping_none v.tokens t (declared_of v.declaration).target (declared_of v.declaration).bits (at values v) n)
-
-  pub with_storage : {x : Names} {r : Bool} → t ≡ 0 → ((v : View records values p) → x ≡ shown_bits (declared_of v.declaration).bits) → r ≡ missing_shown x
+  pub with_storage : {x : Names} {r : Bool} → ((values : List ℕ) (v : View records values p) → TargetAt v.tokens None (declared_of v.declaration).target)
+      → (v : View records values p) → ((v : View records values p) → x ≡ shown_bits (declared_of v.declaration).bits) → r ≡ missing_shown x
       → not r ≡ is_storage_of (declared_of v.declaration)
-  with_storage z bits is =
-      ap not (is ∙ ap missing_shown (bits v))
-      ∙ storage_bits v.tokens t (declared_of v.declaration).target (declared_of v.declaration).bits (at values v) z
+  with_storage at v bits is =
+      rw (no_target v.tokens None (declared_of v.declaration).target (at values v) refl)
+      (ap not (is ∙ ap missing_shown (bits v)) ∙ storage_bits (declared_of v.declaration).bits)
 
 -- the same names of words, then of bits
 module _ {records₀ values₀ records₁ values₁ : List ℕ} {p q : ℕ} {a b : Names} {r : Bool}

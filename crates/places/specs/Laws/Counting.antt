@@ -1,6 +1,6 @@
 -- Laws of the words of declarations, counted from the first: where each begins.
 -- Assumes nothing.
-use Rattle.std.specs.Prelude.{ℕ, zero, suc, ◌+◌, ◌*◌, ◌<◌, ◌≤◌, ◌≡◌, List, [], ◌∷◌, length}
+use Rattle.std.specs.Prelude.{ℕ, zero, suc, ◌+◌, ◌*◌, ◌<◌, ◌≤◌, ◌≡◌, List, [], ◌∷◌, length, true, false, Option as Found, is_some}
 use Rattle.std.proofs.Math.Path.{refl}
 use Rattle.std.proofs.Common.{sym, ap, ◌∙◌, arith, add-one}
 use Rattle.std.proofs.Math.Option.{Option, none, some}
@@ -15,6 +15,7 @@ use Rattle.laws_accepted.proofs.Accepted.Declared.{few_words}
 use Rattle.table.specs.Ready.{Scene, table_of}
 use Rattle.table.specs.Shown.{shown_words, shown_bits}
 use Rattle.table.specs.Views.{View, TargetAt}
+use Rattle.table.specs.Laws.Views.{no_target, a_target}
 use Rattle.table.specs.declared.views.Names.{Names}
 use Rattle.table.specs.declared.views.Names.TheVariants.{Missing, Unnamed, Span}
 use Rattle.places.specs.Laws.Scene.{lawful, declared_here, listed_here, view_here}
@@ -55,24 +56,18 @@ module _ {own words : Names} where
   storage_span m g (some b) w e f h = g w b f h
 
 -- a declaration whose name is the token p
-module _ {records values : List ℕ} {p t : ℕ} (target : (values : List ℕ) (u : View records values p) → TargetAt u.tokens t (declared_of u.declaration).target) where
-  pub mapping_words : (t ≡ 0 → ⊥) → (v : View records values p) → words_of (declared_of v.declaration) ≤ most_words → 0 ≡ words_of (declared_of v.declaration)
+module _ {records values : List ℕ} {p : ℕ} (t : Found ℕ)
+    (target : (values : List ℕ) (u : View records values p) → TargetAt u.tokens t (declared_of u.declaration).target) where
+  pub mapping_words : is_some t ≡ true → (v : View records values p) → words_of (declared_of v.declaration) ≤ most_words → 0 ≡ words_of (declared_of v.declaration)
   unfolding storage_words
-  mapping_words z v h = by (declared_of v.declaration).target (target values v)
-    where
-      by : (g : Option Target) → TargetAt v.tokens t g → 0 ≡ storage_words g (declared_of v.declaration).bits (declared_of v.declaration).words
-      by none a = absurd (z a)
-      by (some g) a = refl
+  mapping_words z v h = rw (a_target v.tokens t (declared_of v.declaration).target (target values v) z).1
 
-  pub carrier_words : t ≡ 0 → {own words : Names} {n : ℕ} → ((u : View records values p) → own ≡ shown_bits (declared_of u.declaration).bits)
+  pub carrier_words : is_some t ≡ false → {own words : Names} {n : ℕ} → ((u : View records values p) → own ≡ shown_bits (declared_of u.declaration).bits)
       → ((u : View records values p) → words ≡ shown_words (declared_of u.declaration).words) → StorageIn own words n
       → (v : View records values p) → words_of (declared_of v.declaration) ≤ most_words → n ≡ words_of (declared_of v.declaration)
-  carrier_words z {own} {words} {n} bits named f v h = by (declared_of v.declaration).target (target values v) h
-    where
-      by : (g : Option Target) → TargetAt v.tokens t g → storage_words g (declared_of v.declaration).bits (declared_of v.declaration).words ≤ most_words
-          → n ≡ storage_words g (declared_of v.declaration).bits (declared_of v.declaration).words
-      by none a h = f (declared_of v.declaration).bits (declared_of v.declaration).words (bits v) (named v) h
-      by (some g) a h = absurd (let q = a.past in omega arith)
+  carrier_words z {own} {words} {n} bits named f v h =
+      let e = no_target v.tokens t (declared_of v.declaration).target (target values v) z in
+      rw e (f (declared_of v.declaration).bits (declared_of v.declaration).words (bits v) (named v) (rw e at h))
 
 -- the words before the declarations go up by the words of each
 pub first_none : (ds : Table) → first_word ds 0 ≡ 0

@@ -1,17 +1,17 @@
 -- The arms of the functions that find what a declaration reaches.
 -- Assumes nothing.
-use Rattle.std.specs.Prelude.{ℕ, ◌<◌, ◌≤◌, ◌≡◌, refl, List}
+use Rattle.std.specs.Prelude.{ℕ, ◌<◌, ◌≤◌, ◌≡◌, refl, List, Some, None}
 use Rattle.std.proofs.Common.{sym, ap, ◌∙◌, arith}
 use Rattle.std.proofs.Math.Option.{Option, none, some}
 use Rattle.std.proofs.Math.ListN.{get_elem?}
 use Rattle.cells.specs.Cells.{cell}
-use Rattle.rules.specs.Grammar.Trees.{Tokens}
 use Rattle.rules.specs.Declarations.{Names as Span-of, BitNames, Target, Declared, declared_of, number_of, first_word, Reach, reach_number}
 use Rattle.laws_orders.proofs.Orders.Tests.{impossible}
 use Rattle.records.specs.Holds.{inside_cell}
 use Rattle.table.specs.Ready.{table_of}
 use Rattle.table.specs.Shown.{shown_words, shown_bits, shown_target}
 use Rattle.table.specs.Views.{View, TargetStands, TargetAt}
+use Rattle.table.specs.Laws.Views.{no_target, target_here}
 use Rattle.table.specs.declared.views.Names.{Names}
 use Rattle.table.specs.declared.views.Names.TheVariants.{Missing, Unnamed, Span}
 use Rattle.promise.specs.Accesses.{left_name, right_name}
@@ -56,14 +56,6 @@ module _ {words : Names} (w : Option Span-of) where
       by none e = impossible (cc)
       by (some s) e = (cc, cc)
 
-no_target : (ts : Tokens) (r : ℕ) (g : Option Target) → TargetAt ts r g → r ≡ 0 → g ≡ none
-no_target ts r none a z = refl
-no_target ts r (some t) a z = absurd (let p = a.past in omega arith)
-
-a_target : (ts : Tokens) (r : ℕ) (g : Option Target) → TargetAt ts r g → (r ≡ 0 → ⊥) → (t : Target) × (g ≡ some t) × TargetStands ts r t
-a_target ts r none a n = absurd (n a)
-a_target ts r (some t) a n = (t, refl, a)
-
 -- a mapping lies on the declaration that its target's cell numbers
 module _ {records values decls firsts : List ℕ} {m p t : ℕ} where
   module _ {o : ℕ} (e : o ≡ inside_cell records t) where
@@ -102,18 +94,17 @@ module _ {records values decls firsts : List ℕ} {m k : ℕ} where
     pub some_view : BaseAt records values decls firsts m k → (values : List ℕ) × View records values p
     some_view v = (values, base_view v)
 
-    module _ {own : Names} (bits : (u : View records values p) → own ≡ shown_bits (declared_of u.declaration).bits)
-        {t : ℕ} (target : (values : List ℕ) (u : View records values p) → TargetAt u.tokens t (declared_of u.declaration).target) where
+    module _ {own : Names} (bits : (u : View records values p) → own ≡ shown_bits (declared_of u.declaration).bits) where
       own_shown : (v : BaseAt records values decls firsts m k) (b : BitNames) → (declared_here v.scene v.below).bits ≡ some b → own ≡ shown_bits (some b)
       own_shown v b q = bits (base_view v) ∙ ap shown_bits q
 
-      pub storage_reached : t ≡ 0 → {words : Names} → ((u : View records values p) → words ≡ shown_words (declared_of u.declaration).words)
+      pub storage_reached : ((values : List ℕ) (u : View records values p) → TargetAt u.tokens None (declared_of u.declaration).target) → {words : Names} → ((u : View records values p) → words ≡ shown_words (declared_of u.declaration).words)
           → {first : ℕ} → first ≡ cell 2 firsts k → {b : Base}
           → ((w : Option Span-of) → words ≡ shown_words w → (b.first ≡ first) × (b.left ≡ left_name w) × (b.right ≡ right_name w) × (b.low ≡ 0) × (b.own ≡ own))
           → (v : BaseAt records values decls firsts m k) (r : Reach) → reach_number (table_of v.scene) (some k) ≡ some r → BaseShows b r
-      storage_reached z words first {b} f v r q =
+      storage_reached target words first {b} f v r q =
           let d = declared_here v.scene v.below in
-          let none : d.target ≡ none = no_target v.scene.tokens t d.target (target values (base_view v)) z in
+          let none : d.target ≡ none = no_target v.scene.tokens None d.target (target values (base_view v)) refl in
           let i = on_itself (table_of v.scene) k d (listed_here v.scene v.below) r q none in
           let g = f d.words (words (base_view v)) in
           record {
@@ -124,10 +115,10 @@ module _ {records values decls firsts : List ℕ} {m k : ℕ} where
             own = g.4 ∙ own_shown v r.bits i.own;
           }
 
-      module _ (nz : t ≡ 0 → ⊥) where
+      module _ {t : ℕ} (target : (values : List ℕ) (u : View records values p) → TargetAt u.tokens (Some t) (declared_of u.declaration).target) where
         pub the_target : (v : BaseAt records values decls firsts m k)
             → (g : Target) × ((declared_here v.scene v.below).target ≡ some g) × TargetStands v.scene.tokens t g
-        the_target v = a_target v.scene.tokens t (declared_here v.scene v.below).target (target values (base_view v)) nz
+        the_target v = target_here v.scene.tokens (declared_here v.scene v.below).target (target values (base_view v))
 
         abbrev pub mapping_at : BaseAt records values decls firsts m k → MappingAt records values decls firsts m p t
         mapping_at v = record { scene = v.scene; hold = v.hold; view = base_view v; target = (the_target v).0; is = (the_target v).1; stands = (the_target v).2 }

@@ -1,7 +1,7 @@
 -- Simple actions: what the table has for them, and their least faults.
 -- Assumes nothing.
 use Prim.Native.Nat.{ℕ, ◌+◌, ◌*◌, ◌<◌, ◌≤◌, min}
-use Rattle.std.specs.Prelude.{◌≡◌, Bool, true, false, not, List, [], ◌∷◌, ◌++◌, length}
+use Rattle.std.specs.Prelude.{◌≡◌, Bool, true, false, not, List, [], ◌∷◌, ◌++◌, length, Option as Answer, is_some}
 use Rattle.std.proofs.Math.Path.{refl, sym, ap, ap₂}
 use Rattle.std.proofs.Common.{◌∙◌, append_assoc, arith}
 use Rattle.std.proofs.Math.Option.{Option, none, some}
@@ -21,6 +21,7 @@ use Rattle.keys.specs.Laws.Keys.{fault_key, no_fault_key, least_append}
 use Rattle.table.specs.Meaning.{outer_only, unknown_name}
 use Rattle.table.specs.Laws.Positions.{Here, here}
 use Rattle.table.specs.Views.{View, BodyAt}
+use Rattle.table.specs.Laws.Views.{no_body, a_body}
 use Rattle.records.specs.Words.{word_at}
 use Rattle.table.specs.Operators.{ends_expression}
 use Rattle.stacks.specs.Stacks.{stacked_words, NameView}
@@ -104,21 +105,14 @@ module _ {records decls : List ℕ} {i : ℕ} (v : CallView records decls i) whe
         rw ((declared (scene_of v.stage) i info v.name.within named k is_meaning u o).0, call_found.listed)
         (ap (λ (y : Option Action). elim y [ none ↦ fault 41 info.place ∷ [] | some a ↦ [] ]) e)
 
-    pub call_bodiless : {b p r : ℕ} → p ≡ place_cell records i → BodyAt v.stage.tokens b (declared_of call_found.declaration).body → b ≡ 0 → r ≡ key (fault 41 p)
-        → r ≡ least_key (call_faults v)
-    call_bodiless {b} is_place at z f = one_fault 41 (omega arith) is_place f (go (declared_of call_found.declaration).body refl at)
-      where
-        go : (x : Option Action) → (declared_of call_found.declaration).body ≡ x → BodyAt v.stage.tokens b x → call_faults v ≡ when true 41 info.place
-        go none e at = by_body none e
-        go (some a) e at = absurd (omega (arith, at.0))
+    pub call_bodiless : {p r : ℕ} (b : Answer ℕ) → p ≡ place_cell records i → BodyAt v.stage.tokens b (declared_of call_found.declaration).body → is_some b ≡ false
+        → r ≡ key (fault 41 p) → r ≡ least_key (call_faults v)
+    call_bodiless b is_place at z f =
+        one_fault 41 (omega arith) is_place f (by_body none (no_body v.stage.tokens b (declared_of call_found.declaration).body at z))
 
-    pub call_lawful : {b : ℕ} → BodyAt v.stage.tokens b (declared_of call_found.declaration).body → (b ≡ 0 → ⊥) → no_key ≡ least_key (call_faults v)
+    pub call_lawful : (b : Answer ℕ) → BodyAt v.stage.tokens b (declared_of call_found.declaration).body → is_some b ≡ true → no_key ≡ least_key (call_faults v)
     unfolding least_by
-    call_lawful {b} at z = sym (go (declared_of call_found.declaration).body refl at)
-      where
-        go : (x : Option Action) → (declared_of call_found.declaration).body ≡ x → BodyAt v.stage.tokens b x → least_key (call_faults v) ≡ no_key
-        go none e at = absurd (z at)
-        go (some a) e at = ap least_key (by_body (some a) e)
+    call_lawful b at z = let a = a_body v.stage.tokens b (declared_of call_found.declaration).body at z in sym (ap least_key (by_body (some a.0) a.1))
 
 -- TRANSFERS
 pub ends_expression_lem : {k : Kind} → EndsAction k → ends_expression k ≡ true

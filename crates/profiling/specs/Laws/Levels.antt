@@ -1,5 +1,5 @@
 -- One round goes one body further down the chains of activations.
-use Rattle.std.specs.Prelude.{ℕ, zero, suc, ◌+◌, ◌*◌, ◌<◌, ◌≤◌, ◌≡◌, Bool, List, [], ◌∷◌, map, length}
+use Rattle.std.specs.Prelude.{ℕ, zero, suc, ◌+◌, ◌*◌, ◌<◌, ◌≤◌, ◌≡◌, Bool, List, [], ◌∷◌, map, length, Option as Answer, Some, true, false, is_some}
 use Rattle.std.proofs.Math.Path.{refl, sym, ap}
 use Rattle.std.proofs.Common.{◌∙◌, subst, arith, drop-drop}
 use Rattle.std.proofs.Math.Bool.{true, false}
@@ -35,6 +35,7 @@ use Rattle.reading.specs.Laws.Meanings.{table_size_lem}
 use Rattle.reading.specs.Meanings.{Declares, declares}
 use Rattle.chains.specs.Laws.Least.{name_there}
 use Rattle.reading.specs.Bodies.{Body}
+use Rattle.reading.specs.Laws.Bodies.{not_found, found_at}
 use Rattle.profiling.specs.Spelt.{SpeltDescription, whole}
 use Rattle.profiling.specs.Laws.Spelt.{reading}
 use Rattle.nesting.specs.Holding.{bit, unseen}
@@ -195,17 +196,17 @@ scene_of {t = t} v test aims l known h o = record {
 
 -- the body of the declaration k
 module _ {records decls : List ℕ} {m n : ℕ} (v : SpeltDescription records decls m n) (k name start b : ℕ) (within : k < m) (at : name ≡ cell 2 decls k)
-    (is : (v : Reading records decls m n) → Body v k b) (there : b ≡ 0 → ⊥)
+    (is : (v : Reading records decls m n) → Body v k (Some b))
     (starts : (v : Kinded records n) → drop start v.tokens ≡ to_begin (drop (name + 1) v.tokens)) where
   abbrev D : Declares (reading v) k
   D = declares (reading v) k within
 
   abbrev act : Action
-  act = ((is (reading v)).there there).0
+  act = ((is (reading v)).there refl).0
 
   its : (declared_of D.declaration).body ≡ some act
   unfolding body_number
-  its = sym (rw (D.found, body_number)) ∙ ((is (reading v)).there there).1
+  its = sym (rw (D.found, body_number)) ∙ ((is (reading v)).there refl).1
 
   name_reads : drop name v.tokens ≡ name_tokens D.declaration (declarations_tokens D.stands.following [])
   name_reads = ap (λ p. drop p v.tokens) at ∙ D.stands.reads
@@ -230,7 +231,7 @@ module _ {records decls : List ℕ} {m n : ℕ} (v : SpeltDescription records de
 
     body_is : body_of (whole v) w ≡ some act
     unfolding body_of
-    body_is = ap (body_number (whole v)) number ∙ ((is (reading v)).there there).1
+    body_is = ap (body_number (whole v)) number ∙ ((is (reading v)).there refl).1
 
     walked : (test : Word) (out l : ℕ)
         → run (whole v) test out (body_early (whole v) test out l) 0 (outset (word_at v.tokens name)) (drop start v.tokens)
@@ -238,7 +239,7 @@ module _ {records decls : List ℕ} {m n : ℕ} (v : SpeltDescription records de
     walked test out l =
         let K = body_early (whole v) test out l in
         let rest = declarations_tokens D.stands.following [] in
-        let q = ((is (reading v)).there there).2 in
+        let q = ((is (reading v)).there refl).2 in
         ap (λ y. run (whole v) test out K 0 (outset y) (drop start v.tokens)) word
         ∙ (ap (run (whole v) test out K 0 (outset w)) (body_reads ∙ ap (λ y. action_tokens y rest) q.is)
         ∙ (body_read (whole v) test out K q.opens q.first q.others w rest (omega (arith, shallow, ap action_nest q.is))
@@ -273,8 +274,8 @@ module _ {records decls table next room : List ℕ} {t : Task} {k : ℕ} (x : Pa
           space = y.space;
         }
 
-    module _ {b : ℕ} (is : (v : Reading records decls t.m t.n) → Body v k b) where
-      pub part_walked : {new : List ℕ} {f : Found} → (b ≡ 0 → ⊥) → BeginBehind records t.n name start
+    module _ (o : Answer ℕ) (says : (v : Reading records decls t.m t.n) → Body v k o) where
+      pub part_walked : {new : List ℕ} {f : Found} → is_some o ≡ true → BeginBehind records t.n name start
           → Walked records decls table t name start f → Put next new k f.ends f.low → Part records decls table next new t k
       part_walked {new} {f} there r walk p = record {
         size = p.size;
@@ -283,22 +284,24 @@ module _ {records decls table next room : List ℕ} {t : Task} {k : ℕ} (x : Pa
             let g = scene_of v test aims l known x.levelled.table_room x.levelled.output in
             let starts = r.reads in
             let F = walk.finds g in
-            let e = walked v k name start b x.within at is there starts w number test t.out l in
-            let y = body_level (whole v) test t.out l w (act v k name start b x.within at is there starts) (body_is v k name start b x.within at is there starts w number) in
+            let (b, o) = found_at o there in
+            let is = λ (y : Reading records decls t.m t.n). subst (λ (q : Answer ℕ). Body y k q) o (says y) in
+            let e = walked v k name start b x.within at is starts w number test t.out l in
+            let y = body_level (whole v) test t.out l w (act v k name start b x.within at is starts) (body_is v k name start b x.within at is starts w number) in
             record {
               ends = p.ends_is ∙ ap bit (F.ends ∙ (ap (λ q. q.flags 1) e ∙ y.0));
               low = p.low_is ∙ (F.low ∙ (ap (λ q. least unseen q.places) e ∙ ap (least unseen) y.1));
             };
       }
 
-  pub part_bodiless : {new : List ℕ} {b : ℕ} → ((v : Reading records decls t.m t.n) → Body v k b) → b ≡ 0 → Put next new k true 65535
+  pub part_bodiless : {new : List ℕ} (b : Answer ℕ) → ((v : Reading records decls t.m t.n) → Body v k b) → is_some b ≡ false → Put next new k true 65535
       → Part records decls table next new t k
   unfolding body_of
-  part_bodiless is e p = record {
+  part_bodiless b is e p = record {
     size = p.size;
     same = p.same;
     known = λ v test aims l known w number.
-        no_body_known (whole v) test t.out l w (ap (body_number (whole v)) number ∙ (is (reading v)).missing e) p;
+        no_body_known (whole v) test t.out l w (ap (body_number (whole v)) number ∙ (is (reading v)).missing (not_found b e)) p;
   }
 
 pub to_put : {records decls table next room : List ℕ} {t : Task} {k name start : ℕ} {f : Found} → PartAt records decls table next room t k

@@ -1,8 +1,9 @@
 -- Laws of the loop over the groups of a description.
-use Rattle.std.specs.Prelude.{ℕ, ◌+◌, ◌<◌, ◌≤◌, ◌≡◌, refl, Bool, true, false, List, [], drop}
+use Rattle.std.specs.Prelude.{ℕ, ◌+◌, ◌<◌, ◌≤◌, ◌≡◌, refl, Bool, true, false, List, [], drop, Some, None}
 use Rattle.std.proofs.Common.{sym, ◌∙◌, arith}
 use Rattle.std.proofs.Math.Path.{ap}
 use Rattle.std.proofs.Math.Option.{Option}
+use Rattle.laws_orders.proofs.Orders.Tests.{impossible}
 use Rattle.records.specs.Holds.{kind_byte, token_at}
 use Rattle.table.specs.Scans.{no}
 use Rattle.reading.specs.Reading.{Reading, table_of}
@@ -11,6 +12,7 @@ use Rattle.gathering.specs.Filling.{Complete}
 use Rattle.scopes.specs.Walks.{opens}
 use Rattle.rules.specs.Reasons.{Race, first_race, race_from, race_among}
 use Rattle.racing.specs.Groups.{group_here, groups_here, race_here}
+use Rattle.racing.specs.declared.members.Pair.{Pair}
 use Rattle.racing.specs.Found.{InGroup, InTokens}
 
 pub record Looking (records decls memo : List ℕ) (m n place i : ℕ) : Type 0 where
@@ -22,10 +24,10 @@ pub look_starts : {records decls memo : List ℕ} {m n place : ℕ} → Reading 
 look_starts x c = record { reading = x; complete = c; so_far = λ v. refl }
 
 module _ {records decls memo : List ℕ} {m n place i : ℕ} (inv : Looking records decls memo m n place i) where
-  pub look_over : n ≤ i → InTokens records decls m n 3 place 0 0
+  pub look_over : n ≤ i → InTokens records decls m n 3 place None
   unfolding race_here groups_here race_among
   look_over h = record {
-    found = record { one = λ q v. absurd (omega arith); nothing = λ q v. inv.so_far v ∙ ap (race_here (table_of v) place) (no_more (kinded v) i h) };
+    found = record { apart = λ q. impossible (cc); one = λ q v. impossible (cc); nothing = λ q v. inv.so_far v ∙ ap (race_here (table_of v) place) (no_more (kinded v) i h) };
   }
 
   module _ (h : i < n) {kind : ℕ} (k : kind ≡ kind_byte records i) {b : Bool} (o : b ≡ opens kind) where
@@ -45,18 +47,19 @@ module _ {records decls memo : List ℕ} {m n place i : ℕ} (inv : Looking reco
       so_far = λ v. inv.so_far v ∙ (ap (race_here (table_of v) place) (next_token (kinded v) i h) ∙ rw (opens_is v ∙ f, groups_here) refl);
     }
 
-    module _ (t : b ≡ true) {e l : ℕ} (g : InGroup records decls m n (i + 1) place e l) where
-      pub look_found : e < l → InTokens records decls m n 3 place e l
-      look_found q = record {
+    module _ (t : b ≡ true) where
+      pub look_found : {q : Pair} → InGroup records decls m n (i + 1) place (Some q) → InTokens records decls m n 3 place (Some q)
+      look_found g = record {
         found = record {
-          one = λ z v. at_group t v ∙ ap (λ (x : Option Race). first_race x (race_here (table_of v) place (drop (i + 1) v.tokens))) (g.one q v);
-          nothing = λ z v. absurd (omega arith);
+          apart = g.apart;
+          one = λ e v. at_group t v ∙ ap (λ (x : Option Race). first_race x (race_here (table_of v) place (drop (i + 1) v.tokens))) (g.one e v);
+          nothing = λ e v. impossible (cc);
         };
       }
 
-      pub look_past : l ≤ e → Looking records decls memo m n place (i + 1)
-      look_past q = record {
+      pub look_past : InGroup records decls m n (i + 1) place None → Looking records decls memo m n place (i + 1)
+      look_past g = record {
         reading = inv.reading;
         complete = inv.complete;
-        so_far = λ v. at_group t v ∙ ap (λ (x : Option Race). first_race x (race_here (table_of v) place (drop (i + 1) v.tokens))) (g.nothing q v);
+        so_far = λ v. at_group t v ∙ ap (λ (x : Option Race). first_race x (race_here (table_of v) place (drop (i + 1) v.tokens))) (g.nothing refl v);
       }

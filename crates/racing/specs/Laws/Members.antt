@@ -1,12 +1,13 @@
 -- Laws of the loops over the members of a group: the earliest one that races, and the one at the place.
-use Rattle.std.specs.Prelude.{ℕ, ◌+◌, ◌<◌, ◌≤◌, ◌≡◌, refl, Bool, true, false, List, [], ◌∷◌, ◌++◌, length, drop}
+use Rattle.std.specs.Prelude.{ℕ, ◌+◌, ◌<◌, ◌≤◌, ◌≡◌, refl, Bool, true, false, List, [], ◌∷◌, ◌++◌, length, drop, Some, None}
 use Rattle.std.proofs.Math.Path.{sym, ap, subst}
 use Rattle.std.proofs.Common.{◌∙◌, arith, eq-eqb, ne_eqb, length-drop}
-use Rattle.std.proofs.Math.Option.{Option}
+use Rattle.std.proofs.Math.Option.{Option, some}
 use Rattle.rules.specs.Text.Tokens.{Token, Semi, kind_no}
 use Rattle.rules.specs.Grammar.Trees.{Tokens}
 use Rattle.rules.specs.Declarations.{Table}
 use Rattle.rules.specs.Whole.Sets.{Sets, race}
+use Rattle.laws_orders.proofs.Orders.Tests.{impossible}
 use Rattle.reading.specs.Kinds.{next_no}
 use Rattle.reading.specs.Behind.{behind}
 use Rattle.reading.specs.Groups.{place_of}
@@ -18,7 +19,8 @@ use Rattle.whole.specs.GroupKeys.{Holding}
 use Rattle.whole.specs.Laws.GroupKeys.{action_held, end_inside}
 use Rattle.rules.specs.Reasons.{Member, earliest, Race, race_with, race_at, first_race, race_from}
 use Rattle.racing.specs.Groups.{member_here, others_here, group_here}
-use Rattle.racing.specs.Found.{Path, arrived, passes, member_at, PathTo, Leads, Chooses, RacesAt, InGroup}
+use Rattle.racing.specs.Found.{Path, arrived, passes, member_at, race_of, PathTo, Leads, Chooses, RacesAt, InGroup}
+use Rattle.racing.specs.declared.members.Pair.{Pair}
 use Rattle.racing.specs.Laws.Bridge.{onward, others_onward}
 
 module _ (ds : Table) (ts : Tokens) where
@@ -173,14 +175,16 @@ module _ {records decls memo : List ℕ} {m n from place i : ℕ} (inv : Searchi
   search_leads = record { reading = inv.reading; path = λ v. ((inv.so_far v).0, (inv.so_far v).1) }
 
   module _ {r : ℕ} (at : RacesAt records decls m n from i place r) where
-    pub search_found : r < i → InGroup records decls m n from place r i
+    pub search_found : r < i → InGroup records decls m n from place (Some (record { earlier = r; later = i }))
     unfolding race_from
     search_found h = record {
-      one = λ q v.
+      apart = λ {q} e. let same : ◌≡◌ {A = Pair} (record { earlier = r; later = i }) q = cc in subst (λ (x : Pair). x.earlier < x.later) same h;
+      one = λ {q} e v.
+          let same : ◌≡◌ {A = Pair} (record { earlier = r; later = i }) q = cc in
           let y = inv.so_far v in
           y.2 ∙ ap (λ (o : Option Race). first_race o (race_from place (y.0 ++ (member_at v i ∷ [])) (others_here (table_of v) 0 (drop i v.tokens))))
-          (at.one h v y.0 y.1);
-      nothing = λ q v. absurd (omega arith);
+          (at.one h v y.0 y.1 ∙ ap (λ (x : Pair). some (race_of v x.earlier x.later)) same);
+      nothing = λ e v. impossible (cc);
     }
 
     module _ (h : i ≤ r) (e : ℕ) (ends : (v : Kinded records n) → drop e v.tokens ≡ behind 0 (drop i v.tokens)) {k : ℕ}
@@ -194,10 +198,11 @@ module _ {records decls memo : List ℕ} {m n from place i : ℕ} (inv : Searchi
           y.2 ∙ (ap (λ (o : Option Race). first_race o (race_from place xs (others_here (table_of v) 0 (drop i v.tokens)))) (at.nothing h v y.0 y.1)
           ∙ ap (race_from place xs) (others_onward (table_of v) 0 (drop i v.tokens) ∙ ap (onward (table_of v)) (sym (ends (kinded v)))))
 
-      pub search_over : (k ≡ kind_no Semi → ⊥) → InGroup records decls m n from place 0 0
+      pub search_over : (k ≡ kind_no Semi → ⊥) → InGroup records decls m n from place None
       unfolding race_from
       search_over s = record {
-        one = λ q v. absurd (omega arith);
+        apart = λ q. impossible (cc);
+        one = λ q v. impossible (cc);
         nothing = λ q v.
             left v ∙ ap (race_from place ((inv.so_far v).0 ++ (member_at v i ∷ []))) (no_onward (table_of v) (drop e v.tokens) (λ z. s (kind (kinded v) ∙ z)));
       }

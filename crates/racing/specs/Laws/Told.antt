@@ -1,6 +1,6 @@
 -- Laws of the reason of 53: what is found in the table is what the rules say.
-use Rattle.std.specs.Prelude.{ℕ, ◌+◌, ◌<◌, ◌≤◌, ◌≡◌, Bool, List, drop}
-use Rattle.std.proofs.Math.Path.{sym, ap, ap₂, subst}
+use Rattle.std.specs.Prelude.{ℕ, ◌+◌, ◌<◌, ◌≤◌, ◌≡◌, Bool, List, drop, Some, None}
+use Rattle.std.proofs.Math.Path.{refl, sym, ap, ap₂, subst}
 use Rattle.std.proofs.Common.{◌∙◌}
 use Rattle.std.proofs.Math.Option.{some}
 use native.Mathlib.Omega.{arith}
@@ -19,6 +19,7 @@ use Rattle.whole.specs.Laws.GroupKeys.{action_held}
 use Rattle.rules.specs.Reasons.{conflict, race_among, first_conflict, writers, no_reason, racing, race_on, race_reason, reason53, groups_of}
 use Rattle.rules.specs.Reasons.{Reason as Said}
 use Rattle.racing.specs.Groups.{member_here, groups_here, race_here}
+use Rattle.racing.specs.declared.members.Pair.{Pair}
 use Rattle.racing.specs.Found.{member_at, race_of, InTokens}
 use Rattle.sharing.specs.Shared.{Shared}
 use Rattle.racing.specs.Laws.Alike.{Matches, matched_races, alike_reason}
@@ -36,13 +37,14 @@ module _ {records decls : List ℕ} {m n : ℕ} (v : Reading records decls m n) 
       alike_reason (table_of v) (race_among place (groups_here (table_of v) (drop 3 v.tokens))) (race_among place (groups_of (table_of v) (table_of v)))
       (matched_races place (groups_here (table_of v) (drop 3 v.tokens)) (groups_of (table_of v) (table_of v)) match)
 
-module _ {records decls : List ℕ} {m n place e l : ℕ} (f : InTokens records decls m n 3 place e l) where
-  pub no_race : l ≤ e → (v : Reading records decls m n) → no_reason ≡ reason53 (table_of v) place
-  no_race h v = sym (ap (race_reason (table_of v)) (f.found.nothing h v)) ∙ by_tokens v place
+module _ {records decls : List ℕ} {m n place : ℕ} where
+  pub no_race : InTokens records decls m n 3 place None → (v : Reading records decls m n) → no_reason ≡ reason53 (table_of v) place
+  no_race f v = sym (ap (race_reason (table_of v)) (f.found.nothing refl v)) ∙ by_tokens v place
 
-  pub with_race : {said : Said} → e < l → ((v : Reading records decls m n) → said ≡ race_reason (table_of v) (some (race_of v e l)))
+  pub with_race : {q : Pair} {said : Said} → InTokens records decls m n 3 place (Some q)
+      → ((v : Reading records decls m n) → said ≡ race_reason (table_of v) (some (race_of v q.earlier q.later)))
       → (v : Reading records decls m n) → said ≡ reason53 (table_of v) place
-  with_race h s v = s v ∙ (sym (ap (race_reason (table_of v)) (f.found.one h v)) ∙ by_tokens v place)
+  with_race f s v = s v ∙ (sym (ap (race_reason (table_of v)) (f.found.one refl v)) ∙ by_tokens v place)
 
 -- what two members share
 module _ {records decls memo : List ℕ} {m n : ℕ} (e l : ℕ) (r₁ w₁ : List ℕ) (s₁ : Bool) (r₂ w₂ : List ℕ) (s₂ : Bool) (c : Complete records decls memo m n)

@@ -1,5 +1,5 @@
 -- What the table says of a name: the number of its declaration, and the carrier under it.
-use Rattle.std.specs.Prelude.{ℕ, ◌+◌, ◌*◌, ◌<◌, ◌≤◌, ◌≡◌, refl, ◌⊎◌, Bool, true, false, List, [], ◌∷◌, length, drop}
+use Rattle.std.specs.Prelude.{ℕ, ◌+◌, ◌*◌, ◌<◌, ◌≤◌, ◌≡◌, refl, ◌⊎◌, Bool, true, false, List, [], ◌∷◌, length, drop, Some, None}
 use Rattle.std.proofs.Common.{sym, ap, ◌∙◌, subst, inl, inr, arith}
 use Rattle.std.proofs.Math.Option.{Option, none, some}
 use Rattle.cells.specs.Cells.{cell}
@@ -15,6 +15,7 @@ use Rattle.records.specs.Words.{word_at}
 use Rattle.table.specs.Laws.Positions.{far, kind_far}
 use Rattle.table.specs.Declarations.{name_tokens}
 use Rattle.table.specs.Views.{View, TargetAt, TargetStands}
+use Rattle.table.specs.Laws.Views.{no_target, target_here}
 use Rattle.table.specs.Laws.Kth.{table_length}
 use Rattle.table.specs.Meaning.{meaning_by, meaning_of}
 use Rattle.reading.specs.Reading.{Reading, table_of}
@@ -99,20 +100,11 @@ module _ {records decls : List ℕ} {m n i k : ℕ} (h : i < n) (e : kind_byte r
         (means_nothing v i k h e q l);
   }
 
-  module _ {p t : ℕ} (l : k < m) (at : p ≡ cell 2 decls k)
-      (is : (values : List ℕ) (w : View records values p) → TargetAt w.tokens t (declared_of w.declaration).target) where
-    target_here : (v : Reading records decls m n) → TargetAt v.tokens t (declared_of (declares v k l).declaration).target
-    target_here v = subst (λ (p : ℕ). (values : List ℕ) (w : View records values p) → TargetAt w.tokens t (declared_of w.declaration).target) at is
-        v.values (view v k l)
-
-    module _ (v : Reading records decls m n) (some_target : t ≡ 0 → ⊥) where
+  module _ {p : ℕ} (l : k < m) (at : p ≡ cell 2 decls k) where
+    module _ {t : ℕ} (is : (values : List ℕ) (w : View records values p) → TargetAt w.tokens (Some t) (declared_of w.declaration).target) (v : Reading records decls m n) where
       target_stands : (x : Target) × ((declared_of (declares v k l).declaration).target ≡ some x) × TargetStands v.tokens t x
-      target_stands = by (declared_of (declares v k l).declaration).target refl (target_here v)
-        where
-          by : (x : Option Target) → (declared_of (declares v k l).declaration).target ≡ x → TargetAt v.tokens t x
-              → (y : Target) × ((declared_of (declares v k l).declaration).target ≡ some y) × TargetStands v.tokens t y
-          by none f z = absurd (some_target z)
-          by (some y) f s = (y, f, s)
+      target_stands = target_here v.tokens (declared_of (declares v k l).declaration).target
+          (subst (λ (p : ℕ). (values : List ℕ) (w : View records values p) → TargetAt w.tokens (Some t) (declared_of w.declaration).target) at is v.values (view v k l))
 
       pub target_room : 8 * t + 8 ≤ length records
       target_room = omega (arith, target_stands.2.within, v.ready.holds.record_room)
@@ -133,14 +125,10 @@ module _ {records decls : List ℕ} {m n i k : ℕ} (h : i < n) (e : kind_byte r
             nothing = λ x. absurd (omega (arith, table_size_lem v, v.ready.few));
           }
 
-    module _ (v : Reading records decls m n) (no_target : t ≡ 0) where
+    module _ (is : (values : List ℕ) (w : View records values p) → TargetAt w.tokens None (declared_of w.declaration).target) (v : Reading records decls m n) where
       none_targeted : (declared_of (declares v k l).declaration).target ≡ none
-      none_targeted = by (declared_of (declares v k l).declaration).target refl (target_here v)
-        where
-          by : (x : Option Target) → (declared_of (declares v k l).declaration).target ≡ x → TargetAt v.tokens t x → (declared_of
-              (declares v k l).declaration).target ≡ none
-          by none f z = f
-          by (some y) f s = absurd (omega (arith, s.past))
+      none_targeted = no_target v.tokens None (declared_of (declares v k l).declaration).target
+          (subst (λ (p : ℕ). (values : List ℕ) (w : View records values p) → TargetAt w.tokens None (declared_of w.declaration).target) at is v.values (view v k l)) refl
 
       second : Second (declares v k l).declaration (declarations_tokens (declares v k l).stands.following [])
       second = second_token (declares v k l).declaration (declarations_tokens (declares v k l).stands.following [])

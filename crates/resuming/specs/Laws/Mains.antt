@@ -1,6 +1,6 @@
 -- Laws of the search for MAIN among the declarations.
 -- Assumes nothing.
-use Rattle.std.specs.Prelude.{ℕ, zero, suc, ◌+◌, ◌*◌, ◌<◌, ◌≤◌, ◌≡◌, Bool, true}
+use Rattle.std.specs.Prelude.{ℕ, zero, suc, ◌+◌, ◌*◌, ◌<◌, ◌≤◌, ◌≡◌, Bool, true, Option as Found, is_some}
 use Rattle.std.proofs.Math.Path.{refl, sym, ap}
 use Rattle.std.proofs.Common.{◌∙◌, subst, arith, drop_of_length-le}
 use Rattle.std.proofs.Math.Bool.{false}
@@ -20,6 +20,7 @@ use Rattle.laws_accepted.proofs.Accepted.Named.{same_itself}
 use Rattle.records.specs.Holds.{kind_byte, inside_cell}
 use Rattle.records.specs.Words.{word_at}
 use Rattle.table.specs.Views.{View, MainAt}
+use Rattle.table.specs.Laws.Views.{no_main, a_main}
 use Rattle.reading.specs.Reading.{Reading, table_of}
 use Rattle.reading.specs.Meanings.{declares}
 use Rattle.reading.specs.Laws.Reading.{kinded}
@@ -68,7 +69,7 @@ module _ {records decls : List ℕ} {m n k : ℕ} (s : Searching records decls m
       pub name_room : Reading records decls m n → 8 * p + 8 ≤ length records
       name_room v = omega (arith, (name_there l e v).0, v.ready.holds.record_room)
 
-      module _ {r : ℕ} (is : (values : List ℕ) (w : View records values p) → MainAt w.tokens r (declared_of w.declaration).mainly) where
+      module _ (r : Found ℕ) (is : (values : List ℕ) (w : View records values p) → MainAt w.tokens r (declared_of w.declaration).mainly) where
         here : (v : Reading records decls m n) → MainAt v.tokens r (declared_of (declares v k l).declaration).mainly
         here v = subst (λ (p : ℕ). (values : List ℕ) (w : View records values p) → MainAt w.tokens r (declared_of w.declaration).mainly) e is v.values (view v k l)
 
@@ -78,7 +79,7 @@ module _ {records decls : List ℕ} {m n k : ℕ} (s : Searching records decls m
         split : (v : Reading records decls m n) → drop k (table_of v) ≡ d v ∷ drop (suc k) (table_of v)
         split v = split_at (table_of v) k (d v) (declares v k l).found
 
-        pub search_on : r ≡ 0 → Searching records decls m n (k + 1)
+        pub search_on : is_some r ≡ false → Searching records decls m n (k + 1)
         unfolding main_name mains
         search_on z = record {
           within = omega arith;
@@ -86,21 +87,16 @@ module _ {records decls : List ℕ} {m n k : ℕ} (s : Searching records decls m
           missed = λ v. rw add-one (sym (rw (split v, mains, not_main v)) ∙ s.missed v);
         }
           where
-            by : (v : Reading records decls m n) (o : Option Info) → MainAt v.tokens r o → o ≡ none
-            by v none q = refl
-            by v (some i) q = absurd (omega (arith, q.0))
-
             not_main : (v : Reading records decls m n) → (d v).mainly ≡ none
-            not_main v = by v (d v).mainly (here v)
+            not_main v = no_main v.tokens r (d v).mainly (here v) z
 
-        pub searched : (r ≡ 0 → ⊥) → {x : ℕ} → x ≡ inside_cell records p → (v : Reading records decls m n) → number_of (table_of v) (main_name (table_of v)) ≡ some x
+        pub searched : is_some r ≡ true → {x : ℕ} → x ≡ inside_cell records p → (v : Reading records decls m n) → number_of (table_of v) (main_name (table_of v)) ≡ some x
         unfolding main_name number_of
         searched nz {x} q v =
-            ap (number_of (table_of v)) (sym (s.named v) ∙ (ap main_name (split v) ∙ (first (d v).mainly refl (here v) ∙ sym spelled))) ∙ by (dec_lt x m)
+            ap (number_of (table_of v)) (sym (s.named v) ∙ (ap main_name (split v) ∙ (first ∙ sym spelled))) ∙ by (dec_lt x m)
           where
-            first : (o : Option Info) → (d v).mainly ≡ o → MainAt v.tokens r o → main_name (d v ∷ drop (suc k) (table_of v)) ≡ (d v).name.word
-            first none f z = absurd (nz z)
-            first (some i) f z = rw (main_name, f)
+            first : main_name (d v ∷ drop (suc k) (table_of v)) ≡ (d v).name.word
+            first = rw (main_name, (a_main v.tokens r (d v).mainly (here v) nz).1)
 
             spelled : word_at v.tokens p ≡ (d v).name.word
             spelled = ap (λ (t : Token). t.info.word) (name_there l e v).1

@@ -2,9 +2,10 @@
 -- Assumes nothing.
 use Rattle.rules.specs.Text.Tokens.{Info, Name, Const, Less, Comma, Becomes, END, MAIN, Kind, kind_no, Token, tk, LBra, BEGIN}
 use Rattle.rules.specs.Grammar.Trees.{words, with_bits, bare_body, MainBits, bitless, main_bits, Declaration, plain, main, Tokens, bit, upto, Action, block, action_tokens, Members, BitsEnd, bits_end_tokens, unnamed, named, body, mapped, meaning_tokens, Given, carrier, given, given_tokens, main_bits_tokens, Declarations, declared_all, declared_also, declarations_tokens, heading_tokens, declaration_tokens}
-use Rattle.std.specs.Prelude.{ℕ, ◌+◌, ◌-◌, ◌<◌, ◌≡◌, refl, List, [], ◌∷◌, length, drop}
+use Rattle.std.specs.Prelude.{ℕ, ◌+◌, ◌-◌, ◌<◌, ◌≡◌, refl, List, [], ◌∷◌, length, drop, Option as Found, Some, None, is_some, Bool, true, false}
 use Rattle.std.proofs.Common.{sym, ap, ◌∙◌, arith}
 use Rattle.std.proofs.Math.Option.{Option, none, some}
+use Rattle.std.proofs.Math.Bool.{false≢true}
 use Rattle.rules.specs.Declarations.{Target, names_of, declared_of, main_names}
 use Rattle.laws_grammar.specs.Cited.Kinds.{kind_at}
 use Rattle.laws_grammar.specs.Grammar.Kinds.{kind_at_kind_no}
@@ -191,28 +192,27 @@ other_kind j k n e d f = d (sym (kind_at_kind_no j) ∙ ap kind_at (sym e ∙ f)
 -- what `:=` gives, by the kind of the token behind words and bits
 module _ {records values : List ℕ} {i : ℕ} (v : View records values i) {q k : ℕ} (place : q ≡ i + 1 + words_size_of v.declaration + bits_size (bits_part v.declaration))
     (kind : k ≡ kind_byte records q) where
-  pub given_some : k ≡ kind_no Becomes → GivenAt v.tokens (q + 1) (given_part v.declaration) (behind v)
+  pub given_some : k ≡ kind_no Becomes → GivenAt v.tokens (Some (q + 1)) (given_part v.declaration) (behind v)
   given_some is = go (given_part v.declaration) (given_reads v q place)
     where
-      go : (g : Given) → drop q v.tokens ≡ given_tokens g (behind v) → GivenAt v.tokens (q + 1) g (behind v)
+      go : (g : Given) → drop q v.tokens ≡ given_tokens g (behind v) → GivenAt v.tokens (Some (q + 1)) g (behind v)
       go carrier e =
           let a = behind_ahead v.stands.following in
           absurd (other_kind a.next.kind Becomes _ (kind_far v.holds q _ (e ∙ a.is) q 0 (omega arith) (omega arith)) a.no_becomes (sym kind ∙ is))
       go (given x m) e = (omega arith, behind_far _ q _ e 1)
 
-  pub given_none : (k ≡ kind_no Becomes → ⊥) → GivenAt v.tokens 0 (given_part v.declaration) (behind v)
+  pub given_none : (k ≡ kind_no Becomes → ⊥) → GivenAt v.tokens None (given_part v.declaration) (behind v)
   given_none not = go (given_part v.declaration) (given_reads v q place)
     where
-      go : (g : Given) → drop q v.tokens ≡ given_tokens g (behind v) → GivenAt v.tokens 0 g (behind v)
-      go carrier e = refl
+      go : (g : Given) → drop q v.tokens ≡ given_tokens g (behind v) → GivenAt v.tokens None g (behind v)
+      go carrier e = tt
       go (given x m) e = absurd (not (kind ∙ kind_far v.holds q _ e q 0 (omega arith) (omega arith)))
 
--- a body or a mapping's target, by the kind of the token behind `:=`
+-- a body or a mapping's target, by the kind of the token r behind `:=`
 pub data SeenGiven (records : List ℕ) (ts : Tokens) (r : ℕ) (d : Declaration) : Type 0 where
-  nothing_seen : r ≡ 0 → BodyAt ts 0 (declared_of d).body → TargetAt ts 0 (declared_of d).target → SeenGiven records ts r d
-  body_seen : 0 < r → r < length ts → kind_byte records r ≡ kind_no BEGIN → BodyAt ts r (declared_of d).body → TargetAt ts 0 (declared_of d).target
+  body_seen : r < length ts → kind_byte records r ≡ kind_no BEGIN → BodyAt ts (Some r) (declared_of d).body → TargetAt ts None (declared_of d).target
       → SeenGiven records ts r d
-  target_seen : 0 < r → r < length ts → (kind_byte records r ≡ kind_no BEGIN → ⊥) → BodyAt ts 0 (declared_of d).body → TargetAt ts r (declared_of d).target
+  target_seen : r < length ts → (kind_byte records r ≡ kind_no BEGIN → ⊥) → BodyAt ts None (declared_of d).body → TargetAt ts (Some r) (declared_of d).target
       → SeenGiven records ts r d
 
 module _ {text records values : List ℕ} {ts : Tokens} (h : Holds text records values ts) (r : ℕ) (ds : Declarations) where
@@ -220,8 +220,8 @@ module _ {text records values : List ℕ} {ts : Tokens} (h : Holds text records 
       → (declared_of d).body ≡ some (block b a m) → (declared_of d).target ≡ none → SeenGiven records ts r d
   see_body d b a m past e is none_of =
       let first = here ts r _ _ e in
-      body_seen past first.within (kind_far h r _ e r 0 (omega arith) (omega arith))
-      (rw is (past, (_, stands_here (action_tokens (block b a m)) (action_writes (block b a m)) ts r _ (omega (arith, first.within)) e))) (rw none_of refl)
+      body_seen first.within (kind_far h r _ e r 0 (omega arith) (omega arith))
+      (rw is (past, (_, stands_here (action_tokens (block b a m)) (action_writes (block b a m)) ts r _ (omega (arith, first.within)) e))) (rw none_of tt)
 
   target_stands : (t l c : Info) (z : BitsEnd) → 0 < r → drop r ts ≡ tk Name t ∷ tk Less l ∷ tk Const c ∷ bits_end_tokens z (declarations_tokens ds [])
       → TargetStands ts r (record { name = t; bits = names_of c z })
@@ -239,62 +239,97 @@ module _ {text records values : List ℕ} {ts : Tokens} (h : Holds text records 
         reads = first.behind ∙ ap (λ (x : Tokens). tk Less l ∷ tk Const c ∷ bits_end_tokens z x) a.is;
       }
 
-  see_given : (d : Declaration) → GivenAt ts r (given_part d) (declarations_tokens ds []) → SeenGiven records ts r d
-  see_given (plain n (words l f c t x b o)) g = nothing_seen g refl refl
-  see_given (plain n (with_bits l o carrier)) g = nothing_seen g refl refl
+  see_given : (d : Declaration) → GivenAt ts (Some r) (given_part d) (declarations_tokens ds []) → SeenGiven records ts r d
+  see_given (plain n (words l f c t x b o)) g = absurd g
+  see_given (plain n (with_bits l o carrier)) g = absurd g
   see_given (plain n (with_bits l o (given e (body b a m)))) g = see_body _ b a m g.0 g.1 refl refl
   see_given (plain n (with_bits l o (given e (mapped t b c z)))) g =
-      target_seen g.0 (here ts r _ _ g.1).within (λ k. omega (arith, kind_far h r _ g.1 r 0 (omega arith) (omega arith))) refl
+      target_seen (here ts r _ _ g.1).within (λ k. omega (arith, kind_far h r _ g.1 r 0 (omega arith) (omega arith))) tt
       (target_stands t b c z g.0 g.1)
   see_given (plain n (bare_body e b a m)) g = see_body _ b a m g.0 g.1 refl refl
   see_given (main k n o e b a m) g = see_body _ b a m g.0 g.1 refl refl
 
-pub seen_given : {records values : List ℕ} {i r : ℕ} (v : View records values i) → GivenAt v.tokens r (given_part v.declaration) (behind v)
-    → SeenGiven records v.tokens r v.declaration
-seen_given {records} {values} {i} {r} v g = see_given v.holds r v.stands.following v.declaration g
+nothing_given : (ts rest : Tokens) (d : Declaration) → GivenAt ts None (given_part d) rest → BodyAt ts None (declared_of d).body × TargetAt ts None (declared_of d).target
+nothing_given ts rest (plain n (words l f c t x b o)) g = (tt, tt)
+nothing_given ts rest (plain n (with_bits l o carrier)) g = (tt, tt)
+nothing_given ts rest (plain n (with_bits l o (given e (body b a m)))) g = absurd g
+nothing_given ts rest (plain n (with_bits l o (given e (mapped t b c z)))) g = absurd g
+nothing_given ts rest (plain n (bare_body e b a m)) g = absurd g
+nothing_given ts rest (main k n o e b a m) g = absurd g
+
+module _ {records values : List ℕ} {i : ℕ} (v : View records values i) where
+  pub body_none : GivenAt v.tokens None (given_part v.declaration) (behind v) → BodyAt v.tokens None (declared_of v.declaration).body
+  body_none g = (nothing_given v.tokens (behind v) v.declaration g).0
+
+  pub target_none : GivenAt v.tokens None (given_part v.declaration) (behind v) → TargetAt v.tokens None (declared_of v.declaration).target
+  target_none g = (nothing_given v.tokens (behind v) v.declaration g).1
+
+  pub seen_given : {r : ℕ} → GivenAt v.tokens (Some r) (given_part v.declaration) (behind v) → SeenGiven records v.tokens r v.declaration
+  seen_given {r} g = see_given v.holds r v.stands.following v.declaration g
 
 module _ {records : List ℕ} {ts : Tokens} {r : ℕ} {d : Declaration} where
-  pub given_far : SeenGiven records ts r d → (r ≡ 0 → ⊥) → r < length ts
-  given_far (nothing_seen z _ _) n = absurd (n z)
-  given_far (body_seen _ l _ _ _) n = l
-  given_far (target_seen _ l _ _ _) n = l
+  pub given_far : SeenGiven records ts r d → r < length ts
+  given_far (body_seen l _ _ _) = l
+  given_far (target_seen l _ _ _) = l
 
-  pub body_none : SeenGiven records ts r d → r ≡ 0 → BodyAt ts 0 (declared_of d).body
-  body_none (nothing_seen _ b _) z = b
-  body_none (body_seen p _ _ _ _) z = absurd (omega arith)
-  body_none (target_seen p _ _ _ _) z = absurd (omega arith)
+  pub body_some : {k : ℕ} → SeenGiven records ts r d → k ≡ kind_byte records r → k ≡ kind_no BEGIN → BodyAt ts (Some r) (declared_of d).body
+  body_some (body_seen _ _ b _) e k = b
+  body_some (target_seen _ o _ _) e k = absurd (o (sym e ∙ k))
 
-  pub body_some : {k : ℕ} → SeenGiven records ts r d → (r ≡ 0 → ⊥) → k ≡ kind_byte records r → k ≡ kind_no BEGIN → BodyAt ts r (declared_of d).body
-  body_some (nothing_seen z _ _) n e k = absurd (n z)
-  body_some (body_seen _ _ _ b _) n e k = b
-  body_some (target_seen _ _ o _ _) n e k = absurd (o (sym e ∙ k))
+  pub body_other : {k : ℕ} → SeenGiven records ts r d → k ≡ kind_byte records r → (k ≡ kind_no BEGIN → ⊥) → BodyAt ts None (declared_of d).body
+  body_other (body_seen _ o _ _) e k = absurd (k (e ∙ o))
+  body_other (target_seen _ _ b _) e k = b
 
-  pub body_other : {k : ℕ} → SeenGiven records ts r d → k ≡ kind_byte records r → (k ≡ kind_no BEGIN → ⊥) → BodyAt ts 0 (declared_of d).body
-  body_other (nothing_seen _ b _) e k = b
-  body_other (body_seen _ _ o _ _) e k = absurd (k (e ∙ o))
-  body_other (target_seen _ _ _ b _) e k = b
+  pub target_body : {k : ℕ} → SeenGiven records ts r d → k ≡ kind_byte records r → k ≡ kind_no BEGIN → TargetAt ts None (declared_of d).target
+  target_body (body_seen _ _ _ t) e k = t
+  target_body (target_seen _ o _ _) e k = absurd (o (sym e ∙ k))
 
-  pub target_none : SeenGiven records ts r d → r ≡ 0 → TargetAt ts 0 (declared_of d).target
-  target_none (nothing_seen _ _ t) z = t
-  target_none (body_seen p _ _ _ _) z = absurd (omega arith)
-  target_none (target_seen p _ _ _ _) z = absurd (omega arith)
+  pub target_some : {k : ℕ} → SeenGiven records ts r d → k ≡ kind_byte records r → (k ≡ kind_no BEGIN → ⊥) → TargetAt ts (Some r) (declared_of d).target
+  target_some (body_seen _ o _ _) e k = absurd (k (e ∙ o))
+  target_some (target_seen _ _ _ t) e k = t
 
-  pub target_body : {k : ℕ} → SeenGiven records ts r d → k ≡ kind_byte records r → k ≡ kind_no BEGIN → TargetAt ts 0 (declared_of d).target
-  target_body (nothing_seen _ _ t) e k = t
-  target_body (body_seen _ _ _ _ t) e k = t
-  target_body (target_seen _ _ o _ _) e k = absurd (o (sym e ∙ k))
+-- a body, a target or a MAIN that is found, and one that is not
+pub no_body : (ts : Tokens) (x : Found ℕ) (o : Option Action) → BodyAt ts x o → is_some x ≡ false → o ≡ none
+no_body ts x none a e = refl
+no_body ts None (some b) a e = absurd a
+no_body ts (Some r) (some b) a e = absurd (false≢true (sym e))
 
-  pub target_some : {k : ℕ} → SeenGiven records ts r d → (r ≡ 0 → ⊥) → k ≡ kind_byte records r → (k ≡ kind_no BEGIN → ⊥) → TargetAt ts r (declared_of d).target
-  target_some (nothing_seen z _ _) n e k = absurd (n z)
-  target_some (body_seen _ _ o _ _) n e k = absurd (k (e ∙ o))
-  target_some (target_seen _ _ _ _ t) n e k = t
+pub a_body : (ts : Tokens) (x : Found ℕ) (o : Option Action) → BodyAt ts x o → is_some x ≡ true → (b : Action) × (o ≡ some b)
+a_body ts None none a e = absurd (false≢true e)
+a_body ts (Some r) none a e = absurd a
+a_body ts x (some b) a e = (b, refl)
+
+pub no_target : (ts : Tokens) (x : Found ℕ) (o : Option Target) → TargetAt ts x o → is_some x ≡ false → o ≡ none
+no_target ts x none a e = refl
+no_target ts None (some t) a e = absurd a
+no_target ts (Some r) (some t) a e = absurd (false≢true (sym e))
+
+pub a_target : (ts : Tokens) (x : Found ℕ) (o : Option Target) → TargetAt ts x o → is_some x ≡ true → (t : Target) × (o ≡ some t)
+a_target ts None none a e = absurd (false≢true e)
+a_target ts (Some r) none a e = absurd a
+a_target ts x (some t) a e = (t, refl)
+
+pub no_main : (ts : Tokens) (x : Found ℕ) (o : Option Info) → MainAt ts x o → is_some x ≡ false → o ≡ none
+no_main ts x none a e = refl
+no_main ts None (some i) a e = absurd a
+no_main ts (Some r) (some i) a e = absurd (false≢true (sym e))
+
+pub a_main : (ts : Tokens) (x : Found ℕ) (o : Option Info) → MainAt ts x o → is_some x ≡ true → (i : Info) × (o ≡ some i)
+a_main ts None none a e = absurd (false≢true e)
+a_main ts (Some r) none a e = absurd a
+a_main ts x (some i) a e = (i, refl)
+
+-- the name of a target that is found, and its bits
+pub target_here : (ts : Tokens) {r : ℕ} (o : Option Target) → TargetAt ts (Some r) o → (t : Target) × (o ≡ some t) × TargetStands ts r t
+target_here ts none a = absurd a
+target_here ts (some t) a = (t, refl, a)
 
 -- the names of a target's bits, by the number of its name's token
-module _ {text records values : List ℕ} {ts : Tokens} (h : Holds text records values ts) {r : ℕ} where
-  pub target_missing : (o : Option Target) → TargetAt ts r o → r ≡ 0 → Missing ≡ shown_target o
-  target_missing none t z = refl
-  target_missing (some x) t z = absurd (omega (arith, t.past))
+pub target_missing : (ts : Tokens) (o : Option Target) → TargetAt ts None o → Missing ≡ shown_target o
+target_missing ts none t = refl
+target_missing ts (some x) t = absurd t
 
+module _ {text records values : List ℕ} {ts : Tokens} (h : Holds text records values ts) (r : ℕ) where
   abbrev pub target_bits_view : {x : Target} → TargetStands ts r x → BitsView records values (r + 1)
   target_bits_view t = record {
     text = text;
@@ -307,18 +342,18 @@ module _ {text records values : List ℕ} {ts : Tokens} (h : Holds text records 
     reads = t.reads;
   }
 
-  pub target_within : (o : Option Target) → TargetAt ts r o → (r ≡ 0 → ⊥) → r < length ts
-  target_within none t n = absurd (n t)
-  target_within (some x) t n = t.within
+  pub target_within : (o : Option Target) → TargetAt ts (Some r) o → r < length ts
+  target_within none t = absurd t
+  target_within (some x) t = t.within
 
-  pub target_view : (o : Option Target) → TargetAt ts r o → (r ≡ 0 → ⊥) → BitsView records values (r + 1)
-  target_view none t n = absurd (n t)
-  target_view (some x) t n = target_bits_view t
+  pub target_view : (o : Option Target) → TargetAt ts (Some r) o → BitsView records values (r + 1)
+  target_view none t = absurd t
+  target_view (some x) t = target_bits_view t
 
-  pub target_names : {x : Names} (o : Option Target) → TargetAt ts r o → (r ≡ 0 → ⊥)
+  pub target_names : {x : Names} (o : Option Target) → TargetAt ts (Some r) o
       → ((v : BitsView records values (r + 1)) → x ≡ shown_bits (main_names v.bits)) → x ≡ shown_target o
-  target_names none t n f = absurd (n t)
-  target_names (some y) t n f = f (target_bits_view t) ∙ ap shown_bits t.names
+  target_names none t f = absurd t
+  target_names (some y) t f = f (target_bits_view t) ∙ ap shown_bits t.names
 
 -- MAIN, by the kind of the token before the name
 module _ {records values : List ℕ} {i : ℕ} (v : View records values i) {k : ℕ} (kind : k ≡ kind_byte records (i - 1)) where
@@ -328,20 +363,20 @@ module _ {records values : List ℕ} {i : ℕ} (v : View records values i) {k : 
   abbrev led_kind : k ≡ kind_no (token_at v.tokens (i - 1)).kind
   led_kind = kind ∙ (v.holds.entry (i - 1) main_within).kind
 
-  pub main_some : k ≡ kind_no MAIN → MainAt v.tokens (i - 1) (declared_of v.declaration).mainly
+  pub main_some : k ≡ kind_no MAIN → MainAt v.tokens (Some (i - 1)) (declared_of v.declaration).mainly
   main_some is = go v.declaration v.stands.led
     where
-      go : (d : Declaration) → LedBy (token_at v.tokens (i - 1)) d → MainAt v.tokens (i - 1) (declared_of d).mainly
+      go : (d : Declaration) → LedBy (token_at v.tokens (i - 1)) d → MainAt v.tokens (Some (i - 1)) (declared_of d).mainly
       go (plain n f) led = absurd (other_kind _ MAIN _ led_kind led is)
       go (main x n o e b a m) led = (omega (arith, v.stands.past), (main_within, led))
 
-  pub main_none : (k ≡ kind_no MAIN → ⊥) → MainAt v.tokens 0 (declared_of v.declaration).mainly
+  pub main_none : (k ≡ kind_no MAIN → ⊥) → MainAt v.tokens None (declared_of v.declaration).mainly
   main_none not = go v.declaration v.stands.led
     where
-      go : (d : Declaration) → LedBy (token_at v.tokens (i - 1)) d → MainAt v.tokens 0 (declared_of d).mainly
-      go (plain n (words l f c t x b o)) led = refl
-      go (plain n (with_bits l o carrier)) led = refl
-      go (plain n (with_bits l o (given e (body b a m)))) led = refl
-      go (plain n (with_bits l o (given e (mapped t b c z)))) led = refl
-      go (plain n (bare_body e b a m)) led = refl
+      go : (d : Declaration) → LedBy (token_at v.tokens (i - 1)) d → MainAt v.tokens None (declared_of d).mainly
+      go (plain n (words l f c t x b o)) led = tt
+      go (plain n (with_bits l o carrier)) led = tt
+      go (plain n (with_bits l o (given e (body b a m)))) led = tt
+      go (plain n (with_bits l o (given e (mapped t b c z)))) led = tt
+      go (plain n (bare_body e b a m)) led = tt
       go (main x n o e b a m) led = absurd (not (led_kind ∙ ap (λ (t : Token). kind_no t.kind) led))

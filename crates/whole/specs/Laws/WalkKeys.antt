@@ -1,5 +1,5 @@
 -- Laws of the least key of a body: what a turn of the walk keeps.
-use Rattle.std.specs.Prelude.{ℕ, zero, suc, ◌+◌, ◌-◌, ◌*◌, ◌<◌, ◌≤◌, min, ◌≡◌, refl, Bool, true, false, ◌&&◌, List, [], ◌++◌, eqb, length, take, drop}
+use Rattle.std.specs.Prelude.{ℕ, zero, suc, ◌+◌, ◌-◌, ◌*◌, ◌<◌, ◌≤◌, min, ◌≡◌, refl, Bool, true, false, ◌&&◌, List, [], ◌++◌, eqb, length, take, drop, Some, None}
 use Rattle.std.proofs.Math.Path.{sym, ap}
 use Rattle.std.proofs.Common.{◌∙◌, subst, append-nil, arith, eq-eqb, eqb-true, length-take, length-drop, drop_of_length-le, length-take-le, take_all, drop_at}
 use Rattle.std.proofs.lemmas.Bool.{false≢true}
@@ -218,23 +218,24 @@ module _ {text records decls first room : List ℕ} {m n from key depth base top
           };
     }
 
-module _ {text records decls : List ℕ} {m n k b : ℕ} (is : (v : Reading records decls m n) → Body v k b) where
+module _ {text records decls : List ℕ} {m n : ℕ} (k : ℕ) where
   body_of_lem : (v : Written text records decls m n) (d : Declared) → get_elem? (whole v) k ≡ some d → body_number (whole v) (some k) ≡ d.body
   unfolding body_number
   body_of_lem v d e = rw (e, body_number)
 
-  pub no_body_key : {room : List ℕ} → b ≡ 0 → BodyKey text records decls room room m n k no_key
-  no_body_key z = record {
+  pub no_body_key : {room : List ℕ} → ((v : Reading records decls m n) → Body v k None) → BodyKey text records decls room room m n k no_key
+  no_body_key is = record {
     same = record { memo = refl; size = refl };
-    least = λ v d e. sym (ap (λ (x : Option Action). least_number_key (body_groups (whole v) x)) (sym (body_of_lem v d e) ∙ (is (reading v)).missing z)
+    least = λ v d e. sym (ap (λ (x : Option Action). least_number_key (body_groups (whole v) x)) (sym (body_of_lem v d e) ∙ (is (reading v)).missing refl)
         ∙ least_none number_key);
   }
 
-  pub some_body_key : {old new : List ℕ} {r : ℕ} → (b ≡ 0 → ⊥) → Walked text records decls old new m n b r → BodyKey text records decls old new m n k r
-  some_body_key z w = record {
+  pub some_body_key : {b : ℕ} {old new : List ℕ} {r : ℕ} → ((v : Reading records decls m n) → Body v k (Some b)) → Walked text records decls old new m n b r
+      → BodyKey text records decls old new m n k r
+  some_body_key {b} is w = record {
     same = w.same;
     least = λ v d e.
-        let x = (is (reading v)).there z in
+        let x = (is (reading v)).there refl in
         let y = x.2 in
         let p = token_at v.tokens (b - 1) in
         w.least v ∙ (ap (λ (l : Tokens). least_number_key (walk (whole v) [] none p l)) x.3.1

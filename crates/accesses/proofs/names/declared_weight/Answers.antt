@@ -1,10 +1,11 @@
 -- `accesses::names::declared_weight` meets its contract: an answer for each fault of an access, and one for none.
 -- Assumes nothing.
 use borrow.Author.Rules.{rules}
-use borrow.Author.Tests.{not-true, not-false}
+use borrow.Author.Tests.{not-true}
 use mathlib.Core.Path.{◌≡◌, sym, ◌∙◌}
 use mathlib.Core.Bool.{Bool, true, false, not}
 use mathlib.Core.Option.{Option}
+use Rattle.std.specs.Prelude.{Some, None}
 use Prim.Native.Nat.{ℕ, ◌≤◌}
 use Rattle.rules.specs.Limits.{longest_text}
 use Rattle.rules.specs.Grammar.Trees.{Bits}
@@ -33,12 +34,12 @@ module _ (p : ℕ) (words own given : Names) (t : Bool) (l : p ≤ longest_text)
     unfit : not f ≡ true → (k : ℕ) → k ≡ key (fault 41 p) → All p words own given t k 0
     unfit h k e w b x g s = rw e (access_unfit p s (sym em ∙ hm) (sym ef ∙ not-true f h) l)
 
-    module _ (hf : not f ≡ false) (n : ℕ) (en : n ≡ access_length own given) where
-      outside : n ≡ 0 → (k : ℕ) → k ≡ key (fault 42 p) → All p words own given t k 0
-      outside z k e w b x g s = rw e (access_outside p s (sym em ∙ hm) (sym ef ∙ not-false f hf) (sym en ∙ z) l)
+    module _ (hf : f ≡ true) where
+      outside : None ≡ access_length own given → (k : ℕ) → k ≡ key (fault 42 p) → All p words own given t k 0
+      outside z k e w b x g s = rw e (access_outside p s (sym em ∙ hm) (sym ef ∙ hf) (sym z) l)
 
-      sound : (n ≡ 0 → ⊥) → Short own → All p words own given t no_key n
-      sound nz h w b x g s = rw en (access_sound p s (sym em ∙ hm) (sym ef ∙ not-false f hf) (λ z. nz (en ∙ z)) h)
+      sound : (n : ℕ) → Some n ≡ access_length own given → Short own → All p words own given t no_key n
+      sound n e h w b x g s = access_sound p s (sym em ∙ hm) (sym ef ∙ hf) (sym e) h
 
 pub returns-then-is_missing : goal.returns-then-is_missing
 returns-then-is_missing c = search (rules, bitless)
@@ -46,8 +47,8 @@ returns-then-is_missing c = search (rules, bitless)
 pub returns-then-not-fits_words : goal.returns-then-not-fits_words
 returns-then-not-fits_words c = search (rules, unfit)
 
-pub returns-then-bits-eq0 : goal.returns-then-bits-eq0
-returns-then-bits-eq0 c = search (rules, outside)
+pub returns-in-None : goal.returns-in-None
+returns-in-None c = outside _ _ _ _ _ (c.requires.1) c.is_missing.ensures c.if-is_missing.false c.fits_words.ensures c.if-not-fits_words.false c.in-None.ensures _ c.fault_key-in-None.ensures
 
-pub returns : goal.returns
-returns c = search (rules, sound)
+pub returns-in-Some : goal.returns-in-Some
+returns-in-Some c = sound _ _ _ _ _ (c.requires.1) c.is_missing.ensures c.if-is_missing.false c.fits_words.ensures c.if-not-fits_words.false _ c.in-Some.ensures c.requires.0

@@ -2,7 +2,7 @@
 -- Assumes nothing.
 use mathlib.Core.Path.{◌≡◌}
 use mathlib.Core.List.{List}
-use Prim.Native.Nat.{ℕ, ◌-◌}
+use Prim.Native.Nat.{ℕ}
 use lib.ListN.{length}
 use Rattle.bodies.specs.Bodies.{BodiesView}
 use Rattle.bodies.specs.Laws.All.{Left}
@@ -14,6 +14,3 @@ pub record Inv (records values decls room₀ : List ℕ) (m : ℕ) (room : List 
 
 abbrev pub invariant-loop-k : goal.invariant-loop-k
 invariant-loop-k l = Inv l.records l.values l.decls l.initial.room l.m l.room l.key l.k
-
-abbrev pub decreases-loop-k : goal.decreases-loop-k
-decreases-loop-k l = l.m - l.k

@@ -33,16 +33,16 @@ fill-get64-requires t c = index_room c.requires.0 c.requires.1.0 c.requires.1.1.
 pub fill-returns-then-get64-ne-UNKNOWN : goal.fill-returns-then-get64-ne-UNKNOWN
 fill-returns-then-get64-ne-UNKNOWN t c = fill_known c.requires.0 c.requires.1.0 c.requires.1.1.0 c.index_of-k.ensures.0 c.index_of-k.ensures.1 c.get64.ensures c.if-get64-ne-UNKNOWN.true
 
-pub fill-body_at-body-requires : goal.fill-body_at-body-requires
-fill-body_at-body-requires t c = (c.requires.0.ready.reading, declared c.requires.0 c.requires.1.0 c.requires.1.1.0 c.index_of-k.ensures.0 c.index_of-k.ensures.1 c.get64.ensures c.if-get64-ne-UNKNOWN.false)
+pub fill-body_at-requires : goal.fill-body_at-requires
+fill-body_at-requires t c = (c.requires.0.ready.reading, declared c.requires.0 c.requires.1.0 c.requires.1.1.0 c.index_of-k.ensures.0 c.index_of-k.ensures.1 c.get64.ensures c.if-get64-ne-UNKNOWN.false)
 
 pub fill-put64-requires : goal.fill-put64-requires
 fill-put64-requires t c = index_room c.requires.0 c.requires.1.0 c.requires.1.1.0 c.index_of-k.ensures.0 c.index_of-k.ensures.1
 
-pub fill-returns-then-body-eq0 : goal.fill-returns-then-body-eq0
-fill-returns-then-body-eq0 t c =
-    fill_bodiless c.requires.0 c.requires.1.0 c.requires.1.1.0 c.index_of-k.ensures.0 c.index_of-k.ensures.1 c.get64.ensures c.if-get64-ne-UNKNOWN.false c.body_at-body.ensures
-    c.if-body-eq0.true c.put64.ensures
+pub fill-returns-in_default : goal.fill-returns-in_default
+fill-returns-in_default t c =
+    fill_bodiless c.requires.0 c.requires.1.0 c.requires.1.1.0 c.index_of-k.ensures.0 c.index_of-k.ensures.1 c.get64.ensures c.if-get64-ne-UNKNOWN.false c.in_default.ensures
+    c.put64.ensures
 
 pub fill-overflow_sub-left : goal.fill-overflow_sub-left
 fill-overflow_sub-left t c = omega (arith, some_left _ _ c.requires.0.ready c.requires.1.1.1.1)
@@ -56,14 +56,14 @@ fill-descend-requires t c =
         (
           search rules,
           chain_down c.requires.0 c.requires.1.0 c.requires.1.1.0 c.index_of-k.ensures.0 c.index_of-k.ensures.1 c.get64.ensures c.if-get64-ne-UNKNOWN.false
-              c.body_at-body.ensures c.if-body-eq0.false _ c.requires.1.1.1.1,
+              c.in-Some.ensures _ c.requires.1.1.1.1,
         ),
       ),
     )
 
 pub fill-walk-count-requires : goal.fill-walk-count-requires
 fill-walk-count-requires t c =
-    to_walk c.requires.0 c.requires.1.0 c.requires.1.1.0 c.index_of-k.ensures.0 c.index_of-k.ensures.1 c.get64.ensures c.if-get64-ne-UNKNOWN.false c.body_at-body.ensures c.if-body-eq0.false
+    to_walk c.requires.0 c.requires.1.0 c.requires.1.1.0 c.index_of-k.ensures.0 c.index_of-k.ensures.1 c.get64.ensures c.if-get64-ne-UNKNOWN.false c.in-Some.ensures
     c.descend.ensures (search rules) (search rules)
 
 pub fill-put64-requires-2 : goal.fill-put64-requires-2
@@ -71,5 +71,5 @@ fill-put64-requires-2 t c = omega (arith, index_room c.requires.0 c.requires.1.0
 
 pub fill-returns : goal.fill-returns
 fill-returns t c =
-    fill_body c.requires.0 c.requires.1.0 c.requires.1.1.0 c.index_of-k.ensures.0 c.index_of-k.ensures.1 c.get64.ensures c.if-get64-ne-UNKNOWN.false c.body_at-body.ensures c.if-body-eq0.false
+    fill_body c.requires.0 c.requires.1.0 c.requires.1.1.0 c.index_of-k.ensures.0 c.index_of-k.ensures.1 c.get64.ensures c.if-get64-ne-UNKNOWN.false c.in-Some.ensures
     c.descend.ensures c.descend.auto.table c.walk-count.ensures c.put64-2.ensures

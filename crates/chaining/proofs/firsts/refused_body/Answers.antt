@@ -1,7 +1,6 @@
 -- `chaining::firsts::refused_body` meets its contract.
 use borrow.Author.Rules.{rules}
 use native.Mathlib.Omega.{arith}
-use Prim.Native.Nat.{◌-◌}
 use Rattle.chaining.specs.Laws.Firsts.{seek_first, sought_all, seek_elsewhere, seek_short, sought}
 use Rattle.chaining.proofs.firsts.refused_body.Goals as goal
 

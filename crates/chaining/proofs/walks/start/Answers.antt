@@ -27,4 +27,4 @@ empty-requires c = search rules
 
 pub returns : goal.returns
 unfolding padded reason_numbers
-returns c = start_one c.refused_body-body.ensures _ c.if-m-body.false refl refl c.empty.ensures refl
+returns c = start_one c.refused_body-body.ensures _ c.if-m-body.false refl c.empty.ensures refl

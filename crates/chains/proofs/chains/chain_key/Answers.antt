@@ -1,5 +1,4 @@
 -- `chains::chains::chain_key` meets its contract.
-use Prim.Native.Nat.{◌-◌}
 use Rattle.chains.specs.Laws.Least.{none_chained, chain_more, chains_all}
 use Rattle.chains.proofs.chains.chain_key.Goals as goal
 

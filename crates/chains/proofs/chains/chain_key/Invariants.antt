@@ -1,10 +1,6 @@
 -- `chains::chains::chain_key` meets its contract.
-use Prim.Native.Nat.{◌-◌}
 use Rattle.chains.specs.Laws.Least.{Chained}
 use Rattle.chains.proofs.chains.chain_key.Given as goal
 
 abbrev pub invariant-loop-k : goal.invariant-loop-k
 invariant-loop-k l = Chained l.records l.decls l.m l.n l.key l.k
-
-abbrev pub decreases-loop-k : goal.decreases-loop-k
-decreases-loop-k l = l.m - l.k

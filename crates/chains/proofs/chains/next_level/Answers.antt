@@ -1,6 +1,5 @@
 -- `chains::chains::next_level` meets its contract.
 use borrow.Author.Rules.{rules}
-use Prim.Native.Nat.{◌-◌}
 use Rattle.chains.specs.Laws.Chains.{none_rising, risen, rise}
 use Rattle.chains.proofs.chains.next_level.Goals as goal
 

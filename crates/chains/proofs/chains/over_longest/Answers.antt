@@ -1,6 +1,5 @@
 -- `chains::chains::over_longest` meets its contract.
 use borrow.Author.Rules.{rules}
-use Prim.Native.Nat.{◌-◌}
 use Rattle.chains.specs.Laws.Least.{first_level, climb, nothing_above, at_top}
 use Rattle.chains.proofs.chains.over_longest.Goals as goal
 

@@ -1,10 +1,6 @@
 -- `chains::chains::over_longest` meets its contract.
-use Prim.Native.Nat.{◌-◌}
 use Rattle.chains.specs.Laws.Least.{Climbing}
 use Rattle.chains.proofs.chains.over_longest.Given as goal
 
 abbrev pub invariant-loop-k : goal.invariant-loop-k
-invariant-loop-k l = Climbing l.records l.decls l.m l.n l.level.w l.k
-
-abbrev pub decreases-loop-k : goal.decreases-loop-k
-decreases-loop-k l = 16 - l.k
+invariant-loop-k l = Climbing l.records l.decls l.m l.n l.level.w l._k

@@ -1,5 +1,4 @@
 -- `chains::mains::main_at` meets its contract.
-use borrow.Author.Rules.{rules}
 use Rattle.reading.specs.Laws.Meanings.{declared_view}
 use Rattle.chains.specs.Laws.Mains.{main_there}
 use Rattle.chains.proofs.mains.main_at.Goals as goal
@@ -8,4 +7,4 @@ pub main_of-requires : goal.main_of-requires
 main_of-requires c = declared_view c.requires.0 c.requires.1 c.get16.ensures
 
 pub returns : goal.returns
-returns c = search (rules, main_there)
+returns c = main_there c.main_of.result c.requires.0 c.requires.1 c.get16.ensures c.main_of.ensures

@@ -54,22 +54,22 @@ gather-returns-then-mark_in-ne0 t c =
     c.requires.1.1.0 c.inside_at-k.ensures
     c.if-m-k.false c.mark_in.ensures c.if-mark_in-ne0.true
 
-pub gather-body_at-body-requires : goal.gather-body_at-body-requires
-gather-body_at-body-requires t c = (c.requires.0.reading, c.if-m-k.false)
+pub gather-body_at-requires : goal.gather-body_at-requires
+gather-body_at-requires t c = (c.requires.0.reading, c.if-m-k.false)
 
 pub gather-remember-requires : goal.gather-remember-requires
 gather-remember-requires t c =
     entry_room c.requires.0
     c.if-m-k.false
 
-pub gather-returns-then-body-eq0 : goal.gather-returns-then-body-eq0
-gather-returns-then-body-eq0 t c =
+pub gather-returns-in_default : goal.gather-returns-in_default
+gather-returns-in_default t c =
     fill_bodiless c.requires.0
     c.requires.1.0
     c.requires.1.1.0
     c.inside_at-k.ensures
     c.if-m-k.false
-    c.body_at-body.ensures _ c.if-body-eq0.true
+    _ c.in_default.ensures
     c.nothing.ensures.0 c.nothing.ensures.1.0 c.nothing.ensures.1.1
     c.remember.ensures
 
@@ -98,7 +98,7 @@ gather-descend-requires t c = (
           c.requires.1.0
           c.requires.1.1.0
           c.inside_at-k.ensures c.if-m-k.false
-          c.body_at-body.ensures _ c.if-body-eq0.false
+          c.in-Some.ensures _
           c.requires.1.1.1.1,
     ),
   ),
@@ -119,7 +119,7 @@ gather-remember-requires-2 t c =
 
 pub gather-returns : goal.gather-returns
 gather-returns t c =
-    fill_body c.requires.0 c.requires.1.0 c.requires.1.1.0 c.inside_at-k.ensures c.if-m-k.false c.body_at-body.ensures _ c.if-body-eq0.false
+    fill_body c.requires.0 c.requires.1.0 c.requires.1.1.0 c.inside_at-k.ensures c.if-m-k.false c.in-Some.ensures _
     c.descend.ensures.0
     c.descend.ensures.1 c.touched-t.ensures
     c.remember-2.ensures

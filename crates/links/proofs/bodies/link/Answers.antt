@@ -12,9 +12,6 @@ loop-k-init c = (start_going _ _ _ _, refl, refl)
 pub declaration-requires : goal.declaration-requires
 declaration-requires c = let (values, ts, d, r, s) = c.requires.0 in partly_at c.loop-k.invariant.0 _ (omega (arith, c.requires.1, c.loop-k.invariant.1)) c.loop-k-test.true values ts d r s
 
-pub loop-k-smaller : goal.loop-k-smaller
-loop-k-smaller c = omega arith
-
 pub loop-k-preserved : goal.loop-k-preserved
 loop-k-preserved c = (one_linked c.loop-k.invariant.0 _ (omega (arith, c.requires.1, c.loop-k.invariant.1)) c.loop-k-test.true c.declaration.ensures, search rules, search rules)
 

@@ -1,33 +1,11 @@
--- `links::mains::main_start` meets its contract: the first declaration with MAIN before its name.
+-- `links::mains::main_start` meets its contract: MAIN's name leads to the first instruction of its body.
 -- Assumes nothing.
 use native.Mathlib.Omega.{arith}
-use Rattle.links.specs.Laws.Mains.{start_searching, main_exists, cell_room, view_at, name_fits, main_here, main_later}
+use Rattle.links.specs.Laws.Mains.{name_fits, main_leads}
 use Rattle.links.proofs.mains.main_start.Goals as goal
 
-pub loop-k-init : goal.loop-k-init
-loop-k-init c = start_searching _ _ _
-
-pub get16-name-requires : goal.get16-name-requires
-get16-name-requires c = cell_room c.loop-k.invariant c.loop-k-test.true c.requires
-
-pub main_of-requires : goal.main_of-requires
-main_of-requires c = (c.requires.values, view_at c.loop-k.invariant c.loop-k-test.true c.get16-name.ensures c.requires)
-
 pub link_at-requires : goal.link_at-requires
-link_at-requires c = omega (arith, (name_fits c.loop-k.invariant c.loop-k-test.true c.get16-name.ensures c.requires).0)
-
-pub returns-then-main_of-ne0 : goal.returns-then-main_of-ne0
-returns-then-main_of-ne0 c =
-    main_here c.loop-k.invariant c.loop-k-test.true c.get16-name.ensures
-    (λ v. c.main_of.ensures v.values (view_at c.loop-k.invariant c.loop-k-test.true c.get16-name.ensures v)) c.if-main_of-ne0.true c.link_at.ensures
-
-pub loop-k-smaller : goal.loop-k-smaller
-loop-k-smaller c = omega arith
-
-pub loop-k-preserved : goal.loop-k-preserved
-loop-k-preserved c =
-    main_later c.loop-k.invariant c.loop-k-test.true c.get16-name.ensures
-    (λ v. c.main_of.ensures v.values (view_at c.loop-k.invariant c.loop-k-test.true c.get16-name.ensures v)) c.if-main_of-ne0.false
+link_at-requires c = omega (arith, (name_fits c.main_name.ensures c.requires).0)
 
 pub returns : goal.returns
-returns c = λ v. absurd (main_exists c.loop-k.invariant c.loop-k-test.false v)
+returns c = main_leads c.main_name.ensures c.link_at.ensures

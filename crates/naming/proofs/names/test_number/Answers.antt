@@ -13,8 +13,8 @@ returns-in_err-k c = λ v.
 pub body_at-requires : goal.body_at-requires
 body_at-requires c = (reading c.requires, number_within c.requires _ (c.number_of.ensures c.requires) c.in_ok-k.was)
 
-pub returns-then-body_at-eq0 : goal.returns-then-body_at-eq0
-returns-then-body_at-eq0 c = λ v. bodiless_test v _ (c.number_of.ensures v) c.in_ok-k.was (c.body_at.ensures (reading v)) c.if-body_at-eq0.true
+pub returns-in-None : goal.returns-in-None
+returns-in-None c = λ v. bodiless_test v _ (c.number_of.ensures v) c.in_ok-k.was (c.in-None.ensures (reading v))
 
-pub returns : goal.returns
-returns c = λ v. test_there v _ (c.number_of.ensures v) c.in_ok-k.was (c.body_at.ensures (reading v)) c.if-body_at-eq0.false
+pub returns-in-Some : goal.returns-in-Some
+returns-in-Some c = λ v. test_there v _ (c.number_of.ensures v) c.in_ok-k.was (c.in-Some.ensures (reading v))

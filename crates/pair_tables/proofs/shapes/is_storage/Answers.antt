@@ -3,8 +3,8 @@
 use Rattle.pair_tables.specs.Laws.Shapes.{no_storage, with_storage}
 use Rattle.pair_tables.proofs.shapes.is_storage.Goals as goal
 
-pub returns-then-target_of-ne0 : goal.returns-then-target_of-ne0
-returns-then-target_of-ne0 c = λ v. no_storage c.target_of.ensures v c.if-target_of-ne0.true
+pub returns-in-Some : goal.returns-in-Some
+returns-in-Some c = λ v. no_storage c.in-Some.ensures v
 
-pub returns : goal.returns
-returns c = λ v. with_storage c.target_of.ensures v c.if-target_of-ne0.false c.bits_of.ensures c.is_missing.ensures
+pub returns-in-None : goal.returns-in-None
+returns-in-None c = λ v. with_storage c.in-None.ensures v c.bits_of.ensures c.is_missing.ensures

@@ -1,5 +1,7 @@
 -- `plain::simple::call_fault` meets its contract: the name's cell tells its declaration.
 -- Assumes nothing.
+use mathlib.Core.Path.{ap, ◌∙◌}
+use mathlib.Core.Bool.{not}
 use native.Mathlib.Omega.{arith}
 use Rattle.plain.specs.Laws.Simple.{call_room, call_place, call_unknown, call_outer, call_found, call_view, call_bodiless, call_lawful}
 use Rattle.plain.proofs.simple.call_fault.Goals as goal
@@ -28,15 +30,15 @@ get16-declared-requires c = (call_found c.requires c.inside16_at-number.ensures 
 pub body_of-requires : goal.body_of-requires
 body_of-requires c = (_, call_view c.requires c.inside16_at-number.ensures c.if-number.false c.if-number-2.false c.get16-declared.ensures)
 
-pub fault_key-requires-then-body_of-eq0 : goal.fault_key-requires-then-body_of-eq0
-fault_key-requires-then-body_of-eq0 c = omega (arith, call_place c.requires, c.place_at-place.ensures)
+pub fault_key-requires-then-is_none : goal.fault_key-requires-then-is_none
+fault_key-requires-then-is_none c = omega (arith, call_place c.requires, c.place_at-place.ensures)
 
-pub returns-then-body_of-eq0 : goal.returns-then-body_of-eq0
-returns-then-body_of-eq0 c =
-    λ v. call_bodiless v c.inside16_at-number.ensures c.if-number.false c.if-number-2.false c.place_at-place.ensures
-    (c.body_of.ensures _ (call_view v c.inside16_at-number.ensures c.if-number.false c.if-number-2.false c.get16-declared.ensures)) c.if-body_of-eq0.true c.fault_key-then-body_of-eq0.ensures
+pub returns-then-is_none : goal.returns-then-is_none
+returns-then-is_none c =
+    λ v. call_bodiless v c.inside16_at-number.ensures c.if-number.false c.if-number-2.false c.body_of.result c.place_at-place.ensures
+    (c.body_of.ensures _ (call_view v c.inside16_at-number.ensures c.if-number.false c.if-number-2.false c.get16-declared.ensures)) (c.is_none.ensures ∙ ap not c.if-is_none.true) c.fault_key-then-is_none.ensures
 
 pub returns : goal.returns
 returns c =
-    λ v. call_lawful v c.inside16_at-number.ensures c.if-number.false c.if-number-2.false
-    (c.body_of.ensures _ (call_view v c.inside16_at-number.ensures c.if-number.false c.if-number-2.false c.get16-declared.ensures)) c.if-body_of-eq0.false
+    λ v. call_lawful v c.inside16_at-number.ensures c.if-number.false c.if-number-2.false c.body_of.result
+    (c.body_of.ensures _ (call_view v c.inside16_at-number.ensures c.if-number.false c.if-number-2.false c.get16-declared.ensures)) (c.is_none.ensures ∙ ap not c.if-is_none.false)

@@ -1,7 +1,6 @@
 -- `racing::groups::race` meets its contract.
 use borrow.Author.Rules.{rules}
 use native.Mathlib.Omega.{arith}
-use Prim.Native.Nat.{◌-◌}
 use Rattle.reading.specs.Laws.Reading.{kinded}
 use Rattle.racing.specs.Laws.Groups.{look_starts, look_found, look_past, look_other, look_over}
 use Rattle.racing.proofs.groups.race.Goals as goal
@@ -9,26 +8,19 @@ use Rattle.racing.proofs.groups.race.Goals as goal
 pub loop-i-init : goal.loop-i-init
 loop-i-init c = look_starts c.requires.0 c.requires.1.1
 
-pub overflow_add-i : goal.overflow_add-i
-overflow_add-i c = omega (arith, c.loop-i-test.true, (kinded c.loop-i.invariant.reading).few)
-
 pub kind_at-requires : goal.kind_at-requires
 kind_at-requires c = omega (arith, c.loop-i-test.true, (kinded c.loop-i.invariant.reading).room)
 
-pub overflow_add-at : goal.overflow_add-at
-overflow_add-at c = omega (arith, c.loop-i-test.true, (kinded c.loop-i.invariant.reading).few)
+pub overflow_add-i : goal.overflow_add-i
+overflow_add-i c = omega (arith, c.loop-i-test.true, (kinded c.loop-i.invariant.reading).few)
 
-pub returns-then-found : goal.returns-then-found
-returns-then-found c =
-    look_found c.loop-i.invariant c.loop-i-test.true
-    c.kind_at.ensures c.opens.ensures c.if-opens.true
-    c.race_in-found.ensures c.if-found.true
+pub returns-in-Some : goal.returns-in-Some
+returns-in-Some c =
+    look_found c.loop-i.invariant c.loop-i-test.true c.kind_at.ensures c.opens.ensures c.if-opens.true c.in-Some.ensures
 
-pub loop-i-preserved-else-found : goal.loop-i-preserved-else-found
-loop-i-preserved-else-found c =
-    look_past c.loop-i.invariant c.loop-i-test.true
-    c.kind_at.ensures c.opens.ensures c.if-opens.true
-    c.race_in-found.ensures c.if-found.false
+pub loop-i-preserved-in_default : goal.loop-i-preserved-in_default
+loop-i-preserved-in_default c =
+    look_past c.loop-i.invariant c.loop-i-test.true c.kind_at.ensures c.opens.ensures c.if-opens.true c.in_default.ensures
 
 pub loop-i-preserved : goal.loop-i-preserved
 loop-i-preserved c =

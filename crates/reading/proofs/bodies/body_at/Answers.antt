@@ -1,5 +1,4 @@
 -- `reading::bodies::body_at` meets its contract.
-use borrow.Author.Rules.{rules}
 use Rattle.reading.specs.Laws.Meanings.{declared_view}
 use Rattle.reading.specs.Laws.Bodies.{body_there}
 use Rattle.reading.proofs.bodies.body_at.Goals as goal
@@ -8,4 +7,4 @@ pub body_of-requires : goal.body_of-requires
 body_of-requires c = declared_view c.requires.0 c.requires.1 c.get16.ensures
 
 pub returns : goal.returns
-returns c = search (rules, body_there)
+returns c = body_there c.body_of.result c.requires.1 c.get16.ensures c.body_of.ensures

@@ -7,45 +7,27 @@ use Rattle.reading.proofs.names.carrier.Goals as goal
 pub returns-then-m-k : goal.returns-then-m-k
 returns-then-m-k c = search (rules, unknown_carrier)
 
-pub target_of-target-requires : goal.target_of-target-requires
-target_of-target-requires c = declared_view c.requires.0 c.if-m-k.false c.get16-p.ensures
+pub target_of-requires : goal.target_of-requires
+target_of-requires c = declared_view c.requires.0 c.if-m-k.false c.get16-p.ensures
 
 pub inside_at-requires : goal.inside_at-requires
 inside_at-requires c =
-    omega (
-      arith,
-      target_room c.requires.1.0
-          c.requires.1.1 c.inside_at-k.ensures
-          c.if-m-k.false c.get16-p.ensures c.target_of-target.ensures
-          c.requires.0 c.if-target-ne0.true,
-    )
+    omega (arith, target_room c.requires.1.0 c.requires.1.1 c.inside_at-k.ensures c.if-m-k.false c.get16-p.ensures c.in-Some.ensures c.requires.0)
 
-pub returns-then-target-ne0 : goal.returns-then-target-ne0
-returns-then-target-ne0 c =
-    λ v. mapped_carrier c.requires.1.0
-    c.requires.1.1 c.inside_at-k.ensures
-    c.if-m-k.false c.get16-p.ensures c.target_of-target.ensures v
-    c.if-target-ne0.true c.inside_at.ensures
+pub returns-in-Some : goal.returns-in-Some
+returns-in-Some c =
+    λ v. mapped_carrier c.requires.1.0 c.requires.1.1 c.inside_at-k.ensures c.if-m-k.false c.get16-p.ensures c.in-Some.ensures v c.inside_at.ensures
 
 pub kind_at-requires : goal.kind_at-requires
 kind_at-requires c =
-    second_room c.requires.1.0
-    c.requires.1.1 c.inside_at-k.ensures
-    c.if-m-k.false c.get16-p.ensures c.target_of-target.ensures
-    c.requires.0 c.if-target-ne0.false
+    second_room c.requires.1.0 c.requires.1.1 c.inside_at-k.ensures c.if-m-k.false c.get16-p.ensures c.in_default.ensures c.requires.0
 
 pub returns-then-kind_at-eq-BECOMES : goal.returns-then-kind_at-eq-BECOMES
 returns-then-kind_at-eq-BECOMES c =
-    λ v. bare_carrier c.requires.1.0
-    c.requires.1.1
-    c.inside_at-k.ensures c.if-m-k.false
-    c.get16-p.ensures c.target_of-target.ensures v c.if-target-ne0.false
+    λ v. bare_carrier c.requires.1.0 c.requires.1.1 c.inside_at-k.ensures c.if-m-k.false c.get16-p.ensures c.in_default.ensures v
     c.kind_at.ensures c.if-kind_at-eq-BECOMES.true
 
 pub returns : goal.returns
 returns c =
-    λ v. own_carrier c.requires.1.0
-    c.requires.1.1
-    c.inside_at-k.ensures c.if-m-k.false
-    c.get16-p.ensures c.target_of-target.ensures v c.if-target-ne0.false
+    λ v. own_carrier c.requires.1.0 c.requires.1.1 c.inside_at-k.ensures c.if-m-k.false c.get16-p.ensures c.in_default.ensures v
     c.kind_at.ensures c.if-kind_at-eq-BECOMES.false

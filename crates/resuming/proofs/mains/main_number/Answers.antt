@@ -1,6 +1,7 @@
 -- `resuming::mains::main_number` meets its contract: none of the declarations passed is MAIN's.
 -- Assumes nothing.
 use borrow.Author.Rules.{rules}
+use mathlib.Core.Path.{sym, ◌∙◌}
 use Rattle.reading.specs.Laws.Meanings.{declared_view}
 use Rattle.resuming.specs.Laws.Mains.{none_searched, cell_room, name_room, searched, search_on, main_exists}
 use Rattle.resuming.proofs.mains.main_number.Goals as goal
@@ -17,11 +18,11 @@ main_of-requires c = declared_view c.requires c.loop-k-test.true c.get16-p.ensur
 pub inside_at-requires : goal.inside_at-requires
 inside_at-requires c = name_room c.loop-k.invariant c.loop-k-test.true c.get16-p.ensures c.requires
 
-pub returns-then-main_of-ne0 : goal.returns-then-main_of-ne0
-returns-then-main_of-ne0 c = λ v e. searched c.loop-k.invariant c.loop-k-test.true c.get16-p.ensures c.main_of.ensures c.if-main_of-ne0.true c.inside_at.ensures v
+pub returns-then-is_some : goal.returns-then-is_some
+returns-then-is_some c = λ v e. searched c.loop-k.invariant c.loop-k-test.true c.get16-p.ensures c.main_of.result c.main_of.ensures (sym c.is_some.ensures ∙ c.if-is_some.true) c.inside_at.ensures v
 
 pub loop-k-preserved : goal.loop-k-preserved
-loop-k-preserved c = search_on c.loop-k.invariant c.loop-k-test.true c.get16-p.ensures c.main_of.ensures c.if-main_of-ne0.false
+loop-k-preserved c = search_on c.loop-k.invariant c.loop-k-test.true c.get16-p.ensures c.main_of.result c.main_of.ensures (sym c.is_some.ensures ∙ c.if-is_some.false)
 
 pub returns : goal.returns
 returns c = λ v e. absurd (main_exists c.loop-k.invariant c.loop-k-test.false v e)

@@ -7,5 +7,5 @@ use Rattle.table.proofs.scans.halts.Goals as goal
 pub returns-then-d-eq0 : goal.returns-then-d-eq0
 returns-then-d-eq0 c = search (rules, halts_top)
 
-pub returns : goal.returns
-returns c = search (rules, halts_inside)
+pub returns-else-d-eq0 : goal.returns-else-d-eq0
+returns-else-d-eq0 c = search (rules, halts_inside)
