@@ -82,10 +82,8 @@ pub fn refused_body(
     ensures { (v : Reading records.now decls.now m n) → Numbered m result (start_of (table_of v) place) }
 {
     for k in 0..m {
-        if name_place(records, decls, m, n, k) == place {
-            if has(over, k) {
-                return k;
-            }
+        if name_place(records, decls, m, n, k) == place && has(over, k) {
+            return k;
         }
     }
     m

@@ -23,7 +23,14 @@ fn main_at(records: &[u8], decls: &[u8], m: usize, n: usize, k: usize) -> Option
 }
 
 // The key of a second MAIN, at the token at.
-fn second_key(records: &[u8], decls: &[u8], m: usize, n: usize, at: Option<usize>, seen: bool) -> u32
+fn second_key(
+    records: &[u8],
+    decls: &[u8],
+    m: usize,
+    n: usize,
+    at: Option<usize>,
+    seen: bool,
+) -> u32
     requires { Reading records.now decls.now m n × ((p : ℕ) → at ≡ Some p → p < n) }
     ensures { (v : Reading records.now decls.now m n) (x : Option Info) → MainAt v.tokens at x → result ≡ least_number_key (second_main seen x) }
 {

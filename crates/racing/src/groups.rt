@@ -12,14 +12,22 @@ use whole::walks::opens;
 const BEFORE_DECLARATIONS: usize = 3;
 
 // The race of the member at the place.
-pub fn race(records: &[u8], decls: &[u8], memo: &[u8], m: usize, n: usize, place: usize) -> Option<Pair>
+pub fn race(
+    records: &[u8],
+    decls: &[u8],
+    memo: &[u8],
+    m: usize,
+    n: usize,
+    place: usize,
+) -> Option<Pair>
     requires { Reading records.now decls.now m n × ((72 * m ≤ length memo.now) × Complete records.now decls.now memo.now m n) }
     ensures { InTokens records.now decls.now m n 3 place result }
 {
     for i in BEFORE_DECLARATIONS..n {
         if opens(kind_at(records, i)) {
-            if let Some(found) = race_in(records, decls, memo, m, n, i + 1, place) {
-                return Some(found);
+            let found = race_in(records, decls, memo, m, n, i + 1, place);
+            if found.is_some() {
+                return found;
             }
         }
     }

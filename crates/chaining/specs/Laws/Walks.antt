@@ -54,7 +54,7 @@ module _ {records decls : List ℕ} {m n place b : ℕ} (at : (v : Reading recor
       → Walked records decls m n place longest_chain w
   unfolding member
   start_one w l g h z = record {
-    goes = λ {c} t v.
+    goes = λ {b = c} t v.
         let same : b ≡ c = cc in
         record {
           places = [];
@@ -125,7 +125,7 @@ module _ {records decls : List ℕ} {m n place k : ℕ} (level : List ℕ) (all 
         → ((j : ℕ) → holds r.listed.w j ≡ (holds one j || holds w.listed.w j)) → Walked records decls m n place k r
     unfolding member
     step_on r one l t e o u = record {
-      goes = λ {d} y v.
+      goes = λ {b = d} y v.
           let same : c ≡ d = cc in
           record {
             places = (going v).places ++ (place_in (table_of v) a ∷ []);

@@ -1,8 +1,9 @@
 -- Laws of the loop over the groups of a description.
-use Rattle.std.specs.Prelude.{ℕ, ◌+◌, ◌<◌, ◌≤◌, ◌≡◌, refl, Bool, true, false, List, [], drop, Some, None}
+use Rattle.std.specs.Prelude.{ℕ, ◌+◌, ◌<◌, ◌≤◌, ◌≡◌, refl, Bool, true, false, List, [], drop, Some, None, Option as Found, is_some}
 use Rattle.std.proofs.Common.{sym, ◌∙◌, arith}
 use Rattle.std.proofs.Math.Path.{ap}
 use Rattle.std.proofs.Math.Option.{Option}
+use Rattle.std.proofs.lemmas.Bool.{false≢true}
 use Rattle.laws_orders.proofs.Orders.Tests.{impossible}
 use Rattle.records.specs.Holds.{kind_byte, token_at}
 use Rattle.table.specs.Scans.{no}
@@ -22,6 +23,10 @@ pub record Looking (records decls memo : List ℕ) (m n place i : ℕ) : Type 0 
 
 pub look_starts : {records decls memo : List ℕ} {m n place : ℕ} → Reading records decls m n → Complete records decls memo m n → Looking records decls memo m n place 3
 look_starts x c = record { reading = x; complete = c; so_far = λ v. refl }
+
+no_pair : (p : Found Pair) → is_some p ≡ false → p ≡ None
+no_pair None e = refl
+no_pair (Some q) e = impossible (cc)
 
 module _ {records decls memo : List ℕ} {m n place i : ℕ} (inv : Looking records decls memo m n place i) where
   pub look_over : n ≤ i → InTokens records decls m n 3 place None
@@ -47,19 +52,19 @@ module _ {records decls memo : List ℕ} {m n place i : ℕ} (inv : Looking reco
       so_far = λ v. inv.so_far v ∙ (ap (race_here (table_of v) place) (next_token (kinded v) i h) ∙ rw (opens_is v ∙ f, groups_here) refl);
     }
 
-    module _ (t : b ≡ true) where
-      pub look_found : {q : Pair} → InGroup records decls m n (i + 1) place (Some q) → InTokens records decls m n 3 place (Some q)
-      look_found g = record {
+    module _ (t : b ≡ true) (p : Found Pair) (g : InGroup records decls m n (i + 1) place p) where
+      pub look_found : is_some p ≡ true → InTokens records decls m n 3 place p
+      look_found q = record {
         found = record {
           apart = g.apart;
           one = λ e v. at_group t v ∙ ap (λ (x : Option Race). first_race x (race_here (table_of v) place (drop (i + 1) v.tokens))) (g.one e v);
-          nothing = λ e v. impossible (cc);
+          nothing = λ e v. absurd (false≢true (sym (ap is_some e) ∙ q));
         };
       }
 
-      pub look_past : InGroup records decls m n (i + 1) place None → Looking records decls memo m n place (i + 1)
-      look_past g = record {
+      pub look_past : is_some p ≡ false → Looking records decls memo m n place (i + 1)
+      look_past q = record {
         reading = inv.reading;
         complete = inv.complete;
-        so_far = λ v. at_group t v ∙ ap (λ (x : Option Race). first_race x (race_here (table_of v) place (drop (i + 1) v.tokens))) (g.nothing refl v);
+        so_far = λ v. at_group t v ∙ ap (λ (x : Option Race). first_race x (race_here (table_of v) place (drop (i + 1) v.tokens))) (g.nothing (no_pair p q) v);
       }
