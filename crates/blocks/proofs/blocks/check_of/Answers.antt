@@ -2,11 +2,8 @@
 -- Assumes nothing.
 use borrow.Author.Rules.{rules}
 use native.Mathlib.Omega.{arith}
-use Rattle.blocks.specs.Laws.Loops.{none_summed, more_summed, all_summed}
+use Rattle.blocks.specs.Laws.Loops.{more_summed, all_summed}
 use Rattle.blocks.proofs.blocks.check_of.Goals as goal
-
-pub loop-i-init : goal.loop-i-init
-loop-i-init c = search (rules, none_summed)
 
 pub loop-i-preserved : goal.loop-i-preserved
 loop-i-preserved c = search (rules, more_summed)

