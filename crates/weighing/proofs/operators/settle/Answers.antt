@@ -58,9 +58,6 @@ module _ {records ats keys lengths : List ℕ} {tight count₀ k₀ n₀ count k
 pub loop-top-init : goal.loop-top-init
 loop-top-init c = begin c.requires
 
-pub overflow_cast-at : goal.overflow_cast-at
-overflow_cast-at c = record { fits = omega (arith, room c.loop-top.invariant c.loop-top-test.true) }
-
 pub kind_at-op-requires : goal.kind_at-op-requires
 kind_at-op-requires c = search (rules, room)
 
