@@ -6,9 +6,6 @@ use Rattle.whole.proofs.walks.groups_key.Goals as goal
 pub loop-k-init : goal.loop-k-init
 loop-k-init c = search (rules, bodies_none)
 
-pub body_key-requires : goal.body_key-requires
-body_key-requires c = (c.loop-k.invariant.gathered.given, (c.loop-k.invariant.roomy, c.loop-k-test.true))
-
 pub loop-k-preserved : goal.loop-k-preserved
 loop-k-preserved c = search (rules, bodies_more)
 

@@ -1,20 +1,13 @@
 -- `whole::walks::walk_key` meets its contract.
 use borrow.Author.Rules.{rules}
-use native.Mathlib.Omega.{arith}
-use Rattle.whole.specs.Laws.WalkKeys.{walk_starts, walk_ended, walk_faulty, walk_turning, walk_on, walk_over}
+use Rattle.whole.specs.Laws.WalkKeys.{walk_starts, walk_ended, walk_turning, walk_on, walk_over}
 use Rattle.whole.proofs.walks.walk_key.Goals as goal
 
 pub loop-i-init : goal.loop-i-init
 loop-i-init c = search (rules, walk_starts)
 
-pub kind_at-kind-requires : goal.kind_at-kind-requires
-kind_at-kind-requires c = omega (arith, c.loop-i.invariant.written.count, c.loop-i.invariant.written.ready.holds.record_room)
-
 pub returns-then-closes : goal.returns-then-closes
 returns-then-closes c = walk_ended c.loop-i.invariant c.loop-i-test.true c.kind_at-kind.ensures c.closes.ensures c.if-closes.true
-
-pub fault_at-here-requires : goal.fault_at-here-requires
-fault_at-here-requires c = search (rules, walk_faulty)
 
 pub turn_in-next-requires : goal.turn_in-next-requires
 turn_in-next-requires c = search (rules, walk_turning)
