@@ -1,13 +1,7 @@
 -- `scopes::labels::listed` meets its contract.
 use borrow.Author.Rules.{rules}
-use Rattle.scopes.specs.Laws.Labels.{seek, both_words, found_there, seek_on, nowhere_found}
+use Rattle.scopes.specs.Laws.Labels.{found_there, seek_on, nowhere_found}
 use Rattle.scopes.proofs.labels.listed.Goals as goal
-
-pub loop-j-init : goal.loop-j-init
-loop-j-init c = search (rules, seek)
-
-pub same_word-requires : goal.same_word-requires
-same_word-requires c = search (rules, both_words)
 
 pub returns-then-same_word : goal.returns-then-same_word
 returns-then-same_word c = search (rules, found_there)
