@@ -8,7 +8,7 @@ use Rattle.reading.specs.Behind.{behind, ComesTo}
 use Rattle.reading.specs.Laws.Reading.{kinded, no_more}
 use Rattle.reading.specs.Laws.Ends.{seek_from, comes_to_nothing}
 use Rattle.gathering.specs.Laws.Shown.{listen, heard_all}
-use Rattle.gathering.specs.Laws.Steps.{is_name, pass_name, pass_stop, pass_mark, heard_before, comes_before, heard_with, comes_with}
+use Rattle.gathering.specs.Laws.Steps.{pass_name, pass_stop, pass_mark, heard_before, comes_before, heard_with, comes_with}
 use Rattle.gathering.proofs.touches.passed.Goals as goal
 
 -- past the last token every place comes to the same
@@ -17,9 +17,6 @@ past_all {i = i} {e = e} t h p q = record { past = q; same = λ v. ap (behind 0)
 
 pub loop-at-init : goal.loop-at-init
 loop-at-init c = search (rules, listen, seek_from, kinded)
-
-pub named-t-requires : goal.named-t-requires
-named-t-requires c = search (rules, is_name)
 
 pub loop-at-preserved-then-kind-eq-NAME : goal.loop-at-preserved-then-kind-eq-NAME
 loop-at-preserved-then-kind-eq-NAME c = search (rules, pass_name)
