@@ -1,11 +1,7 @@
 -- `reading::calls::next_call` meets its contract: the activations that are left stay the same up to the next.
 use borrow.Author.Rules.{rules}
-use mathlib.Core.Path.{refl}
 use Rattle.reading.specs.Laws.Calls.{exhausted, ended, reached, shut, onward}
 use Rattle.reading.proofs.calls.next_call.Goals as goal
-
-pub loop-i-init : goal.loop-i-init
-loop-i-init c = record { low = search rules; shallow = search rules; counted = search rules; kinds = search rules; left = λ v. refl }
 
 pub returns-then-halts : goal.returns-then-halts
 returns-then-halts c = search (rules, ended)

@@ -4,11 +4,8 @@ use native.Mathlib.Omega.{arith}
 use mathlib.Core.Path.{sym, ◌∙◌}
 use Prim.Native.Nat.{◌≤◌}
 use Rattle.reading.specs.Laws.Reading.{no_more}
-use Rattle.reading.specs.Laws.Ends.{seek_from, found_end, seek_on, seek_ended}
+use Rattle.reading.specs.Laws.Ends.{found_end, seek_on, seek_ended}
 use Rattle.reading.proofs.kinds.end_of.Goals as goal
-
-pub loop-i-init : goal.loop-i-init
-loop-i-init c = search (rules, seek_from)
 
 pub returns-then-halts : goal.returns-then-halts
 returns-then-halts c = search (rules, found_end)
