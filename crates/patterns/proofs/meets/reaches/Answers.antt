@@ -67,18 +67,6 @@ settled v f l h value free low high n left none =
     let z : n ≡ 0 = omega arith in
     only_zero low ∙ rw z at left.same
 
-pub loop-n-init : goal.loop-n-init
-loop-n-init c = record { short = search rules; same = refl }
-
-pub nonzero_rem-value : goal.nonzero_rem-value
-nonzero_rem-value c = search (rules, positive)
-
-pub nonzero_rem-free : goal.nonzero_rem-free
-nonzero_rem-free c = search (rules, positive)
-
-pub one_way-requires : goal.one_way-requires
-one_way-requires c = search (rules, fits)
-
 pub returns-then-top-high : goal.returns-then-top-high
 returns-then-top-high c = search (rules, decided)
 
