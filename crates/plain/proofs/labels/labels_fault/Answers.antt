@@ -20,9 +20,6 @@ large inv l = omega (arith, inv.long)
 pub loop-at-init : goal.loop-at-init
 loop-at-init c = record { long = search rules; least = omega arith; left = λ text values decls v. pass_starts v _ }
 
-pub is_label-requires : goal.is_label-requires
-is_label-requires c = (pass_room c.requires.1.3 (c.loop-at.invariant.left _ _ _ c.requires.1.3) c.loop-at-test.true).0
-
 pub loop-at-preserved-then-not-is_label : goal.loop-at-preserved-then-not-is_label
 loop-at-preserved-then-not-is_label c =
     record {
