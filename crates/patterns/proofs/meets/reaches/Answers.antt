@@ -3,26 +3,16 @@
 -- Assumes nothing.
 use borrow.Author.Rules.{rules}
 use borrow.Author.Tests.{not-true, not-false}
-use native.Mathlib.Nat.{mod-lt}
 use native.Mathlib.Omega.{arith}
 use mathlib.Core.Path.{◌≡◌, refl, sym, ap, ◌∙◌}
 use mathlib.Core.Bool.{Bool, true, false, ◌&&◌, not}
-use Prim.Native.Nat.{ℕ, zero, suc, ◌+◌, ◌-◌, ◌%◌, ◌^◌, ◌<◌, ◌≤◌}
+use Prim.Native.Nat.{ℕ, zero, suc, ◌-◌, ◌%◌, ◌^◌, ◌<◌, ◌≤◌}
 use lib.Dec.{leb, eqb, eqb-suc-zero, leb-suc-zero}
-use lib.Pow.{pow_pos, pow_mono}
 use Rattle.rules.specs.Faults.Bodies as rules
 use Rattle.patterns.specs.Reaches.{may, either_way}
 use Rattle.patterns.specs.Laws.Reaches.{both_have, neither_has, one_has}
 use Rattle.patterns.proofs.meets.reaches.Invariants.{Left}
 use Rattle.patterns.proofs.meets.reaches.Goals as goal
-
-positive : (n t : ℕ) → t ≡ 2 ^ n → 0 < t
-positive n t e = rw e (pow_pos n)
-
-fits : (value free n t : ℕ) → n ≤ 64 → 0 < n → t ≡ 2 ^ (n - 1) → value % t + free % t < 2 ^ 64
-fits value free n t short some is_top =
-    let small : t ≤ 2 ^ 63 = rw is_top (pow_mono {j = 63} (omega arith)) in
-    omega (arith, mod-lt value (positive (n - 1) t is_top), mod-lt free (positive (n - 1) t is_top))
 
 -- one turn: t is the value of the highest bit, and a value of the pattern may lack it or have it
 module _ (v f l h value free low high n t : ℕ) (left : Left v f l h value free low high n) (some : 0 < n) (is_top : t ≡ 2 ^ (n - 1)) where
