@@ -6,18 +6,17 @@ ghost use Rattle.lent.specs.Numbers.{numbers_of};
 ghost use Rattle.checking.specs.Checked.{verdict_of, Near, Told};
 
 use lent::answers::{Answer, refusal, unrefused};
-use reader::judging::Verdict;
+use reader::judging::Accepted;
+use rules::refusals::Refusal;
 
 // The numbers of the reader's verdict.
-fn verdict_answer(text: &[u8], v: Verdict) -> Answer
+fn verdict_answer(text: &[u8], v: Result<Accepted, Refusal>) -> Answer
     requires { Near v }
     ensures { numbers_of result ≡ verdict_numbers text.now (verdict_of v) }
 {
     match v {
-        Verdict::Refused(number, place) => refusal(text, number, place),
-        Verdict::Accepted(declarations, words, _) => {
-            unrefused(0, 0, declarations as u32, words as u32)
-        }
+        Err(refused) => refusal(text, refused.number, refused.place),
+        Ok(accepted) => unrefused(0, 0, accepted.declarations as u32, accepted.words as u32),
     }
 }
 

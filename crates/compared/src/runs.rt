@@ -14,7 +14,7 @@ use linking::beginning::begin;
 use listed::entries::is_list;
 use marking::mark;
 use preparing::runs::prepare;
-use starts::{Started, start};
+use starts::start;
 use tracing::runs::{CELLS, trace};
 
 // The carriers, and behind them the cells of the n tokens of a table.
@@ -100,8 +100,8 @@ pub fn compare_accepted(
     ensures { Traced text.now carriers.now budget entries.now result }
 {
     match start(records, values, decls, m, carriers) {
-        Started::Refused(number, place) => refusal(text, number, place),
-        Started::Fine => compare_listed(
+        Err(refused) => refusal(text, refused.number, refused.place),
+        Ok(()) => compare_listed(
             text, carriers, budget, entries, records, values, room, memory, decls, m, n,
         ),
     }

@@ -5,7 +5,6 @@ ghost use Rattle.compared.specs.Traced.{Traced};
 
 use compared::runs::compare_accepted;
 use lent::answers::{Answer, refusal};
-use reader::judging::Verdict;
 
 // What Trace answers. The work memory may hold anything afterwards.
 pub fn traced(
@@ -23,11 +22,19 @@ pub fn traced(
 {
     let mut decls: [u8; 512] = [0; 512];
     match reader::check(text, records, values, room, &mut decls) {
-        Verdict::Refused(number, place) => refusal(text, number, place),
-        Verdict::Accepted(m, _, n) => {
-            compare_accepted(
-                text, carriers, budget, entries, records, values, room, memory, &decls, m, n,
-            )
-        }
+        Err(refused) => refusal(text, refused.number, refused.place),
+        Ok(accepted) => compare_accepted(
+            text,
+            carriers,
+            budget,
+            entries,
+            records,
+            values,
+            room,
+            memory,
+            &decls,
+            accepted.declarations,
+            accepted.tokens,
+        ),
     }
 }

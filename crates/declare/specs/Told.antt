@@ -1,5 +1,5 @@
 -- What `declare` answers, as document 01 has it.
-use Rattle.std.specs.Prelude.{ℕ, ◌≤◌, ◌≡◌, List}
+use Rattle.std.specs.Prelude.{ℕ, ◌≤◌, ◌≡◌, List, Result, Ok, Err}
 use Rattle.std.proofs.Math.Option.{some}
 use Rattle.rules.specs.Limits.{longest_text}
 use Rattle.rules.specs.Grammar.Trees.{Tokens, Description}
@@ -8,8 +8,7 @@ use Rattle.rules.specs.Faults.Fault.{fault, by_place_of, least}
 use Rattle.rules.specs.Faults.Declared.{faults30}
 use Rattle.table.specs.Ready.{Ready}
 use Rattle.spelling.specs.Spelled.{Spelled}
-use Rattle.declare.specs.declared.Declared.{Declared}
-use Rattle.declare.specs.declared.Declared.TheVariants.{Fine, Refused}
+use Rattle.rules.specs.declared.refusals.Refusal.{Refusal}
 
 -- the least fault of the 30s
 pub record Least (d : Description) (number place : ℕ) : Type 0 where
@@ -22,6 +21,6 @@ pub record ReadySpelled (text records values decls : List ℕ) (ts : Tokens) (d 
   pub spelled : Spelled records ts
 
 -- no fault; or the least fault
-abbrev pub Told : List ℕ → List ℕ → List ℕ → List ℕ → Tokens → Description → Declared → Type 0
-Told text records values decls ts d (Fine m) = ReadySpelled text records values decls ts d m
-Told text records values decls ts d (Refused number place) = Least d number place
+abbrev pub Told : List ℕ → List ℕ → List ℕ → List ℕ → Tokens → Description → Result ℕ Refusal → Type 0
+Told text records values decls ts d (Ok m) = ReadySpelled text records values decls ts d m
+Told text records values decls ts d (Err r) = Least d r.number r.place

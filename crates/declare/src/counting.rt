@@ -15,11 +15,9 @@ pub fn words(records: &[u8], values: &[u8], decls: &[u8], m: usize) -> usize
         → result ≡ total_words (declarations d)) × (result ≤ most_words) }
 {
     let mut total: usize = 0;
-    let mut k: usize = 0;
-    while k < m {
+    for k in 0..m {
         let p = get16(decls, k) as usize;
         total += words_in(records, values, p);
-        k += 1;
     }
     total
 }

@@ -130,15 +130,13 @@ pub fn fault30(text: &[u8], records: &[u8], values: &[u8], decls: &[u8], m: usiz
         → result ≡ least_key (faults30 (outer_of v) (table_of v)) }
 {
     let mut words: usize = 0;
-    let mut k: usize = 0;
-    while k < m {
+    for k in 0..m {
         let p = get16(decls, k) as usize;
         let number = fault_at(text, records, values, decls, m, k, words);
         if number != 0 {
             return fault_key(number, place_at(records, p));
         }
         words += words_in(records, values, p);
-        k += 1;
     }
     NO_KEY
 }

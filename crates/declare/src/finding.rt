@@ -47,6 +47,7 @@ fn end_of(records: &[u8], p: usize) -> usize
     requires { Naming records.now p }
     ensures { (v : Naming records.now p) → Follow v.tokens result v.following }
 {
+    // A loop: the end is found by the brackets, and one always comes.
     let mut i = p;
     let mut depth: usize = 0;
     loop {
@@ -89,6 +90,7 @@ pub fn find(records: &[u8], decls: &mut [u8]) -> usize
     ensures { (text values : List ℕ) (n : ℕ) (v : Described text records.now values n)
         → Found v.tokens (declaration_list v.description) decls.old decls.new result }
 {
+    // A loop: the last declaration is the one that an END follows.
     let mut i: usize = 3;
     let mut m: usize = 0;
     loop {

@@ -16,23 +16,18 @@ use crate::faults::fault30;
 use crate::finding::find;
 use keys::{NO_KEY, fault_of};
 use resolving::give_meanings;
+use rules::refusals::Refusal;
 use spelling::spell;
 
-// No fault of the 30s, with the number of declarations; or the least one, its number and its place.
-#[derive(Clone, Copy)]
-pub enum Declared {
-    Fine(usize),
-    Refused(u32, usize),
-}
-
-// Spells the names, lists the declarations, gives the names their meanings, and judges the declarations.
+// Spells the names, lists the declarations, gives the names their meanings, and judges the declarations. Returns how many they are, or the least fault
+// of the 30s.
 pub fn declare(
     text: &[u8],
     records: &mut [u8],
     values: &[u8],
     decls: &mut [u8],
     n: usize,
-) -> Declared
+) -> Result<usize, Refusal>
     requires described { Described text.now records.old values.now n }
     requires room_size_in_bounds { room_size ≤ length decls.old }
     ensures { (v : Described text.now records.old values.now n) → nest v.description ≤ deepest
@@ -43,8 +38,7 @@ pub fn declare(
     give_meanings(records, decls, m, n);
     let key = fault30(text, records, values, decls, m);
     if key != NO_KEY {
-        let fault = fault_of(key);
-        return Declared::Refused(fault.number, fault.place);
+        return Err(fault_of(key));
     }
-    Declared::Fine(m)
+    Ok(m)
 }

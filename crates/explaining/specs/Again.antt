@@ -1,5 +1,5 @@
 -- A text whose description has no fault of the 30s, and the table that holds it.
-use Rattle.std.specs.Prelude.{ℕ, ◌≡◌, List, [], length}
+use Rattle.std.specs.Prelude.{ℕ, ◌≡◌, List, [], length, Result, Ok, Err}
 use Rattle.rules.specs.Text.Scan.{scan, fine}
 use Rattle.rules.specs.Grammar.Trees.{Description, flatten}
 use Rattle.rules.specs.Grammar.Verdict.{Crowded}
@@ -8,7 +8,7 @@ use Rattle.rules.specs.Faults.Declared.{faults30}
 use Rattle.records.specs.Holds.{Holds}
 use Rattle.reading.specs.Reading.{Reading}
 use Rattle.reader.specs.declared.declaring.Standing.{Standing}
-use Rattle.reader.specs.declared.declaring.Standing.TheVariants.{Fine, Refused}
+use Rattle.rules.specs.declared.refusals.Refusal.{Refusal}
 
 pub record Sound (text : List ℕ) : Type 0 where
   pub description : Description
@@ -28,6 +28,6 @@ pub record Reread (text records decls : List ℕ) (m n : ℕ) : Type 0 where
   pub reading : Reading records decls m n
   pub stands : flatten reading.description ≡ (scan text).tokens
 
-abbrev pub Rereads : List ℕ → List ℕ → List ℕ → Standing → Type 0
-Rereads text records decls (Refused m p) = ⊥
-Rereads text records decls (Fine m n) = Reread text records decls m n
+abbrev pub Rereads : List ℕ → List ℕ → List ℕ → Result Standing Refusal → Type 0
+Rereads text records decls (Err r) = ⊥
+Rereads text records decls (Ok s) = Reread text records decls s.declarations s.tokens

@@ -10,7 +10,6 @@ ghost use Rattle.rules.specs.Calls.Why.{reason_numbers};
 
 use crate::rereading::reread;
 use chaining::walks::{Numbers, chain_reason};
-use reader::declaring::Standing;
 
 // The numbers of the reason of 51 at the place.
 pub fn chain_of(text: &[u8], a: &mut [u8], b: &mut [u8], c: &mut [u8], place: usize) -> Numbers
@@ -19,7 +18,7 @@ pub fn chain_of(text: &[u8], a: &mut [u8], b: &mut [u8], c: &mut [u8], place: us
     ensures { (d : Description) → flatten d ≡ (scan text.now).tokens → result.n ≡ reason_numbers (reason51 (declarations d) place) }
 {
     match reread(text, a, b, c) {
-        Standing::Refused(_, _) => Numbers { n: [0; 24] },
-        Standing::Fine(m, n) => chain_reason(a, c, m, n, place),
+        Err(_) => Numbers { n: [0; 24] },
+        Ok(read) => chain_reason(a, c, read.declarations, read.tokens, place),
     }
 }

@@ -15,7 +15,6 @@ use chains::mains::main_key;
 use gathering::gathering::gather_all;
 use keys::{NO_KEY, earlier};
 use racing::telling::{Race, race_reason};
-use reader::declaring::Standing;
 
 // The race at the place of a text that stands in the table.
 fn race_at(
@@ -49,7 +48,7 @@ pub fn race_of(text: &[u8], a: &mut [u8], b: &mut [u8], c: &mut [u8], place: usi
     ensures { (d : Description) → flatten d ≡ (scan text.now).tokens → reason_in result ≡ reason53 (declarations d) place }
 {
     match reread(text, a, b, c) {
-        Standing::Refused(_, _) => None,
-        Standing::Fine(m, n) => race_at(text, a, b, c, m, n, place),
+        Err(_) => None,
+        Ok(read) => race_at(text, a, b, c, read.declarations, read.tokens, place),
     }
 }

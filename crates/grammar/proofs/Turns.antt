@@ -24,7 +24,8 @@ use Rattle.records.specs.Holds.{kind_byte}
 use Rattle.grammar.specs.Records.{KindsStand, answer_of, Answers}
 use Rattle.grammar.specs.declared.Next.{Next}
 use Rattle.grammar.specs.declared.Next.TheVariants.{Nowhere, On, Into, Out}
-use Rattle.grammar.specs.declared.Recognised.TheVariants.{Accepted, Refused20, Refused21}
+use Rattle.std.specs.Prelude.{Ok, Err}
+use Rattle.grammar.specs.declared.Misplaced.TheVariants.{Unexpected, TooDeep}
 
 -- the first m numbers of the array are the places of the stack's states, the innermost last
 pub data Held : List ℕ → ℕ → Stack → Type 0 where
@@ -140,10 +141,10 @@ module _ {bytes : List ℕ} {n : ℕ} {a : List ℕ} {m i kind : ℕ} where
       subst (Reached bytes n b k) (sym (add-one i))
       (record { within = turn.more; long = l ∙ turn.reached.long; few = few; stack = γ; held = held; gives = gives })
 
-  pub stuck : Turn bytes n a m i kind Nowhere → Answers bytes n (Refused20 i)
+  pub stuck : Turn bytes n a m i kind Nowhere → Answers bytes n (Err (Unexpected i))
   stuck turn = by (turned turn)
     where
-      by : {σ : Stack} → Judged bytes n i σ Nowhere → Answers bytes n (Refused20 i)
+      by : {σ : Stack} → Judged bytes n i σ Nowhere → Answers bytes n (Err (Unexpected i))
       by (nowhere gives) ts stands = ap answer_of (sym (gives ts stands))
 
   -- the innermost state stands in the array, at m - 1
@@ -159,10 +160,10 @@ module _ {bytes : List ℕ} {n : ℕ} {a : List ℕ} {m i kind : ℕ} where
           (held_put s (top_of turn).1 (top_of turn).0 held)
           gives
 
-  pub crowded : {x y : ℕ} → Turn bytes n a m i kind (Into x y) → m ≡ deepest → Answers bytes n (Refused21 i)
+  pub crowded : {x y : ℕ} → Turn bytes n a m i kind (Into x y) → m ≡ deepest → Answers bytes n (Err (TooDeep i))
   crowded turn full = by (turned turn) (inner_of turn).held
     where
-      by : {σ : Stack} {x y : ℕ} → Judged bytes n i σ (Into x y) → Held a (m - 1) σ → Answers bytes n (Refused21 i)
+      by : {σ : Stack} {x y : ℕ} → Judged bytes n i σ (Into x y) → Held a (m - 1) σ → Answers bytes n (Err (TooDeep i))
       by (into s t deep room) held ts stands = let l = held_length held in ap answer_of (sym (deep (omega arith) ts stands))
 
   pub gone_in : {x y : ℕ} → Turn bytes n a m i kind (Into x y) → (m ≡ deepest → ⊥) → Reached bytes n (set (set a (m - 1) y) m x) (m + 1) (i + 1)
@@ -203,7 +204,7 @@ unfolding run
 run_short i s σ = refl
 
 module _ {bytes : List ℕ} {n : ℕ} {a : List ℕ} {m i : ℕ} (reached : Reached bytes n a m i) where
-  pub behind : i < n → m ≡ 0 → Answers bytes n (Refused20 i)
+  pub behind : i < n → m ≡ 0 → Answers bytes n (Err (Unexpected i))
   behind more empty ts stands =
       let l = stands.count in
       let there : i < length ts = omega arith in
@@ -222,13 +223,13 @@ module _ {bytes : List ℕ} {n : ℕ} {a : List ℕ} {m i : ℕ} (reached : Reac
     at_end ts stands =
         reached.gives ts stands ∙ ap (λ x. run x i reached.stack) (ap (λ j. drop j ts) (i_is ∙ sym stands.count) ∙ drop-length ts)
 
-    pub done : m ≡ 0 → Answers bytes n Accepted
+    pub done : m ≡ 0 → Answers bytes n (Ok tt)
     done empty ts stands = ap answer_of (sym (at_end ts stands ∙ ap (run [] i) (held_none reached.held empty) ∙ run_done i))
 
-    pub short : (m ≡ 0 → ⊥) → Answers bytes n (Refused20 n)
+    pub short : (m ≡ 0 → ⊥) → Answers bytes n (Err (Unexpected n))
     short some_state ts stands =
         let inner = innermost reached.held some_state in
-        ap Refused20 (sym i_is) ∙ ap answer_of (sym (at_end ts stands ∙ ap (run [] i) inner.is ∙ run_short i inner.state inner.rest))
+        ap (λ j. Err (Unexpected j)) (sym i_is) ∙ ap answer_of (sym (at_end ts stands ∙ ap (run [] i) inner.is ∙ run_short i inner.state inner.rest))
 
 -- the loop begins in the state of the title
 pub begun : (bytes : List ℕ) (n : ℕ) (a : List ℕ) → length a ≡ deepest → place title ≡ get_or a 0 0 → Reached bytes n a 1 0

@@ -15,12 +15,13 @@ use records::fields::kind_at;
 use rows::{Entries, TABLE, TITLE};
 use rules::limits::DEEPEST;
 
-// The tokens are a description's, or refused with the number of the token where they are: that of the end is how many there are.
-#[derive(Clone, Copy)]
-pub enum Recognised {
-    Accepted,
-    Refused20(usize),
-    Refused21(usize),
+// Why tokens are no description's, with the number of the token at which it shows: that of the end is how many there are.
+#[derive(Clone, Copy, PartialEq, Eq)]
+pub enum Misplaced {
+    // It may not stand there: refusal 20.
+    Unexpected(usize),
+    // It would stand within more brackets than there may be: refusal 21.
+    TooDeep(usize),
 }
 
 // What a state does with a token: nothing, on to a state, into a bracket (the state in it, the state behind it), out of a bracket.
@@ -77,7 +78,7 @@ fn moved(table: &Entries, state: usize, kind: usize) -> Next
 }
 
 // The stack holds the places of the states, the innermost last, and each token moves the innermost.
-fn walk(table: &Entries, records: &[u8], n: usize) -> Recognised
+fn walk(table: &Entries, records: &[u8], n: usize) -> Result<(), Misplaced>
     requires ruled { Ruled table.now }
     requires records { Records records.now n }
     ensures { Answers records.now n result }
@@ -86,19 +87,19 @@ fn walk(table: &Entries, records: &[u8], n: usize) -> Recognised
     let mut states: usize = 1;
     for at in 0..n {
         if states == 0 {
-            return Recognised::Refused20(at);
+            return Err(Misplaced::Unexpected(at));
         }
         let top = states - 1;
         let next = moved(table, stack[top], kind_of(records, at, n));
         match next {
-            Next::Nowhere => return Recognised::Refused20(at),
+            Next::Nowhere => return Err(Misplaced::Unexpected(at)),
             Next::On(inner) => {
                 stack[top] = inner;
                 continue;
             }
             Next::Into(inner, outer) => {
                 if states == DEEPEST {
-                    return Recognised::Refused21(at);
+                    return Err(Misplaced::TooDeep(at));
                 }
                 stack[top] = outer;
                 stack[states] = inner;
@@ -112,14 +113,14 @@ fn walk(table: &Entries, records: &[u8], n: usize) -> Recognised
         }
     }
     if states != 0 {
-        return Recognised::Refused20(n);
+        return Err(Misplaced::Unexpected(n));
     }
-    Recognised::Accepted
+    Ok(())
 }
 
 // The answer on the n tokens whose records these are, eight bytes each: the first is the number of the token's kind.
 // The table is taken once, since each use of a constant array builds it on the stack anew.
-pub fn recognise(records: &[u8], n: usize) -> Recognised
+pub fn recognise(records: &[u8], n: usize) -> Result<(), Misplaced>
     requires { Records records.now n }
     ensures { Answers records.now n result }
 {

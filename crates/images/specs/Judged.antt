@@ -1,9 +1,9 @@
 -- The answer of `judge` as a fault of the rules.
 use Rattle.std.proofs.Math.Option.{Option, none, some}
 use Rattle.rules.specs.Faults.Fault.{Fault, fault}
-use Rattle.images.specs.declared.images.Judged.{Judged}
-use Rattle.images.specs.declared.images.Judged.TheVariants.{Fine, Refused}
+use Rattle.std.specs.Prelude.{⊤, Ok, Err}
+use Rattle.rules.specs.Refusals.{OrRefused}
 
-abbrev pub fault_of : Judged → Option Fault
-fault_of Fine = none
-fault_of (Refused m p) = some (fault m p)
+abbrev pub fault_of : OrRefused ⊤ → Option Fault
+fault_of (Ok u) = none
+fault_of (Err r) = some (fault r.number r.place)

@@ -5,13 +5,7 @@ ghost use Rattle.images.specs.Judged.{fault_of};
 
 use blocks::blocks::{BLOCK_SIZE, HEAD_SIZE, PAYLOAD_SIZE, is_checked, is_formed, put_block};
 use blocks::bytes::copy;
-
-// The image is not refused; or it is, with the number and the place.
-#[derive(Clone, Copy)]
-pub enum Judged {
-    Fine,
-    Refused(u32, usize),
-}
+use rules::refusals::Refusal;
 
 // The blocks that so many bytes need.
 pub fn blocks_for(size: usize) -> usize
@@ -45,25 +39,29 @@ fn used_in(size: usize, number: usize) -> usize
 }
 
 // Whether an image of carriers of so many bytes is refused. Its lowest block decides.
-pub fn judge(image: &[u8], size: usize) -> Judged
+pub fn judge(image: &[u8], size: usize) -> Result<(), Refusal>
     requires { (size ≤ 32768) × (length image.now ≡ image_size_of size) }
     ensures { fault_of result ≡ image_fault size image.now }
 {
     let blocks = blocks_for(size);
-    let mut i: usize = 0;
-    while i < blocks {
+    for i in 0..blocks {
         let at = BLOCK_SIZE * i;
         let end = at + BLOCK_SIZE;
         let block = &image[at..end];
         if !is_checked(block) {
-            return Judged::Refused(63, at);
+            return Err(Refusal {
+                number: 63,
+                place: at,
+            });
         }
         if !is_formed(block, i, used_in(size, i)) {
-            return Judged::Refused(64, at);
+            return Err(Refusal {
+                number: 64,
+                place: at,
+            });
         }
-        i += 1;
     }
-    Judged::Fine
+    Ok(())
 }
 
 // Puts the carriers that an image holds into a buffer of their size.
@@ -73,12 +71,10 @@ pub fn read(image: &[u8], carriers: &mut [u8])
 {
     let size = carriers.len();
     let blocks = blocks_for(size);
-    let mut i: usize = 0;
-    while i < blocks {
+    for i in 0..blocks {
         let from = BLOCK_SIZE * i + HEAD_SIZE;
         let end = from + used_in(size, i);
         copy(carriers, PAYLOAD_SIZE * i, &image[from..end]);
-        i += 1;
     }
 }
 
@@ -89,13 +85,11 @@ pub fn write(image: &mut [u8], carriers: &[u8])
 {
     let size = carriers.len();
     let blocks = blocks_for(size);
-    let mut number: usize = 0;
-    while number < blocks {
+    for number in 0..blocks {
         let from = PAYLOAD_SIZE * number;
         let until = from + used_in(size, number);
         let at = BLOCK_SIZE * number;
         let end = at + BLOCK_SIZE;
         put_block(&mut image[at..end], number, &carriers[from..until]);
-        number += 1;
     }
 }

@@ -4,16 +4,16 @@ ghost use Rattle.rules.specs.Calls.Keep.{kept_numbers};
 ghost use Rattle.lent.specs.Numbers.{numbers_of};
 ghost use Rattle.kept.specs.Kept.{kept_of, Near};
 
-use kept::endings::Ending;
 use lent::answers::{Answer, refusal, unrefused};
+use rules::refusals::Refusal;
 
 // The numbers of an ending.
-pub fn ending_answer(text: &[u8], e: Ending) -> Answer
-    requires { Near e }
-    ensures { (left : List ℕ) → numbers_of result ≡ kept_numbers text.now (kept_of e left) }
+pub fn ending_answer(text: &[u8], ending: Result<(), Refusal>) -> Answer
+    requires { Near ending }
+    ensures { (left : List ℕ) → numbers_of result ≡ kept_numbers text.now (kept_of ending left) }
 {
-    match e {
-        Ending::Refused(number, place) => refusal(text, number, place),
-        Ending::Done => unrefused(0, 0, 0, 0),
+    match ending {
+        Err(refused) => refusal(text, refused.number, refused.place),
+        Ok(()) => unrefused(0, 0, 0, 0),
     }
 }

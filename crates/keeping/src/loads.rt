@@ -4,9 +4,8 @@ ghost use Rattle.rules.specs.Limits.{longest_text};
 ghost use Rattle.rules.specs.Keeping.{loading};
 ghost use Rattle.kept.specs.Kept.{Answered};
 
-use kept::endings::Ending;
 use kept::loads::load_accepted;
-use reader::judging::Verdict;
+use rules::refusals::Refusal;
 
 // What Load answers. The work memory may hold anything afterwards.
 pub fn loaded(
@@ -16,15 +15,20 @@ pub fn loaded(
     records: &mut [u8],
     values: &mut [u8],
     room: &mut [u8],
-) -> Ending
+) -> Result<(), Refusal>
     requires { (length text.now ≤ longest_text) × ((65536 ≤ length records.old) × ((65536 ≤ length values.old) × (65536 ≤ length room.old))) }
     ensures { Answered text.now (loading image.now carriers.old) carriers.old carriers.new result }
 {
     let mut decls: [u8; 512] = [0; 512];
-    match reader::check(text, records, values, room, &mut decls) {
-        Verdict::Refused(number, place) => Ending::Refused(number, place),
-        Verdict::Accepted(m, words, _) => {
-            load_accepted(records, values, &decls, m, words, image, carriers, room)
-        }
-    }
+    let accepted = reader::check(text, records, values, room, &mut decls)?;
+    load_accepted(
+        records,
+        values,
+        &decls,
+        accepted.declarations,
+        accepted.words,
+        image,
+        carriers,
+        room,
+    )
 }

@@ -4,9 +4,8 @@ ghost use Rattle.rules.specs.Limits.{longest_text};
 ghost use Rattle.rules.specs.Keeping.{storing};
 ghost use Rattle.kept.specs.Kept.{Answered};
 
-use kept::endings::Ending;
 use kept::stores::store_accepted;
-use reader::judging::Verdict;
+use rules::refusals::Refusal;
 
 // What Store answers. The work memory may hold anything afterwards.
 pub fn stored(
@@ -16,13 +15,18 @@ pub fn stored(
     records: &mut [u8],
     values: &mut [u8],
     room: &mut [u8],
-) -> Ending
+) -> Result<(), Refusal>
     requires { (length text.now ≤ longest_text) × ((65536 ≤ length records.old) × ((65536 ≤ length values.old) × (65536 ≤ length room.old))) }
     ensures { Answered text.now (storing carriers.now image.old) image.old image.new result }
 {
     let mut decls: [u8; 512] = [0; 512];
-    match reader::check(text, records, values, room, &mut decls) {
-        Verdict::Refused(number, place) => Ending::Refused(number, place),
-        Verdict::Accepted(m, _, _) => store_accepted(records, values, &decls, m, carriers, image),
-    }
+    let accepted = reader::check(text, records, values, room, &mut decls)?;
+    store_accepted(
+        records,
+        values,
+        &decls,
+        accepted.declarations,
+        carriers,
+        image,
+    )
 }

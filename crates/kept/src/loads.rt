@@ -7,9 +7,9 @@ ghost use Rattle.rules.specs.Keeping.{carriers_size, loading};
 ghost use Rattle.table.specs.Ready.{Scene, table_of};
 ghost use Rattle.kept.specs.Kept.{Keeping, Taken};
 
-use crate::endings::Ending;
-use images::images::{Judged, image_size, judge, read};
-use starts::{Started, start};
+use images::images::{image_size, judge, read};
+use rules::refusals::Refusal;
+use starts::start;
 
 // Whether the carriers that an image holds can start a run. They are unpacked into a buffer of their size.
 fn start_held(
@@ -19,7 +19,7 @@ fn start_held(
     m: usize,
     image: &[u8],
     held: &mut [u8],
-) -> Started
+) -> Result<(), Refusal>
     requires scene { Scene records.now values.now decls.now m }
     requires held_len_bound { (length held.old ≤ 32768) × (length image.now ≡ image_size_of (length held.old)) }
     ensures { (v : Scene records.now values.now decls.now m)
@@ -38,20 +38,16 @@ fn load_sound(
     image: &[u8],
     carriers: &mut [u8],
     room: &mut [u8],
-) -> Ending
+) -> Result<(), Refusal>
     requires scene { Scene records.now values.now decls.now m }
     requires in_bounds { (65536 ≤ length room.old) × ((length carriers.old ≤ 32768) × (length image.now ≡ image_size_of (length carriers.old))) }
     ensures { (v : Scene records.now values.now decls.now m)
         → length carriers.old ≡ carriers_size (table_of v) → Taken (table_of v) image.now carriers.old carriers.new result }
 {
     let size = carriers.len();
-    match start_held(records, values, decls, m, image, &mut room[..size]) {
-        Started::Refused(number, place) => Ending::Refused(number, place),
-        Started::Fine => {
-            read(image, carriers);
-            Ending::Done
-        }
-    }
+    start_held(records, values, decls, m, image, &mut room[..size])?;
+    read(image, carriers);
+    Ok(())
 }
 
 // Loads the carriers of an accepted description of so many words, unless a buffer is refused.
@@ -64,7 +60,7 @@ pub fn load_accepted(
     image: &[u8],
     carriers: &mut [u8],
     room: &mut [u8],
-) -> Ending
+) -> Result<(), Refusal>
     requires words_value { (v : Scene records.now values.now decls.now m) × (words ≡ total_words (table_of v)) }
     requires in_bounds { (65536 ≤ length room.old) × (words ≤ 4096) }
     ensures { (v : Scene records.now values.now decls.now m)
@@ -74,13 +70,17 @@ pub fn load_accepted(
     let size = 8 * words;
     let needed = image_size(size);
     if carriers.len() != size {
-        return Ending::Refused(60, 0);
+        return Err(Refusal {
+            number: 60,
+            place: 0,
+        });
     }
     if image.len() != needed {
-        return Ending::Refused(62, 0);
+        return Err(Refusal {
+            number: 62,
+            place: 0,
+        });
     }
-    match judge(image, size) {
-        Judged::Refused(number, place) => Ending::Refused(number, place),
-        Judged::Fine => load_sound(records, values, decls, m, image, carriers, room),
-    }
+    judge(image, size)?;
+    load_sound(records, values, decls, m, image, carriers, room)
 }

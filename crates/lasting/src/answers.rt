@@ -9,7 +9,6 @@ ghost use Rattle.lasting.specs.Bounded.{Told};
 use bounding::mains::longest;
 use counting::counts::ENDLESS;
 use lent::answers::{Answer, refusal, unrefused};
-use reader::judging::Verdict;
 
 // The ending of a bound, and that of none.
 const BOUND: u32 = 0;
@@ -34,7 +33,7 @@ pub fn bounded(text: &[u8], a: &mut [u8], b: &mut [u8], c: &mut [u8]) -> Answer
 {
     let mut decls: [u8; 512] = [0; 512];
     match reader::check(text, a, b, c, &mut decls) {
-        Verdict::Refused(number, place) => refusal(text, number, place),
-        Verdict::Accepted(m, _, n) => count_answer(longest(a, &decls, c, m, n)),
+        Err(refused) => refusal(text, refused.number, refused.place),
+        Ok(accepted) => count_answer(longest(a, &decls, c, accepted.declarations, accepted.tokens)),
     }
 }

@@ -1,5 +1,6 @@
 pub mod Codes
 pub mod Digits
 pub mod Laws
+pub mod Misspellings
 pub mod Lexemes
 pub mod Numbers

@@ -1,14 +1,15 @@
 -- The rules' constants as the values that the code hands about.
-use Rattle.std.specs.Prelude.{ℕ, zero, suc, Bool, true, false, List}
+use Rattle.std.specs.Prelude.{ℕ, zero, suc, Bool, true, false, List, Option, Some, None, Result, Ok, Err}
 use Rattle.rules.specs.Text.Constants.{Constant, malformed, constant, all, is_based_digit, value_from, free_from}
 use Rattle.lexemes.specs.declared.constants.Number.{Number}
-use Rattle.lexemes.specs.declared.constants.Number.TheVariants.{Malformed, Known}
 use Rattle.lexemes.specs.declared.lexemes.Lexeme.{Lexeme}
-use Rattle.lexemes.specs.declared.lexemes.Lexeme.TheVariants.{Token as Found, Refused}
+use Rattle.lexemes.specs.declared.lexemes.Lexeme.TheVariants.{Token as Found}
+use Rattle.lexemes.specs.declared.lexemes.Misspelling.{Misspelling}
+use Rattle.lexemes.specs.declared.lexemes.Misspelling.TheVariants.{BadConstant}
 
-abbrev pub number_of : Constant → Number
-number_of malformed = Malformed
-number_of (constant v f n) = Known v f n
+abbrev pub number_of : Constant → Option Number
+number_of malformed = None
+number_of (constant v f n) = Some (record { value = v; free = f; bits = n })
 
 -- a constant where a test holds
 abbrev pub known : Bool → ℕ → ℕ → ℕ → Constant
@@ -27,6 +28,6 @@ abbrev pub free_kind : ℕ → ℕ
 free_kind zero = 1
 free_kind (suc f) = 2
 
-abbrev pub constant_of : ℕ → Number → Lexeme
-constant_of more Malformed = Refused 12
-constant_of more (Known v f n) = Found more (free_kind f) n v f
+abbrev pub constant_of : ℕ → Option Number → Result Lexeme Misspelling
+constant_of more None = Err BadConstant
+constant_of more (Some n) = Ok (Found (record { more = more; kind = free_kind n.free; size = n.bits; value = n.value; free = n.free }))

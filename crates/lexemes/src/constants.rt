@@ -6,19 +6,21 @@ ghost use Rattle.rules.specs.Text.Constants.{digit_bits, decimal_bits, decimal, 
 ghost use Rattle.rules.specs.Text.Scan.{lexeme_by};
 ghost use Rattle.classes.specs.Classes.{Classed};
 ghost use Rattle.lexemes.specs.Digits.{digit_no};
-ghost use Rattle.lexemes.specs.Numbers.{number_of, based_digits, constant_of};
+ghost use Rattle.lexemes.specs.Numbers.{number_of, based_digits, free_kind, constant_of};
 ghost use Rattle.lexemes.specs.Lexemes.{lexeme_of};
 
-use crate::lexemes::Lexeme;
+use crate::lexemes::{Lexeme, Misspelling, Token};
 use classes::classes::{IN_CONSTANT, run_end};
 use classes::letters::upper;
+use rules::kinds::{CONST, MASKED};
 use rules::limits::MOST_BITS;
 
 // What the digits of a constant come to.
-#[derive(Clone, Copy)]
-pub enum Number {
-    Malformed,
-    Known { value: u64, free: u64, bits: u8 },
+#[derive(Clone, Copy, PartialEq, Eq)]
+pub struct Number {
+    pub value: u64,
+    pub free: u64,
+    pub bits: u8,
 }
 
 // The value of a byte as a digit of any base up to 16; 16 for `?`, 17 for any other byte.
@@ -48,6 +50,7 @@ fn digit_of(b: u8) -> u64
 fn decimal_bits(value: u64) -> u8
     ensures { result ≡ decimal_bits value }
 {
+    // A while: it ends where nothing of the value is left.
     let mut bits: u8 = 1;
     let mut rest = value / 2;
     while rest != 0 {
@@ -58,41 +61,37 @@ fn decimal_bits(value: u64) -> u8
 }
 
 // The decimal from `at` to `end`. The test before each digit keeps the value below 2 ^ 64.
-fn decimal_value(text: &[u8], at: usize, end: usize) -> Number
+fn decimal_value(text: &[u8], at: usize, end: usize) -> Option<Number>
     requires { (at ≤ end) × (end ≤ length text.now) }
     ensures { result ≡ number_of (decimal (slice at end text.now)) }
 {
     let mut value: u64 = 0;
-    let mut i = at;
-    while i < end {
+    for i in at..end {
         let digit = digit_of(text[i]);
         if 9 < digit {
-            return Number::Malformed;
+            return None;
         }
         if (18446744073709551615 - digit) / 10 < value {
-            return Number::Malformed;
+            return None;
         }
         value = value * 10 + digit;
-        i += 1;
     }
-    Number::Known {
+    Some(Number {
         value,
         free: 0,
         bits: decimal_bits(value),
-    }
+    })
 }
 
 // The digits of a base from `from` to `end`, of which there are few enough that the value fits.
-fn based_digits(text: &[u8], from: usize, end: usize, base: u64, bits: u8) -> Number
+fn based_digits(text: &[u8], from: usize, end: usize, base: u64, bits: u8) -> Option<Number>
     requires { (from ≤ end) × ((end ≤ length text.now) × ((2 ≤ base) × ((base ≤ 16) × (base ^ (end - from) ≤ 2 ^ 64)))) }
     ensures { result ≡ number_of (based_digits base bits (slice from end text.now)) }
 {
     let mut value: u64 = 0;
     let mut free: u64 = 0;
-    let mut i = from;
-    while i < end {
+    for i in from..end {
         let digit = digit_of(text[i]);
-        i += 1;
         if digit == 16 {
             value = value * base;
             free = free * base + (base - 1);
@@ -100,10 +99,10 @@ fn based_digits(text: &[u8], from: usize, end: usize, base: u64, bits: u8) -> Nu
             value = value * base + digit;
             free = free * base;
         } else {
-            return Number::Malformed;
+            return None;
         }
     }
-    Number::Known { value, free, bits }
+    Some(Number { value, free, bits })
 }
 
 // The length in bits of a number of digits behind a prefix.
@@ -133,51 +132,46 @@ fn base_of(sign: u8) -> u64
 }
 
 // The constant whose digits stand from `from` to `end`, behind a prefix.
-fn based_value(text: &[u8], from: usize, end: usize, sign: u8) -> Number
+fn based_value(text: &[u8], from: usize, end: usize, sign: u8) -> Option<Number>
     requires { (from ≤ end) × ((end ≤ length text.now) × (length text.now ≤ 32768)) }
     ensures { result ≡ number_of (based (digit_bits sign) (slice from end text.now)) }
 {
     let count = end - from;
     if count == 0 {
-        return Number::Malformed;
+        return None;
     }
     let bits = based_bits(sign, count);
     if (MOST_BITS as usize) < bits {
-        return Number::Malformed;
+        return None;
     }
     based_digits(text, from, end, base_of(sign), bits as u8)
 }
 
-// A constant of a number, with some bytes behind its first; one that has free bits has a `?`.
-fn constant_lexeme(number: Number, more: usize) -> Lexeme
+// The kind of a constant by its free bits: one that has some has a `?`.
+fn constant_kind(free: u64) -> u8
+    ensures { result ≡ free_kind free }
+{
+    if free == 0 { CONST } else { MASKED }
+}
+
+// A constant of a number, with some bytes behind its first.
+fn constant_lexeme(number: Option<Number>, more: usize) -> Result<Lexeme, Misspelling>
     ensures { result ≡ constant_of more number }
 {
     match number {
-        Number::Malformed => Lexeme::Refused(12),
-        Number::Known { value, free, bits } => {
-            if free == 0 {
-                Lexeme::Token {
-                    more,
-                    kind: 1,
-                    size: bits,
-                    value,
-                    free,
-                }
-            } else {
-                Lexeme::Token {
-                    more,
-                    kind: 2,
-                    size: bits,
-                    value,
-                    free,
-                }
-            }
-        }
+        None => Err(Misspelling::BadConstant),
+        Some(number) => Ok(Lexeme::Token(Token {
+            more,
+            kind: constant_kind(number.free),
+            size: number.bits,
+            value: number.value,
+            free: number.free,
+        })),
     }
 }
 
 // The constant at a place where a digit stands.
-pub fn decimal_at(text: &[u8], classes: &[u8; 256], at: usize) -> Lexeme
+pub fn decimal_at(text: &[u8], classes: &[u8; 256], at: usize) -> Result<Lexeme, Misspelling>
     requires { (Classed classes.now) × ((at < length text.now) × (in_constant (get_or text.now at 0) ≡ true)) }
     ensures { result ≡ lexeme_of (lexeme_by digit at (get_or text.now at 0) (drop (at + 1) text.now)) }
 {
@@ -186,7 +180,7 @@ pub fn decimal_at(text: &[u8], classes: &[u8; 256], at: usize) -> Lexeme
 }
 
 // The constant at a place where a prefix stands.
-pub fn based_at(text: &[u8], classes: &[u8; 256], at: usize) -> Lexeme
+pub fn based_at(text: &[u8], classes: &[u8; 256], at: usize) -> Result<Lexeme, Misspelling>
     requires { (Classed classes.now) × ((at < length text.now) × (length text.now ≤ 32768)) }
     ensures { result ≡ lexeme_of (lexeme_by prefix at (get_or text.now at 0) (drop (at + 1) text.now)) }
 {

@@ -2,10 +2,10 @@
 ghost use Rattle.std.specs.Prelude.{◌≡◌, ◌+◌, ◌<◌, ◌≤◌, length, get_or, take, drop};
 ghost use Rattle.rules.specs.Text.Bytes.{mark};
 ghost use Rattle.rules.specs.Text.Scan.{lexeme_by};
-ghost use Rattle.lexemes.specs.Codes.{mark_digit, mark_code, kind_by, pairs, singles};
+ghost use Rattle.lexemes.specs.Codes.{mark_digit, mark_code, kind_found, mark_token, pairs, singles};
 ghost use Rattle.lexemes.specs.Lexemes.{lexeme_of};
 
-use crate::lexemes::Lexeme;
+use crate::lexemes::{Lexeme, Misspelling, Token};
 use rules::kinds::{
     ARROW, AT, BECOMES, COLON, COMMA, EQUALS, GREATER, LBRA, LESS, LPAR, MINUS, PLUS, RBRA, RPAR,
     SEMI, STARS,
@@ -31,64 +31,63 @@ fn pair_code(text: &[u8], at: usize) -> u32
     first
 }
 
-// The kind of the mark of two bytes that has this number, and 0 where none has.
-fn pair_kind(code: u32) -> u8
-    ensures { result ≡ kind_by mark_code code pairs }
+// The kind of the mark of two bytes that has this number.
+fn pair_kind(code: u32) -> Option<u8>
+    ensures { result ≡ kind_found mark_code code pairs }
 {
     match code {
-        15993 => BECOMES, // :=
-        16253 => ARROW, // =>
-        11094 => STARS, // **
-        _ => 0,
+        15993 => Some(BECOMES), // :=
+        16253 => Some(ARROW), // =>
+        11094 => Some(STARS), // **
+        _ => None,
     }
 }
 
-// The kind of the mark of one byte that has this number, and 0 where none has.
-fn single_kind(code: u32) -> u8
-    ensures { result ≡ kind_by mark_code code singles }
+// The kind of the mark of one byte that has this number.
+fn single_kind(code: u32) -> Option<u8>
+    ensures { result ≡ kind_found mark_code code singles }
 {
     match code {
-        41 => LPAR, // (
-        42 => RPAR, // )
-        92 => LBRA, // [
-        94 => RBRA, // ]
-        61 => LESS, // <
-        63 => GREATER, // >
-        45 => COMMA, // ,
-        60 => SEMI, // ;
-        59 => COLON, // :
-        62 => EQUALS, // =
-        65 => AT, // @
-        44 => PLUS, // +
-        46 => MINUS, // -
-        _ => 0,
+        41 => Some(LPAR), // (
+        42 => Some(RPAR), // )
+        92 => Some(LBRA), // [
+        94 => Some(RBRA), // ]
+        61 => Some(LESS), // <
+        63 => Some(GREATER), // >
+        45 => Some(COMMA), // ,
+        60 => Some(SEMI), // ;
+        59 => Some(COLON), // :
+        62 => Some(EQUALS), // =
+        65 => Some(AT), // @
+        44 => Some(PLUS), // +
+        46 => Some(MINUS), // -
+        _ => None,
     }
+}
+
+// The token of a mark of a kind, with some bytes behind its first.
+fn mark_token(kind: u8, more: usize) -> Lexeme
+    ensures { result ≡ mark_token kind more }
+{
+    Lexeme::Token(Token {
+        more,
+        kind,
+        size: 0,
+        value: 0,
+        free: 0,
+    })
 }
 
 // The mark at a place.
-pub fn mark_at(text: &[u8], at: usize) -> Lexeme
+pub fn mark_at(text: &[u8], at: usize) -> Result<Lexeme, Misspelling>
     requires { at < length text.now }
     ensures { result ≡ lexeme_of (lexeme_by mark at (get_or text.now at 0) (drop (at + 1) text.now)) }
 {
-    let pair = pair_kind(pair_code(text, at));
-    if pair != 0 {
-        return Lexeme::Token {
-            more: 1,
-            kind: pair,
-            size: 0,
-            value: 0,
-            free: 0,
-        };
+    if let Some(pair) = pair_kind(pair_code(text, at)) {
+        return Ok(mark_token(pair, 1));
     }
-    let single = single_kind(mark_digit(text[at]));
-    if single != 0 {
-        return Lexeme::Token {
-            more: 0,
-            kind: single,
-            size: 0,
-            value: 0,
-            free: 0,
-        };
+    if let Some(single) = single_kind(mark_digit(text[at])) {
+        return Ok(mark_token(single, 0));
     }
-    Lexeme::Refused(10)
+    Err(Misspelling::NotAllowed)
 }

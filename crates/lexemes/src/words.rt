@@ -9,7 +9,7 @@ ghost use Rattle.classes.specs.Classes.{Classed};
 ghost use Rattle.lexemes.specs.Codes.{word_code, word_digit, kind_by};
 ghost use Rattle.lexemes.specs.Lexemes.{lexeme_of};
 
-use crate::lexemes::Lexeme;
+use crate::lexemes::{Lexeme, Misspelling, Token};
 use classes::classes::{IN_NAME, run_end};
 use classes::letters::upper;
 use rules::kinds::{
@@ -30,6 +30,7 @@ fn word_code(text: &[u8], at: usize, end: usize) -> u64
     requires { (at ≤ end) × ((end ≤ at + 9) × (end ≤ length text.now)) }
     ensures { result ≡ word_code (map fold (slice at end text.now)) }
 {
+    // A while: it goes from the last byte to the first.
     let mut code: u64 = 0;
     let mut i = end;
     while at < i {
@@ -83,20 +84,20 @@ fn word_kind(text: &[u8], at: usize, end: usize) -> u8
 }
 
 // The word at a place where a letter stands.
-pub fn word_at(text: &[u8], classes: &[u8; 256], at: usize) -> Lexeme
+pub fn word_at(text: &[u8], classes: &[u8; 256], at: usize) -> Result<Lexeme, Misspelling>
     requires { (Classed classes.now) × ((at < length text.now) × (in_name (get_or text.now at 0) ≡ true)) }
     ensures { result ≡ lexeme_of (lexeme_by letter at (get_or text.now at 0) (drop (at + 1) text.now)) }
 {
     let end = run_end(text, classes, at + 1, IN_NAME);
     let size = end - at;
     if LONGEST_NAME < size {
-        return Lexeme::Refused(11);
+        return Err(Misspelling::LongName);
     }
-    Lexeme::Token {
+    Ok(Lexeme::Token(Token {
         more: size - 1,
         kind: word_kind(text, at, end),
         size: size as u8,
         value: 0,
         free: 0,
-    }
+    }))
 }

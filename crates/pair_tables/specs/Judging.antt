@@ -1,5 +1,5 @@
 -- What `judge` answers: whether the turns of two descriptions begin from a carrier buffer, whatever the budget.
-use Rattle.std.specs.Prelude.{ℕ, ◌*◌, ◌<◌, ◌≤◌, ◌≡◌, List, length, get_or}
+use Rattle.std.specs.Prelude.{ℕ, ◌*◌, ◌<◌, ◌≤◌, ◌≡◌, List, length, get_or, ⊤, Result, Ok, Err}
 use Rattle.std.proofs.Math.Option.{none}
 use Rattle.cells.specs.Cells.{cell}
 use Rattle.rules.specs.Declarations.{Table, total_words}
@@ -7,10 +7,9 @@ use Rattle.rules.specs.Limits.{most_words}
 use Rattle.rules.specs.Answers.{words_from}
 use Rattle.rules.specs.Keeping.{fault60, fault61}
 use Rattle.rules.specs.Pair.{fault81, fault32, joint, first_words, side_of, turns_taken, total_of, no_turns, Paired, turned_down, or_down, paired_as, pair_on}
-use Rattle.starts.specs.declared.Started.{Started}
-use Rattle.starts.specs.declared.Started.TheVariants.{Fine, Refused}
-use Rattle.pair_tables.specs.declared.judging.Judged.{Judged}
-use Rattle.pair_tables.specs.declared.judging.Judged.TheVariants.{Fine as Taken, Refused as Down}
+use Rattle.rules.specs.Refusals.{refusal_at, OrRefused}
+use Rattle.rules.specs.declared.refusals.Refusal.{Refusal}
+use Rattle.pair_tables.specs.declared.judging.PairRefusal.{PairRefusal}
 
 -- the carriers are the words of the joint table, none with a bit above its length
 pub record Carriers (first second : Table) (buffer : List ℕ) : Type 0 where
@@ -25,9 +24,9 @@ pub record Uncarried (first second : Table) (buffer : List ℕ) (number place : 
       ≡ turned_down 0 number place
   pub near : place ≤ 8 * most_words
 
-pub data Carries (first second : Table) (buffer : List ℕ) : Started → Type 0 where
-  carried : Carriers first second buffer → Carries first second buffer Fine
-  uncarried : {number place : ℕ} → Uncarried first second buffer number place → Carries first second buffer (Refused number place)
+pub data Carries (first second : Table) (buffer : List ℕ) : OrRefused ⊤ → Type 0 where
+  carried : Carriers first second buffer → Carries first second buffer (Ok tt)
+  uncarried : {r : Refusal} → Uncarried first second buffer r.number r.place → Carries first second buffer (Err r)
 
 -- the answer is that of the turns from the buffer's words, and the first words of the second text's declarations in the table are known
 pub record Begins (first second : Table) (firsts buffer turns : List ℕ) : Type 0 where
@@ -43,6 +42,6 @@ pub record Declines (first second : Table) (buffer turns : List ℕ) (side numbe
   pub refuses : (budget : ℕ) → pair_on first second buffer turns budget ≡ turned_down side number place
   pub near : (number ≡ 81 → ⊥) → place ≤ 8 * most_words
 
-pub data Judges (first second : Table) (firsts buffer turns : List ℕ) : Judged → Type 0 where
-  begins : Begins first second firsts buffer turns → Judges first second firsts buffer turns Taken
-  declines : {side number place : ℕ} → Declines first second buffer turns side number place → Judges first second firsts buffer turns (Down side number place)
+pub data Judges (first second : Table) (firsts buffer turns : List ℕ) : Result ⊤ PairRefusal → Type 0 where
+  begins : Begins first second firsts buffer turns → Judges first second firsts buffer turns (Ok tt)
+  declines : {r : PairRefusal} → Declines first second buffer turns r.side r.refusal.number r.refusal.place → Judges first second firsts buffer turns (Err r)

@@ -1,5 +1,5 @@
 -- 61 of the joint table.
-use Rattle.std.specs.Prelude.{ℕ, ◌+◌, ◌*◌, ◌<◌, ◌≤◌, ◌≡◌, true, false, List, ltb, length, get_or, drop}
+use Rattle.std.specs.Prelude.{ℕ, ◌+◌, ◌*◌, ◌<◌, ◌≤◌, ◌≡◌, true, false, List, ltb, length, get_or, drop, ⊤, Ok, Err}
 use Rattle.std.proofs.Math.Option.{Option, none, some}
 use Rattle.cells.specs.Cells.{cell}
 use Rattle.rules.specs.Declarations.{Table, total_words}
@@ -8,8 +8,7 @@ use Rattle.rules.specs.Answers.{words_from, word_lengths, long_word}
 use Rattle.rules.specs.Pair.{unshared, joint, first_words}
 use Rattle.table.specs.Ready.{Scene, table_of}
 use Rattle.starts.specs.Laws.Passing.{long_from}
-use Rattle.starts.specs.declared.Started.{Started}
-use Rattle.starts.specs.declared.Started.TheVariants.{Fine, Refused}
+use Rattle.rules.specs.Refusals.{refusal_at, OrRefused}
 
 -- carriers of the joint table, and the first words of the second text's declarations in it
 pub record Carried (first second : Table) (firsts : List ℕ) (words : ℕ) (carriers : List ℕ) : Type 0 where
@@ -34,9 +33,9 @@ abbrev pub long_joint : Table → Table → List ℕ → Option ℕ
 long_joint first second carriers = long_word 0 (word_lengths (joint first second)) (words_from (total_words (joint first second)) carriers)
 
 -- the answer, by the first long word
-pub data Fits (long : Option ℕ) : Started → Type 0 where
-  none_long : long ≡ none → Fits long Fine
-  one_long : {place : ℕ} → long ≡ some place → place ≤ 8 * most_words → Fits long (Refused 61 place)
+pub data Fits (long : Option ℕ) : OrRefused ⊤ → Type 0 where
+  none_long : long ≡ none → Fits long (Ok tt)
+  one_long : {place : ℕ} → long ≡ some place → place ≤ 8 * most_words → Fits long (Err (refusal_at 61 place))
 
 -- the second text's own words of the first k declarations are judged, and end at `free`
 pub record Judged (first second : Table) (carriers : List ℕ) (free k : ℕ) : Type 0 where

@@ -11,13 +11,13 @@ use crate::turns::first_bad_turn;
 use declare::counting::words;
 use keys::{NO_KEY, fault_of};
 use rules::limits::MOST_WORDS;
-use starts::Started;
+use rules::refusals::Refusal;
 
-// The turns can be taken; or refused, with the side, the number and the place.
-#[derive(Clone, Copy)]
-pub enum Judged {
-    Fine,
-    Refused(u32, u32, usize),
+// A refusal of two texts, and the side whose it is: 81, 32, 60 and 61 are told as the first text's.
+#[derive(Clone, Copy, PartialEq, Eq)]
+pub struct PairRefusal {
+    pub side: u32,
+    pub refusal: Refusal,
 }
 
 // Whether the joint table of so many words is not too large, and the carriers are its words: 32, 60, 61.
@@ -33,7 +33,7 @@ fn judge_carriers(
     firsts: &[u8],
     total: usize,
     carriers: &[u8],
-) -> Started
+) -> Result<(), Refusal>
     requires by_index { (key : ℕ) × (v : Scene records0.now values0.now decls0.now m0) × (w : Scene records1.now values1.now decls1.now m1)
         × Joins (table_of v) (table_of w) firsts.now key total }
     requires m1_in_bounds { 2 * m1 ≤ length firsts.now }
@@ -42,10 +42,16 @@ fn judge_carriers(
         → Joins (table_of v) (table_of w) firsts.now key total → Carries (table_of v) (table_of w) carriers.now result }
 {
     if MOST_WORDS < total {
-        return Started::Refused(32, 0);
+        return Err(Refusal {
+            number: 32,
+            place: 0,
+        });
     }
     if carriers.len() != 8 * total {
-        return Started::Refused(60, 0);
+        return Err(Refusal {
+            number: 60,
+            place: 0,
+        });
     }
     let words0 = words(records0, values0, decls0, m0);
     start_joint(
@@ -68,7 +74,7 @@ pub fn judge(
     firsts: &mut [u8],
     carriers: &[u8],
     turns: &[u8],
-) -> Judged
+) -> Result<(), PairRefusal>
     requires stands { Stands text0.now records0.now values0.now decls0.now m0 × Stands text1.now records1.now values1.now decls1.now m1 }
     requires m1_in_bounds { 2 * m1 ≤ length firsts.old }
     ensures { (v : Stands text0.now records0.now values0.now decls0.now m0)
@@ -80,18 +86,24 @@ pub fn judge(
     );
     let key = joined.key;
     if key != NO_KEY {
-        let clash = fault_of(key);
-        return Judged::Refused(1, clash.number, clash.place);
+        return Err(PairRefusal {
+            side: 1,
+            refusal: fault_of(key),
+        });
     }
     let bad = first_bad_turn(turns);
     if bad < turns.len() {
-        return Judged::Refused(0, 81, bad);
+        let refusal = Refusal {
+            number: 81,
+            place: bad,
+        };
+        return Err(PairRefusal { side: 0, refusal });
     }
     let total = joined.words;
     match judge_carriers(
         records0, values0, decls0, m0, records1, values1, decls1, m1, firsts, total, carriers,
     ) {
-        Started::Refused(number, place) => Judged::Refused(0, number, place),
-        Started::Fine => Judged::Fine,
+        Err(refusal) => Err(PairRefusal { side: 0, refusal }),
+        Ok(()) => Ok(()),
     }
 }

@@ -10,8 +10,9 @@ ghost use Rattle.pair_tables.specs.Lengths.{own_words, Carried, Fits, long_behin
 
 use cells::get16;
 use declare::faults::words_in;
+use rules::refusals::Refusal;
 use spans::last_of;
-use starts::{Started, first_long, start};
+use starts::{first_long, start};
 use table::views::bits_of;
 
 // The words that the declaration named p adds to the table, in which it begins at `first`: none where that is among the words of the first text.
@@ -35,26 +36,27 @@ fn start_behind(
     firsts: &[u8],
     words0: usize,
     carriers: &[u8],
-) -> Started
+) -> Result<(), Refusal>
     requires { (first : Table) × (w : Scene records1.now values1.now decls1.now m1) × Carried first (table_of w) firsts.now words0 carriers.now }
     ensures { (first : Table) (w : Scene records1.now values1.now decls1.now m1)
         → Carried first (table_of w) firsts.now words0 carriers.now → Fits (long_behind first (table_of w) carriers.now) result }
 {
     let mut free = words0;
-    let mut k: usize = 0;
-    while k < m1 {
+    for k in 0..m1 {
         let p = get16(decls1, k) as usize;
         let first = get16(firsts, k) as usize;
         let end = free + own_words(records1, values1, p, words0, first);
         let last = last_of(bits_of(records1, values1, p));
         let long = first_long(carriers, free, end, last);
         if long < end {
-            return Started::Refused(61, 8 * long);
+            return Err(Refusal {
+                number: 61,
+                place: 8 * long,
+            });
         }
         free = end;
-        k += 1;
     }
-    Started::Fine
+    Ok(())
 }
 
 // Whether no word of the joint table has a bit above its length.
@@ -70,7 +72,7 @@ pub fn start_joint(
     firsts: &[u8],
     words0: usize,
     carriers: &[u8],
-) -> Started
+) -> Result<(), Refusal>
     requires { (v : Scene records0.now values0.now decls0.now m0) × (w : Scene records1.now values1.now decls1.now m1)
         × Carried (table_of v) (table_of w) firsts.now words0 carriers.now }
     ensures { (v : Scene records0.now values0.now decls0.now m0)
@@ -79,8 +81,6 @@ pub fn start_joint(
         → Fits (long_joint (table_of v) (table_of w) carriers.now) result }
 {
     let size = 8 * words0;
-    match start(records0, values0, decls0, m0, &carriers[..size]) {
-        Started::Refused(number, place) => Started::Refused(number, place),
-        Started::Fine => start_behind(records1, values1, decls1, m1, firsts, words0, carriers),
-    }
+    start(records0, values0, decls0, m0, &carriers[..size])?;
+    start_behind(records1, values1, decls1, m1, firsts, words0, carriers)
 }

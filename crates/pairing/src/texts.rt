@@ -7,8 +7,7 @@ ghost use Rattle.pairing.specs.Outcome.{Outcome};
 use crate::answers::refused_answer;
 use crate::turned::turned;
 use lent::answers::Answer;
-use pair_tables::judging::{Judged, judge};
-use reader::judging::Verdict;
+use pair_tables::judging::judge;
 
 // What is answered to two accepted texts, the first of `words0` words.
 fn pair_accepted(
@@ -52,8 +51,14 @@ fn pair_accepted(
         carriers,
         turns,
     ) {
-        Judged::Refused(side, number, place) => refused_answer(text0, text1, side, number, place),
-        Judged::Fine => turned(
+        Err(refused) => refused_answer(
+            text0,
+            text1,
+            refused.side,
+            refused.refusal.number,
+            refused.refusal.place,
+        ),
+        Ok(()) => turned(
             text0,
             records0,
             values0,
@@ -102,10 +107,26 @@ fn pair_second(
 {
     let mut decls1: [u8; 512] = [0; 512];
     match reader::check(text1, records1, values1, room1, &mut decls1) {
-        Verdict::Refused(number, place) => refused_answer(text0, text1, 1, number, place),
-        Verdict::Accepted(m1, _, n1) => pair_accepted(
-            text0, records0, values0, room0, decls0, m0, words0, n0, text1, records1, values1,
-            room1, &decls1, m1, n1, carriers, turns, budget,
+        Err(refused) => refused_answer(text0, text1, 1, refused.number, refused.place),
+        Ok(second) => pair_accepted(
+            text0,
+            records0,
+            values0,
+            room0,
+            decls0,
+            m0,
+            words0,
+            n0,
+            text1,
+            records1,
+            values1,
+            room1,
+            &decls1,
+            second.declarations,
+            second.tokens,
+            carriers,
+            turns,
+            budget,
         ),
     }
 }
@@ -131,9 +152,23 @@ pub fn pair_texts(
 {
     let mut decls0: [u8; 512] = [0; 512];
     match reader::check(text0, a, b, c, &mut decls0) {
-        Verdict::Refused(number, place) => refused_answer(text0, text1, 0, number, place),
-        Verdict::Accepted(m0, words0, n0) => pair_second(
-            text0, a, b, c, &decls0, m0, words0, n0, text1, d, e, f, carriers, turns, budget,
+        Err(refused) => refused_answer(text0, text1, 0, refused.number, refused.place),
+        Ok(first) => pair_second(
+            text0,
+            a,
+            b,
+            c,
+            &decls0,
+            first.declarations,
+            first.words,
+            first.tokens,
+            text1,
+            d,
+            e,
+            f,
+            carriers,
+            turns,
+            budget,
         ),
     }
 }

@@ -11,7 +11,7 @@ use links::bodies::link;
 use links::mains::main_start;
 use places::placing::place;
 use runner::runs::run;
-use starts::{Started, start};
+use starts::start;
 
 // Completes the table of an accepted description of n tokens: where the bits of accesses lie, and where control goes. Returns where MAIN begins.
 pub fn prepare(
@@ -73,7 +73,7 @@ pub fn run_accepted(
     ensures { Outcome text.now carriers.old budget carriers.new result }
 {
     match start(records, values, decls, m, carriers) {
-        Started::Refused(number, place) => refusal(text, number, place),
-        Started::Fine => run_started(text, carriers, budget, records, values, room, decls, m, n),
+        Err(refused) => refusal(text, refused.number, refused.place),
+        Ok(()) => run_started(text, carriers, budget, records, values, room, decls, m, n),
     }
 }

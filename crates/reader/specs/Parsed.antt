@@ -1,5 +1,5 @@
 -- What the first two passes come to: a refusal that Check may give, or a description that stands in the table.
-use Rattle.std.specs.Prelude.{ℕ, ◌≤◌, ◌≡◌, true, false, List, ltb, length}
+use Rattle.std.specs.Prelude.{ℕ, ◌≤◌, ◌≡◌, true, false, List, ltb, length, Result, Ok, Err}
 use Rattle.rules.specs.Text.Scan.{scan, fine}
 use Rattle.rules.specs.Grammar.Trees.{Description, flatten}
 use Rattle.rules.specs.Grammar.Verdict.{Crowded}
@@ -7,10 +7,8 @@ use Rattle.rules.specs.Limits.{deepest, longest_text}
 use Rattle.rules.specs.Answers.{refused, Checks}
 use Rattle.laws_grammar.specs.Cited.Nesting.{nest}
 use Rattle.text.specs.Table.{record_cells, value_cells, write_cells, scanned_of}
-use Rattle.text.specs.declared.Scanned.TheVariants.{Fine as ScannedFine}
 use Rattle.records.specs.Holds.{place_cell, Holds}
-use Rattle.reader.specs.declared.parsing.Parsed.{Parsed}
-use Rattle.reader.specs.declared.parsing.Parsed.TheVariants.{Fine, Refused}
+use Rattle.rules.specs.declared.refusals.Refusal.{Refusal}
 
 -- the place of token k of n in the table, or of the end
 unfoldable pub place_by : List ℕ → ℕ → ℕ → ℕ → ℕ
@@ -32,9 +30,9 @@ pub record Refuses (text : List ℕ) (m p : ℕ) : Type 0 where
   pub checks : Checks text (refused m p)
   pub near : p ≤ longest_text
 
-abbrev pub Parses : List ℕ → List ℕ → List ℕ → Parsed → Type 0
-Parses text records values (Refused m p) = Refuses text m p
-Parses text records values (Fine n) = Stands text records values n
+abbrev pub Parses : List ℕ → List ℕ → List ℕ → Result ℕ Refusal → Type 0
+Parses text records values (Err r) = Refuses text r.number r.place
+Parses text records values (Ok n) = Stands text records values n
 
 -- the buffers as the scan has written them
 pub record Written (text records values : List ℕ) : Type 0 where
@@ -50,4 +48,4 @@ pub record Written (text records values : List ℕ) : Type 0 where
 pub record Scans (text records : List ℕ) (n : ℕ) : Type 0 where
   pub values : List ℕ
   pub written : Written text records values
-  pub fine : ScannedFine n ≡ scanned_of (scan text)
+  pub fine : Ok n ≡ scanned_of (scan text)

@@ -10,13 +10,15 @@ use cells::{get16, put16};
 use declare::counting::words;
 use keys::{NO_KEY, fault_of, number_fault_of};
 use rules::limits::MOST_DECLARATIONS;
+use rules::refusals::Refusal;
 use whole::fault50;
 
-// Accepted, with so many declarations, words and tokens; or the number and the place of the refusal.
-#[derive(Clone, Copy)]
-pub enum Verdict {
-    Accepted(usize, usize, usize),
-    Refused(u32, usize),
+// An accepted text has so many declarations, words and tokens.
+#[derive(Clone, Copy, PartialEq, Eq)]
+pub struct Accepted {
+    pub declarations: usize,
+    pub words: usize,
+    pub tokens: usize,
 }
 
 // Keeps the declarations, of which there are few, so that the room can be used for something else.
@@ -24,10 +26,8 @@ fn keep(room: &[u8], decls: &mut [u8])
     requires { (512 ≤ length room.now) × (512 ≤ length decls.old) }
     ensures { Copied decls.new room.now most_declarations }
 {
-    let mut k: usize = 0;
-    while k < MOST_DECLARATIONS {
+    for k in 0..MOST_DECLARATIONS {
         put16(decls, k, get16(room, k));
-        k += 1;
     }
 }
 
@@ -40,18 +40,21 @@ fn judge_whole(
     decls: &[u8],
     m: usize,
     n: usize,
-) -> Verdict
+) -> Result<Accepted, Refusal>
     requires lawful { Lawful text.now records.now values.now decls.now m n }
     requires in_bounds { 65536 ≤ length room.old }
     ensures { Judges text.now records.now values.now decls.now result }
 {
     let key = fault50(text, records, decls, room, m, n);
     if key != NO_KEY {
-        let refusal = number_fault_of(key);
-        return Verdict::Refused(refusal.number, refusal.place);
+        return Err(number_fault_of(key));
     }
     let count = words(records, values, decls, m);
-    Verdict::Accepted(m, count, n)
+    Ok(Accepted {
+        declarations: m,
+        words: count,
+        tokens: n,
+    })
 }
 
 // A description of n tokens whose m declarations have no fault.
@@ -63,15 +66,14 @@ fn judge_bodies(
     decls: &[u8],
     m: usize,
     n: usize,
-) -> Verdict
+) -> Result<Accepted, Refusal>
     requires declares { Declares text.now records.now values.now decls.now m n }
     requires in_bounds { 65536 ≤ length room.old }
     ensures { Judges text.now records.now values.now decls.now result }
 {
     let key = fault40(records, values, decls, room, m);
     if key != NO_KEY {
-        let fault = fault_of(key);
-        return Verdict::Refused(fault.number, fault.place);
+        return Err(fault_of(key));
     }
     judge_whole(text, records, values, room, decls, m, n)
 }
@@ -85,7 +87,7 @@ pub fn judge(
     decls: &mut [u8],
     m: usize,
     n: usize,
-) -> Verdict
+) -> Result<Accepted, Refusal>
     requires declares { Declares text.now records.now values.now room.old m n }
     requires in_bounds { (65536 ≤ length room.old) × (512 ≤ length decls.old) }
     ensures { Judges text.now records.now values.now decls.new result }

@@ -3,16 +3,9 @@ ghost use Rattle.std.specs.Prelude.{◌≡◌, ◌*◌, ◌<◌, ◌≤◌, leng
 ghost use Rattle.rules.specs.Limits.{longest_text};
 ghost use Rattle.reader.specs.Parsed.{place_by, Scans, Parses};
 
-use grammar::Recognised;
+use grammar::Misplaced;
 use records::fields::place_at;
-use text::Scanned;
-
-// A description stands in the table, with so many tokens; or the number and the place of the refusal.
-#[derive(Clone, Copy)]
-pub enum Parsed {
-    Fine(usize),
-    Refused(u32, usize),
-}
+use rules::refusals::Refusal;
 
 // The place of token k of n, or of the end of the text.
 fn place_of(records: &[u8], n: usize, k: usize, end: usize) -> usize
@@ -25,25 +18,29 @@ fn place_of(records: &[u8], n: usize, k: usize, end: usize) -> usize
     end
 }
 
-// Judges the tokens of a text that has been read into the table.
-fn recognised(text: &[u8], records: &[u8], n: usize) -> Parsed
+// Judges the n tokens of a text that has been read into the table.
+fn recognised(text: &[u8], records: &[u8], n: usize) -> Result<usize, Refusal>
     requires { Scans text.now records.now n }
     ensures { (v : Scans text.now records.now n) → Parses text.now records.now v.values result }
 {
     match grammar::recognise(records, n) {
-        Recognised::Accepted => Parsed::Fine(n),
-        Recognised::Refused20(k) => Parsed::Refused(20, place_of(records, n, k, text.len())),
-        Recognised::Refused21(k) => Parsed::Refused(21, place_of(records, n, k, text.len())),
+        Ok(()) => Ok(n),
+        Err(Misplaced::Unexpected(token)) => Err(Refusal {
+            number: 20,
+            place: place_of(records, n, token, text.len()),
+        }),
+        Err(Misplaced::TooDeep(bracket)) => Err(Refusal {
+            number: 21,
+            place: place_of(records, n, bracket, text.len()),
+        }),
     }
 }
 
-// Reads a text into the table and judges its tokens.
-pub fn parse(text: &[u8], records: &mut [u8], values: &mut [u8]) -> Parsed
+// Reads a text into the table and judges its tokens. Returns how many there are: a description stands in the table.
+pub fn parse(text: &[u8], records: &mut [u8], values: &mut [u8]) -> Result<usize, Refusal>
     requires { (length text.now ≤ longest_text) × ((65536 ≤ length records.old) × (65536 ≤ length values.old)) }
     ensures { Parses text.now records.new values.new result }
 {
-    match text::scan(text, records, values) {
-        Scanned::Refused(number, place) => Parsed::Refused(number, place),
-        Scanned::Fine(n) => recognised(text, records, n),
-    }
+    let n = text::scan(text, records, values)?;
+    recognised(text, records, n)
 }

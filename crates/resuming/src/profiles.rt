@@ -16,7 +16,6 @@ use lent::answers::{Answer, refusal, unrefused};
 use naming::names::test_number;
 use profiling::rounds::{UNSEEN, rounds};
 use profiling::tasks::Task;
-use reader::judging::Verdict;
 
 // The lowest place at which a path writes the output too early, or UNSEEN.
 fn lowest(records: &[u8], table: &mut [u8], room: &mut [u8], decls: &[u8], t: Task) -> usize
@@ -73,9 +72,17 @@ pub fn profiled(
 {
     let mut decls: [u8; 512] = [0; 512];
     match reader::check(text, records, values, room, &mut decls) {
-        Verdict::Refused(number, place) => refusal(text, number, place),
-        Verdict::Accepted(m, _, n) => {
-            profile_accepted(text, test, output, records, values, room, &decls, m, n)
-        }
+        Err(refused) => refusal(text, refused.number, refused.place),
+        Ok(accepted) => profile_accepted(
+            text,
+            test,
+            output,
+            records,
+            values,
+            room,
+            &decls,
+            accepted.declarations,
+            accepted.tokens,
+        ),
     }
 }

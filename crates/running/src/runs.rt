@@ -5,7 +5,6 @@ ghost use Rattle.preparing.specs.Outcome.{Outcome};
 
 use lent::answers::{Answer, refusal};
 use preparing::runs::run_accepted;
-use reader::judging::Verdict;
 
 // What Run answers. The work memory may hold anything afterwards.
 pub fn ran(
@@ -21,9 +20,17 @@ pub fn ran(
 {
     let mut decls: [u8; 512] = [0; 512];
     match reader::check(text, records, values, room, &mut decls) {
-        Verdict::Refused(number, place) => refusal(text, number, place),
-        Verdict::Accepted(m, _, n) => {
-            run_accepted(text, carriers, budget, records, values, room, &decls, m, n)
-        }
+        Err(refused) => refusal(text, refused.number, refused.place),
+        Ok(accepted) => run_accepted(
+            text,
+            carriers,
+            budget,
+            records,
+            values,
+            room,
+            &decls,
+            accepted.declarations,
+            accepted.tokens,
+        ),
     }
 }

@@ -8,17 +8,17 @@
 ghost use Rattle.std.specs.Prelude.{◌+◌, ◌*◌, ◌≤◌, length};
 
 use cells::get64;
+use rules::refusals::Refusal;
 use std::io;
 use streams::read_full;
-use text::Scanned;
 
 // The answer to a text in one byte.
-fn mark_of(found: Scanned) -> u8 {
+fn mark_of(found: Result<usize, Refusal>) -> u8 {
     match found {
-        Scanned::Fine(0) => b'0',
-        Scanned::Fine(_) => b'1',
-        Scanned::Refused(10, _) => b'-',
-        Scanned::Refused(_, _) => b'2',
+        Ok(0) => b'0',
+        Ok(_) => b'1',
+        Err(Refusal { number: 10, .. }) => b'-',
+        Err(_) => b'2',
     }
 }
 
@@ -73,16 +73,16 @@ fn show(rt: &HostRuntime, text: &[u8], records: &mut [u8], values: &mut [u8]) ->
     requires { (length text.now ≤ 32768) × ((65536 ≤ length records.old) × (65536 ≤ length values.old)) }
 {
     match text::scan(text, records, values) {
-        Scanned::Fine(count) => {
+        Ok(count) => {
             rt.write_all(b"fine ")?;
             rt.print(count as u64)?;
             show_tokens(rt, records, values, count)?;
         }
-        Scanned::Refused(number, place) => {
+        Err(refused) => {
             rt.write_all(b"refused ")?;
-            rt.print(number as u64)?;
+            rt.print(refused.number as u64)?;
             rt.write_all(b" ")?;
-            rt.print(place as u64)?;
+            rt.print(refused.place as u64)?;
         }
     }
     end_line(rt)

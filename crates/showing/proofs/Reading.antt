@@ -8,10 +8,11 @@ use Rattle.rules.specs.Text.Scan.{scan}
 use Rattle.table.specs.Ready.{Ready}
 use Rattle.reader.specs.Read.{Reads}
 use Rattle.reader.specs.declared.declaring.Standing.{Standing}
-use Rattle.reader.specs.declared.declaring.Standing.TheVariants.{Fine}
+use Rattle.std.specs.Prelude.{Result, Ok}
+use Rattle.rules.specs.declared.refusals.Refusal.{Refusal}
 
-pub ready_there : (text records values decls : List ℕ) {s : Standing} {m n : ℕ} → s ≡ Fine m n → Reads text records values decls s
-    → (ts : Tokens) × (d : Description) × Ready text records values decls ts d m
+pub ready_there : (text records values decls : List ℕ) {r : Result Standing Refusal} {s : Standing} → r ≡ Ok s → Reads text records values decls r
+    → (ts : Tokens) × (d : Description) × Ready text records values decls ts d s.declarations
 ready_there text records values decls e h =
     let r = subst (Reads text records values decls) e h in
     ((scan text).tokens, r.description, r.ready)

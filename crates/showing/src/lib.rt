@@ -8,7 +8,7 @@ use lines::answers::{Answer, Ending};
 use lines::bytes::put_byte;
 use lines::endings::put_ending;
 use listing::listing::put_listing;
-use reader::declaring::{Standing, read};
+use reader::declaring::read;
 
 // Room for the lines of all words. As what a function returns its length is known and nothing else, which spares a caller's proof half a million zeros.
 pub fn page() -> [u8; 524544] {
@@ -30,8 +30,8 @@ pub fn put_words(
     ensures { result ≤ length out.new }
 {
     match read(text, a, b, c) {
-        Standing::Refused(_, _) => at,
-        Standing::Fine(m, _) => put_listing(out, at, text, a, b, c, m, carriers),
+        Err(_) => at,
+        Ok(read) => put_listing(out, at, text, a, b, c, read.declarations, carriers),
     }
 }
 

@@ -20,7 +20,8 @@ use Rattle.table.specs.declared.views.Names.{Names}
 use Rattle.declare.specs.Laws.Lawful.{lawful_words}
 use Rattle.spans.specs.Spans.{count_shown}
 use Rattle.starts.specs.Starts.{Starts, begins, declines}
-use Rattle.starts.specs.declared.Started.TheVariants.{Fine, Refused}
+use Rattle.std.specs.Prelude.{Ok, Err}
+use Rattle.rules.specs.Refusals.{refusal_at}
 use Rattle.starts.specs.Sought.{Sought}
 use Rattle.table.specs.Laws.Kth.{kth_view, kth_next}
 use Rattle.starts.specs.Laws.Short.{short_there}
@@ -70,7 +71,7 @@ pub record Walked (records values decls : List ℕ) (m : ℕ) (b : List ℕ) (at
 module _ {records values decls : List ℕ} {m n : ℕ} (b : List ℕ)
     (total : ((text : List ℕ) (ts : Tokens) (d : Description) → Ready text records values decls ts d m → n ≡ total_words (declarations d)) × (n ≤ most_words)) where
   pub refused_60 : (length b ≡ 8 * n → ⊥) → (text : List ℕ) (ts : Tokens) (d : Description) → Ready text records values decls ts d m
-      → Starts (declarations d) b (Refused 60 0)
+      → Starts (declarations d) b (Err (refusal_at 60 0))
   refused_60 other text ts d r =
       declines record { refuses = other_length (declarations d) b (λ e. other (omega (arith, total.0 text ts d r))); near = omega arith }
 
@@ -83,7 +84,7 @@ module _ {records values decls : List ℕ} {m n : ℕ} (b : List ℕ)
   }
 
 module _ {records values decls : List ℕ} {m : ℕ} {b : List ℕ} {at k : ℕ} (walked : Walked records values decls m b at k) where
-  pub all_walked : m ≤ k → (text : List ℕ) (ts : Tokens) (d : Description) → Ready text records values decls ts d m → Starts (declarations d) b Fine
+  pub all_walked : m ≤ k → (text : List ℕ) (ts : Tokens) (d : Description) → Ready text records values decls ts d m → Starts (declarations d) b (Ok tt)
   unfolding word_lengths long_word
   all_walked l text ts d r =
       let past : length (declarations d) ≤ k = omega (arith, ap length (all_declared d), length-map (declaration_list d) declared_of, r.count) in
@@ -102,7 +103,7 @@ module _ {records values decls : List ℕ} {m : ℕ} {b : List ℕ} {at k : ℕ}
 
       module _ {n o : ℕ} (count : n ≡ count_shown x) (found : Sought b at (at + w) n o) where
         pub refused_61 : o < at + w → (text : List ℕ) (ts : Tokens) (d : Description) → Ready text records values decls ts d m
-            → Starts (declarations d) b (Refused 61 (8 * o))
+            → Starts (declarations d) b (Err (refusal_at 61 (8 * o)))
         refused_61 h text ts d r =
             declines record {
               refuses = long_refused (declarations d) b (walked.long text ts d r) (stop (walked.passed text ts d r) (here r l e) adds bits count found h);

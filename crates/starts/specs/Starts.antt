@@ -1,12 +1,12 @@
 -- What `start` answers: whether a run of declarations begins from a carrier buffer, whatever the budget.
-use Rattle.std.specs.Prelude.{ℕ, ◌*◌, ◌≤◌, ◌≡◌, List, length}
+use Rattle.std.specs.Prelude.{ℕ, ◌*◌, ◌≤◌, ◌≡◌, List, length, ⊤, Ok, Err}
 use Rattle.rules.specs.Declarations.{Table, total_words}
 use Rattle.rules.specs.Steps.Runs.{run}
 use Rattle.rules.specs.Limits.{most_words}
 use Rattle.rules.specs.Faults.Whole.{main_name}
 use Rattle.rules.specs.Answers.{refusal, result_of, words_from, run_on}
-use Rattle.starts.specs.declared.Started.{Started}
-use Rattle.starts.specs.declared.Started.TheVariants.{Fine, Refused}
+use Rattle.rules.specs.Refusals.{OrRefused}
+use Rattle.rules.specs.declared.refusals.Refusal.{Refusal}
 
 -- the buffer has 8 bytes a word, and the answer is that of the run from its words
 pub record Begins (ds : Table) (buffer : List ℕ) : Type 0 where
@@ -18,6 +18,6 @@ pub record Declines (ds : Table) (buffer : List ℕ) (number place : ℕ) : Type
   pub refuses : (budget : ℕ) → run_on ds buffer budget ≡ refusal number place
   pub near : place ≤ 8 * most_words
 
-pub data Starts (ds : Table) (buffer : List ℕ) : Started → Type 0 where
-  begins : Begins ds buffer → Starts ds buffer Fine
-  declines : {number place : ℕ} → Declines ds buffer number place → Starts ds buffer (Refused number place)
+pub data Starts (ds : Table) (buffer : List ℕ) : OrRefused ⊤ → Type 0 where
+  begins : Begins ds buffer → Starts ds buffer (Ok tt)
+  declines : {r : Refusal} → Declines ds buffer r.number r.place → Starts ds buffer (Err r)

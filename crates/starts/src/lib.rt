@@ -11,15 +11,9 @@ ghost use Rattle.starts.specs.Sought.{Sought};
 use cells::{get16, get64};
 use declare::counting::words;
 use declare::faults::words_in;
+use rules::refusals::Refusal;
 use spans::last_of;
 use table::views::bits_of;
-
-// The carriers can start a run; or they are refused, with the number and the place.
-#[derive(Clone, Copy)]
-pub enum Started {
-    Fine,
-    Refused(u32, usize),
-}
 
 // Whether a word has a bit above its lowest `last` + 1. A shift by 64 is not allowed, so the last of these bits stays.
 fn is_long(word: u64, last: u64) -> bool
@@ -34,37 +28,45 @@ pub fn first_long(carriers: &[u8], at: usize, end: usize, last: u64) -> usize
     requires { (at ≤ end) × (8 * end ≤ length carriers.now) × (last < 64) }
     ensures { Sought carriers.now at end (last + 1) result }
 {
-    let mut i = at;
-    while i < end {
+    for i in at..end {
         if is_long(get64(carriers, i), last) {
             return i;
         }
-        i += 1;
     }
     end
 }
 
 // Whether the carriers are 8 bytes a word, and no word has a bit above its length.
-pub fn start(records: &[u8], values: &[u8], decls: &[u8], m: usize, carriers: &[u8]) -> Started
+pub fn start(
+    records: &[u8],
+    values: &[u8],
+    decls: &[u8],
+    m: usize,
+    carriers: &[u8],
+) -> Result<(), Refusal>
     requires { (text : List ℕ) × (ts : Tokens) × (d : Description) × Ready text records.now values.now decls.now ts d m }
     ensures { (text : List ℕ) (ts : Tokens) (d : Description) → Ready text records.now values.now decls.now ts d m
         → Starts (declarations d) carriers.now result }
 {
     if carriers.len() != 8 * words(records, values, decls, m) {
-        return Started::Refused(60, 0);
+        return Err(Refusal {
+            number: 60,
+            place: 0,
+        });
     }
     let mut at: usize = 0;
-    let mut k: usize = 0;
-    while k < m {
+    for k in 0..m {
         let p = get16(decls, k) as usize;
         let end = at + words_in(records, values, p);
         let last = last_of(bits_of(records, values, p));
         let long = first_long(carriers, at, end, last);
         if long < end {
-            return Started::Refused(61, 8 * long);
+            return Err(Refusal {
+                number: 61,
+                place: 8 * long,
+            });
         }
         at = end;
-        k += 1;
     }
-    Started::Fine
+    Ok(())
 }

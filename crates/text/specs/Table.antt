@@ -2,13 +2,13 @@
 -- `records`: the kind's number, the size and the place in one cell.
 -- `values`: a constant's value. A token that is none has no value, so its cell has the bits that the `?` of the token before it leave free: a
 -- constant with `?` is never followed by a constant in any description, so no free bits that matter are lost, and both fit one cell a token.
-use Rattle.std.specs.Prelude.{ℕ, ◌+◌, ◌*◌, true, false, ◌||◌, List, [], ◌∷◌, map, eqb, length}
+use Rattle.std.specs.Prelude.{ℕ, ◌+◌, ◌*◌, true, false, ◌||◌, List, [], ◌∷◌, map, eqb, length, Result, Ok, Err}
 use Rattle.cells.specs.Cells.{put_cell}
 use Rattle.rules.specs.Text.Tokens.{Const, Masked, Token, kind_no}
 use Rattle.rules.specs.Text.Scan.{Scan, End, fine, refuse}
 use Rattle.lexemes.specs.Lexemes.{size_of}
-use Rattle.text.specs.declared.Scanned.{Scanned}
-use Rattle.text.specs.declared.Scanned.TheVariants.{Fine, Refused}
+use Rattle.rules.specs.Refusals.{refusal_at}
+use Rattle.rules.specs.declared.refusals.Refusal.{Refusal}
 
 -- the record of a kind's number, a size and a place; a token's
 abbrev pub pack : ℕ → ℕ → ℕ → ℕ
@@ -39,9 +39,9 @@ write_cells w b i [] = b
 write_cells w b i (v ∷ vs) = write_cells w (put_cell w b i v) (i + 1) vs
 
 -- the answer to an end behind n tokens; of a scan behind n tokens; of a whole scan
-abbrev pub ended_at : ℕ → End → Scanned
-ended_at n fine = Fine n
-ended_at n (refuse m p) = Refused m p
+abbrev pub ended_at : ℕ → End → Result ℕ Refusal
+ended_at n fine = Ok n
+ended_at n (refuse m p) = Err (refusal_at m p)
 
-abbrev pub scanned_of : Scan → Scanned
+abbrev pub scanned_of : Scan → Result ℕ Refusal
 scanned_of s = ended_at (length s.tokens) s.end

@@ -14,13 +14,7 @@ use cells::put64;
 use lexemes::lexemes::{Lexeme, lexeme_at};
 use rules::kinds::{CONST, MASKED};
 use rules::limits::MOST_TOKENS;
-
-// The number of tokens; or a refusal's number and place.
-#[derive(Clone, Copy)]
-pub enum Scanned {
-    Fine(usize),
-    Refused(u32, usize),
-}
+use rules::refusals::Refusal;
 
 // What the values have for a token: a constant's value, and for any other kind the free bits of the token before.
 fn value_cell(kind: u8, value: u64, before: u64) -> u64
@@ -53,8 +47,8 @@ fn put_token(records: &mut [u8], values: &mut [u8], i: usize, record: u64, value
     put64(values, i, value);
 }
 
-// Reads a text once, from left to right, and writes a cell of `records` and of `values` for each token.
-pub fn scan(text: &[u8], records: &mut [u8], values: &mut [u8]) -> Scanned
+// Reads a text once, from left to right, and writes a cell of `records` and of `values` for each token. Returns how many there are.
+pub fn scan(text: &[u8], records: &mut [u8], values: &mut [u8]) -> Result<usize, Refusal>
     requires { (length text.now ≤ longest_text) × ((65536 ≤ length records.old) × (65536 ≤ length values.old)) }
     ensures value { result ≡ scanned_of (scanText text.now) }
     ensures records_after { records.new ≡ write_cells 8 records.old 0 (record_cells (scanText text.now).tokens) }
@@ -64,29 +58,38 @@ pub fn scan(text: &[u8], records: &mut [u8], values: &mut [u8]) -> Scanned
     let mut at: usize = 0;
     let mut count: usize = 0;
     let mut before: u64 = 0;
+    // A while: a lexeme takes as many bytes as it says.
     while at < text.len() {
         match lexeme_at(text, &classes, at) {
-            Lexeme::Nothing(more) => {
+            Ok(Lexeme::Nothing(more)) => {
                 at += more + 1;
             }
-            Lexeme::Token {
-                more,
-                kind,
-                size,
-                value,
-                free,
-            } => {
+            Ok(Lexeme::Token(token)) => {
                 if count == MOST_TOKENS {
-                    return Scanned::Refused(13, at);
+                    return Err(Refusal {
+                        number: 13,
+                        place: at,
+                    });
                 }
-                let cell = value_cell(kind, value, before);
-                put_token(records, values, count, packed(kind, size, at), cell);
+                let cell = value_cell(token.kind, token.value, before);
+                put_token(
+                    records,
+                    values,
+                    count,
+                    packed(token.kind, token.size, at),
+                    cell,
+                );
                 count += 1;
-                before = free;
-                at += more + 1;
+                before = token.free;
+                at += token.more + 1;
             }
-            Lexeme::Refused(number) => return Scanned::Refused(number, at),
+            Err(misspelling) => {
+                return Err(Refusal {
+                    number: misspelling.number(),
+                    place: at,
+                });
+            }
         }
     }
-    Scanned::Fine(count)
+    Ok(count)
 }

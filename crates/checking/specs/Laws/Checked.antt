@@ -1,6 +1,6 @@
 -- Laws of what a check comes to, up to the whole call.
 -- Assumes nothing.
-use Rattle.std.specs.Prelude.{ℕ, ◌≤◌, ◌≡◌, refl, List, length, Option, Some}
+use Rattle.std.specs.Prelude.{ℕ, ◌≤◌, ◌≡◌, refl, List, length, Option, Some, Result, Ok, Err}
 use Rattle.std.proofs.Common.{sym, ap, ◌∙◌, arith}
 use Rattle.rules.specs.Limits.{longest_text}
 use Rattle.rules.specs.Answers.{Verdict as Answered, accepted, refused, verdict_numbers}
@@ -13,26 +13,26 @@ use Rattle.lent.specs.Settled.{Settled}
 use Rattle.lent.specs.Laws.Settled.{settled_same}
 use Rattle.lent.specs.declared.answers.Answer.{Answer}
 use Rattle.reader.specs.Judged.{Judges, accepts, refuses}
-use Rattle.reader.specs.declared.judging.Verdict.{Verdict}
-use Rattle.reader.specs.declared.judging.Verdict.TheVariants.{Accepted, Refused}
+use Rattle.reader.specs.declared.judging.Accepted.{Accepted}
+use Rattle.rules.specs.declared.refusals.Refusal.{Refusal}
 use Rattle.checking.specs.Checked.{verdict_of, Near, Told}
 
 -- the numbers of a verdict, by its case
-pub numbers_by : (text : List ℕ) {v w : Verdict} {ns : List ℕ} → ns ≡ verdict_numbers text (verdict_of w) → v ≡ w → ns ≡ verdict_numbers text (verdict_of v)
+pub numbers_by : (text : List ℕ) {v w : Result Accepted Refusal} {ns : List ℕ} → ns ≡ verdict_numbers text (verdict_of w) → v ≡ w → ns ≡ verdict_numbers text (verdict_of v)
 numbers_by text e q = e ∙ sym (ap (λ x. verdict_numbers text (verdict_of x)) q)
 
-pub refused_near : {v : Verdict} {m p : ℕ} → Near v → v ≡ Refused m p → p ≤ longest_text
+pub refused_near : {v : Result Accepted Refusal} {r : Refusal} → Near v → v ≡ Err r → r.place ≤ longest_text
 refused_near h e = rw e at h
 
-pub accepted_near : {v : Verdict} {m w n : ℕ} → Near v → v ≡ Accepted m w n → (m ≤ 65536) × (w ≤ 65536)
+pub accepted_near : {v : Result Accepted Refusal} {a : Accepted} → Near v → v ≡ Ok a → (a.declarations ≤ 65536) × (a.words ≤ 65536)
 accepted_near h e = rw e at h
 
 -- from the reader's verdict
-pub told : {text records values decls : List ℕ} {v : Verdict} {a : Answer} → Judges text records values decls v → numbers_of a ≡ verdict_numbers text (verdict_of v) → Told text a
+pub told : {text records values decls : List ℕ} {v : Result Accepted Refusal} {a : Answer} → Judges text records values decls v → numbers_of a ≡ verdict_numbers text (verdict_of v) → Told text a
 told (accepts h) e = record { verdict = _; checks = h.verdict; is = e }
 told (refuses h) e = record { verdict = _; checks = h.checks; is = e }
 
-pub near : {text records values decls : List ℕ} {v : Verdict} → Judges text records values decls v → Near v
+pub near : {text records values decls : List ℕ} {v : Result Accepted Refusal} → Judges text records values decls v → Near v
 near (accepts h) = (omega (arith, h.lawful.declares.ready.few), omega (arith, h.few_words))
 near (refuses h) = h.near
 

@@ -17,7 +17,7 @@ pub fault30-key-requires : goal.fault30-key-requires
 fault30-key-requires c = listed c.spell.ensures.kept c.spell.ensures.spelled c.find-m.ensures c.give_meanings.ensures.inside_only c.give_meanings.ensures.meant_to c.requires.described
 
 pub returns-then-key : goal.returns-then-key
-returns-then-key c = refused c.spell.ensures.kept c.spell.ensures.spelled c.find-m.ensures c.give_meanings.ensures.inside_only c.give_meanings.ensures.meant_to c.fault30-key.ensures c.if-key.true c.fault_of-fault.ensures
+returns-then-key c = refused c.spell.ensures.kept c.spell.ensures.spelled c.find-m.ensures c.give_meanings.ensures.inside_only c.give_meanings.ensures.meant_to c.fault30-key.ensures c.if-key.true c.fault_of.ensures
 
 pub returns : goal.returns
 returns c = ready c.spell.ensures.kept c.spell.ensures.spelled c.find-m.ensures c.give_meanings.ensures.inside_only c.give_meanings.ensures.meant_to c.fault30-key.ensures c.if-key.false

@@ -1,5 +1,5 @@
 -- Laws of reading a sound text again, and of the race that it is refused for.
-use Rattle.std.specs.Prelude.{ℕ, ◌+◌, ◌*◌, ◌<◌, ◌≤◌, min, ◌≡◌, refl, false, List, length}
+use Rattle.std.specs.Prelude.{ℕ, ◌+◌, ◌*◌, ◌<◌, ◌≤◌, min, ◌≡◌, refl, false, List, length, Result, Ok, Err}
 use Rattle.std.proofs.Common.{sym, ap, ◌∙◌, arith}
 use Rattle.std.proofs.Math.Option.{some, none-ne-some}
 use Rattle.std.proofs.Math.Decide.{dec_lt}
@@ -16,14 +16,11 @@ use Rattle.laws_grammar.specs.Grammar.Exact.{unique}
 use Rattle.laws_grammar.specs.Grammar.Nesting.{shallow_nest}
 use Rattle.laws_orders.proofs.Orders.Tests.{impossible}
 use Rattle.text.specs.Table.{record_cells, value_cells, write_cells, ended_at, scanned_of}
-use Rattle.text.specs.declared.Scanned.{Scanned}
-use Rattle.text.specs.declared.Scanned.TheVariants.{Fine as ScannedFine, Refused as ScannedRefused}
+use Rattle.rules.specs.declared.refusals.Refusal.{Refusal}
 use Rattle.keys.specs.Keys.{no_key, number_key, least_number_key}
 use Rattle.keys.specs.Laws.Keys.{by_number, least_key_lem, least_bounded}
 use Rattle.declare.specs.Finding.{Described}
 use Rattle.declare.specs.Told.{Told}
-use Rattle.declare.specs.declared.Declared.{Declared}
-use Rattle.declare.specs.declared.Declared.TheVariants.{Fine as DeclaredFine, Refused as DeclaredRefused}
 use Rattle.reading.specs.Reading.{Reading, table_of}
 use Rattle.whole.specs.Written.{Written}
 use Rattle.whole.specs.Laws.Between.{below, mains_are, chains_are, faults_small}
@@ -41,19 +38,19 @@ sound h c =
     record { description = w.description; readable = w.readable; stands = w.stands; shallow = w.shallow; passed = w.of30 }
 
 -- its scan is fine
-module _ {text : List ℕ} (d : Sound text) {s : Scanned} (is : s ≡ scanned_of (scan text)) where
-  fine_scan : s ≡ ScannedFine (length (scan text).tokens)
+module _ {text : List ℕ} (d : Sound text) {s : Result ℕ Refusal} (is : s ≡ scanned_of (scan text)) where
+  fine_scan : s ≡ Ok (length (scan text).tokens)
   fine_scan = is ∙ ap (ended_at (length (scan text).tokens)) d.readable
 
-  pub no_refusal : {m p : ℕ} → s ≡ ScannedRefused m p → ⊥
-  no_refusal {m} {p} e = let x : ScannedRefused m p ≡ ScannedFine (length (scan text).tokens) = sym e ∙ fine_scan in impossible (cc)
+  pub no_refusal : {r : Refusal} → s ≡ Err r → ⊥
+  no_refusal {r} e = let x : Err r ≡ Ok (length (scan text).tokens) = sym e ∙ fine_scan in impossible (cc)
 
   pub rescanned : (a b : List ℕ) {records values : List ℕ} {n : ℕ} → length text ≤ longest_text → 65536 ≤ length a → 65536 ≤ length b
-      → records ≡ write_cells 8 a 0 (record_cells (scan text).tokens) → values ≡ write_cells 8 b 0 (value_cells 0 (scan text).tokens) → s ≡ ScannedFine n
+      → records ≡ write_cells 8 a 0 (record_cells (scan text).tokens) → values ≡ write_cells 8 b 0 (value_cells 0 (scan text).tokens) → s ≡ Ok n
       → Rescanned text records values n
   rescanned a b {records} {values} {n} short room_a room_b is_a is_b e =
       let w : ScanWritten text records values = record { before_a = a; before_b = b; short = short; room_a = room_a; room_b = room_b; is_a = is_a; is_b = is_b } in
-      let x : ScannedFine n ≡ ScannedFine (length (scan text).tokens) = sym e ∙ fine_scan in
+      let x : Ok n ≡ Ok (length (scan text).tokens) = sym e ∙ fine_scan in
       record { sound = d; holds = written_holds w; count = cc }
 
 -- its declarations have no fault
@@ -64,12 +61,12 @@ module _ {text records values : List ℕ} {n : ℕ} (r : Rescanned text records 
   pub nested : nest r.sound.description ≤ deepest
   nested = shallow_nest r.sound.description r.sound.shallow
 
-  pub redeclared : (records' decls : List ℕ) (q : Declared) → Told text records' values decls (scan text).tokens r.sound.description q
+  pub redeclared : (records' decls : List ℕ) (q : Result ℕ Refusal) → Told text records' values decls (scan text).tokens r.sound.description q
       → Rereads text records' decls (standing_of n q)
   unfolding least
-  redeclared records' decls (DeclaredRefused m p) h =
-      none-ne-some (fault m p) (ap (least by_place_of) (sym r.sound.passed) ∙ h.is)
-  redeclared records' decls (DeclaredFine m) h =
+  redeclared records' decls (Err f) h =
+      none-ne-some (fault f.number f.place) (ap (least by_place_of) (sym r.sound.passed) ∙ h.is)
+  redeclared records' decls (Ok m) h =
       record {
         reading = record { text = text; values = values; tokens = (scan text).tokens; description = r.sound.description; ready = h.ready; count = r.count };
         stands = r.sound.stands;

@@ -1,6 +1,6 @@
 -- Laws of the whole call, from how Store or Load ended.
 -- Assumes nothing.
-use Rattle.std.specs.Prelude.{ℕ, ◌<◌, ◌≤◌, ◌≡◌, refl, List, length, Option, Some}
+use Rattle.std.specs.Prelude.{ℕ, ◌<◌, ◌≤◌, ◌≡◌, refl, List, length, Option, Some, ⊤, Err}
 use Rattle.std.proofs.Common.{sym, ap, ◌∙◌}
 use Rattle.rules.specs.Limits.{longest_text}
 use Rattle.rules.specs.Declarations.{Table}
@@ -14,14 +14,14 @@ use Rattle.lent.specs.Settled.{Settled}
 use Rattle.lent.specs.Laws.Settled.{settled_same}
 use Rattle.lent.specs.declared.answers.Answer.{Answer}
 use Rattle.kept.specs.Kept.{kept_of, Near, Answered}
-use Rattle.kept.specs.declared.endings.Ending.{Ending}
-use Rattle.kept.specs.declared.endings.Ending.TheVariants.{Refused}
+use Rattle.rules.specs.Refusals.{OrRefused}
+use Rattle.rules.specs.declared.refusals.Refusal.{Refusal}
 
 -- the numbers of an ending, by its case
-pub numbers_by : (text left : List ℕ) {e f : Ending} {ns : List ℕ} → ns ≡ kept_numbers text (kept_of f left) → e ≡ f → ns ≡ kept_numbers text (kept_of e left)
+pub numbers_by : (text left : List ℕ) {e f : OrRefused ⊤} {ns : List ℕ} → ns ≡ kept_numbers text (kept_of f left) → e ≡ f → ns ≡ kept_numbers text (kept_of e left)
 numbers_by text left q r = q ∙ sym (ap (λ x. kept_numbers text (kept_of x left)) r)
 
-pub near_by : {e : Ending} {m p : ℕ} → Near e → e ≡ Refused m p → p < 65536
+pub near_by : {e : OrRefused ⊤} {r : Refusal} → Near e → e ≡ Err r → r.place < 65536
 near_by h e = rw e at h
 
 -- the number of an answer is the second of its numbers
@@ -30,7 +30,7 @@ number_is text (declined m p) a e = cc
 number_is text (kept bytes) a e = cc
 
 -- the whole call
-pub keep_call : {text target left : List ℕ} {call : Table → Kept} {before after : Memory} {e : Ending} {found : Answer} → Enough before → length text ≤ longest_text
+pub keep_call : {text target left : List ℕ} {call : Table → Kept} {before after : Memory} {e : OrRefused ⊤} {found : Answer} → Enough before → length text ≤ longest_text
     → Answered text call target left e → ((bytes : List ℕ) → numbers_of found ≡ kept_numbers text (kept_of e bytes)) → Settled before after found
     → KeepCall text call target before after left found.number
 keep_call {text} {left = left} {before = before} {found = found} enough short a is s =

@@ -1,6 +1,6 @@
 -- The cases of Store and Load, from what start and judge found.
 -- Assumes nothing.
-use Rattle.std.specs.Prelude.{ℕ, ◌*◌, ◌<◌, ◌≤◌, refl, Bool, List, eqb, length}
+use Rattle.std.specs.Prelude.{ℕ, ◌*◌, ◌<◌, ◌≤◌, refl, Bool, List, eqb, length, ⊤, Ok, Err}
 use Rattle.std.proofs.Math.Path.{◌≡◌, ap, ap₂}
 use Rattle.std.proofs.Common.{sym, ◌∙◌, subst, arith, eq-eqb, ne_eqb}
 use Rattle.std.proofs.Math.Bool.{true, false}
@@ -16,23 +16,20 @@ use Rattle.rules.specs.Keeping.{Kept, declined, kept, refused_or, fault_unless, 
 use Rattle.starts.specs.Starts.{Starts, Begins, Declines}
 use Rattle.laws_accepted.proofs.Accepted.Declared.{declares, few_words}
 use Rattle.table.specs.Ready.{Scene, table_of}
-use Rattle.starts.specs.declared.Started.{Started}
+use Rattle.rules.specs.Refusals.{refusal_at, OrRefused}
+use Rattle.rules.specs.declared.refusals.Refusal.{Refusal}
 use Rattle.images.specs.Judged.{fault_of}
-use Rattle.images.specs.declared.images.Judged.{Judged}
-use Rattle.images.specs.declared.images.Judged.TheVariants.{Fine, Refused as Bad}
 use Rattle.images.specs.Laws.Images.{length_held_in, blocks_near}
 use Rattle.kept.specs.Kept.{Keeping, Written, wrong_length, written, Taken}
-use Rattle.kept.specs.declared.endings.Ending.{Ending}
-use Rattle.kept.specs.declared.endings.Ending.TheVariants.{Refused, Done}
 
 -- a refusal, and bytes that are written
-declined_as : (x : Kept) (target : List ℕ) (m p : ℕ) → x ≡ declined m p → p < 65536 → Keeping x target target (Refused m p)
-declined_as x target m p e near = record { is = sym e; left_is = sym (ap (kept_in target) e); near = near }
+declined_as : (x : Kept) (target : List ℕ) (r : Refusal) → x ≡ declined r.number r.place → r.place < 65536 → Keeping x target target (Err r)
+declined_as x target r e near = record { is = sym e; left_is = sym (ap (kept_in target) e); near = near }
 
-done_as : (x : Kept) (target left : List ℕ) → x ≡ kept left → Keeping x target left Done
+done_as : (x : Kept) (target left : List ℕ) → x ≡ kept left → Keeping x target left (Ok tt)
 done_as x target left e = record { is = sym e; left_is = sym (ap (kept_in target) e); near = tt }
 
-keeping_same : {x y : Kept} {target left : List ℕ} {r : Ending} → Keeping x target left r → y ≡ x → Keeping y target left r
+keeping_same : {x y : Kept} {target left : List ℕ} {r : OrRefused ⊤} → Keeping x target left r → y ≡ x → Keeping y target left r
 keeping_same {target = target} k e = record { is = k.is ∙ sym e; left_is = k.left_is ∙ sym (ap (kept_in target) e); near = k.near }
 
 -- 60 and 61 as a run has them
@@ -92,11 +89,11 @@ few_blocks size h = omega arith
 
 -- Store
 module _ (ds : Table) (carriers image : List ℕ) where
-  pub store_declined : {m p : ℕ} → Declines ds carriers m p → Keeping (storing carriers image ds) image image (Refused m p)
+  pub store_declined : {r : Refusal} → Declines ds carriers r.number r.place → Keeping (storing carriers image ds) image image (Err r)
   unfolding storing
-  store_declined {m} {p} d =
-      let r = run_refused ds carriers d (refused_or (fault62 ds image) (kept (image_of carriers))) in
-      declined_as _ image m p r.0 r.1
+  store_declined {r} d =
+      let known = run_refused ds carriers d (refused_or (fault62 ds image) (kept (image_of carriers))) in
+      declined_as _ image r known.0 known.1
 
   begun : Begins ds carriers → storing carriers image ds ≡ refused_or (fault62 ds image) (kept (image_of carriers))
   unfolding storing
@@ -104,13 +101,13 @@ module _ (ds : Table) (carriers image : List ℕ) where
       let r = run_begun ds carriers b in
       ap₂ (λ x y. refused_or x (refused_or y (refused_or (fault62 ds image) (kept (image_of carriers))))) r.0 r.1
 
-  pub store_begun : {left : List ℕ} {r : Ending} → Begins ds carriers → Written carriers image left r → Keeping (storing carriers image ds) image left r
+  pub store_begun : {left : List ℕ} {r : OrRefused ⊤} → Begins ds carriers → Written carriers image left r → Keeping (storing carriers image ds) image left r
   store_begun b (wrong_length h e) =
       let same = begun b ∙ ap (λ x. refused_or x (kept (image_of carriers))) (other_62 ds image (λ x. h (x ∙ ap image_size_of (sym b.long)))) in
-      subst (λ l. Keeping (storing carriers image ds) image l (Refused 62 0)) (sym e) (declined_as _ image 62 0 same (omega arith))
+      subst (λ l. Keeping (storing carriers image ds) image l (Err (refusal_at 62 0))) (sym e) (declined_as _ image (refusal_at 62 0) same (omega arith))
   store_begun b (written l e) =
       let same = begun b ∙ ap (λ x. refused_or x (kept (image_of carriers))) (long_62 ds image (l ∙ ap image_size_of b.long)) in
-      subst (λ l. Keeping (storing carriers image ds) image l Done) (sym e) (done_as _ image (image_of carriers) same)
+      subst (λ l. Keeping (storing carriers image ds) image l (Ok tt)) (sym e) (done_as _ image (image_of carriers) same)
 
 -- Load
 module _ (ds : Table) (image carriers : List ℕ) where
@@ -123,40 +120,40 @@ module _ (ds : Table) (image carriers : List ℕ) where
   abbrev behind_62 : Kept
   behind_62 = refused_or (image_fault (carriers_size ds) image) behind_64
 
-  pub load_60 : (length carriers ≡ carriers_size ds → ⊥) → Keeping (loading image carriers ds) carriers carriers (Refused 60 0)
+  pub load_60 : (length carriers ≡ carriers_size ds → ⊥) → Keeping (loading image carriers ds) carriers carriers (Err (refusal_at 60 0))
   unfolding loading
-  load_60 h = declined_as _ carriers 60 0 (ap (λ x. refused_or x (refused_or (fault62 ds image) behind_62)) (other_60 ds carriers h)) (omega arith)
+  load_60 h = declined_as _ carriers (refusal_at 60 0) (ap (λ x. refused_or x (refused_or (fault62 ds image) behind_62)) (other_60 ds carriers h)) (omega arith)
 
-  pub load_62 : length carriers ≡ carriers_size ds → (length image ≡ image_size_of (carriers_size ds) → ⊥) → Keeping (loading image carriers ds) carriers carriers (Refused 62 0)
+  pub load_62 : length carriers ≡ carriers_size ds → (length image ≡ image_size_of (carriers_size ds) → ⊥) → Keeping (loading image carriers ds) carriers carriers (Err (refusal_at 62 0))
   unfolding loading
-  load_62 l h = declined_as _ carriers 62 0 (ap₂ (λ x y. refused_or x (refused_or y behind_62)) (long_60 ds carriers l) (other_62 ds image h)) (omega arith)
+  load_62 l h = declined_as _ carriers (refusal_at 62 0) (ap₂ (λ x y. refused_or x (refused_or y behind_62)) (long_60 ds carriers l) (other_62 ds image h)) (omega arith)
 
   sized : length carriers ≡ carriers_size ds → length image ≡ image_size_of (carriers_size ds) → loading image carriers ds ≡ behind_62
   unfolding loading
   sized l h = ap₂ (λ x y. refused_or x (refused_or y behind_62)) (long_60 ds carriers l) (long_62 ds image h)
 
-  pub load_block : {m p : ℕ} → carriers_size ds ≤ 32768 → length carriers ≡ carriers_size ds → length image ≡ image_size_of (carriers_size ds)
-      → some (fault m p) ≡ image_fault (carriers_size ds) image → Keeping (loading image carriers ds) carriers carriers (Refused m p)
-  load_block {m} {p} small l h e =
-      let near = blocks_near 0 (blocks_for (carriers_size ds)) (carriers_size ds) image (fault m p) (sym e) in
+  pub load_block : {r : Refusal} → carriers_size ds ≤ 32768 → length carriers ≡ carriers_size ds → length image ≡ image_size_of (carriers_size ds)
+      → some (fault r.number r.place) ≡ image_fault (carriers_size ds) image → Keeping (loading image carriers ds) carriers carriers (Err r)
+  load_block {r} small l h e =
+      let near = blocks_near 0 (blocks_for (carriers_size ds)) (carriers_size ds) image (fault r.number r.place) (sym e) in
       let few = few_blocks (carriers_size ds) small in
-      declined_as _ carriers m p (sized l h ∙ ap (λ x. refused_or x behind_64) (sym e)) (omega (arith, near, few))
+      declined_as _ carriers r (sized l h ∙ ap (λ x. refused_or x behind_64) (sym e)) (omega (arith, near, few))
 
-  pub load_sound : {left : List ℕ} {r : Ending} → length carriers ≡ carriers_size ds → length image ≡ image_size_of (carriers_size ds)
+  pub load_sound : {left : List ℕ} {r : OrRefused ⊤} → length carriers ≡ carriers_size ds → length image ≡ image_size_of (carriers_size ds)
       → none ≡ image_fault (carriers_size ds) image → Taken ds image carriers left r → Keeping (loading image carriers ds) carriers left r
   load_sound l h e t =
       keeping_same t.taken (sized l h ∙ ap (λ x. refused_or x behind_64) (sym e)
       ∙ ap (λ s. refused_or (fault61 ds (held_in s image)) (kept (held_in s image))) (sym l))
 
   module _ (l : length carriers ≡ carriers_size ds) (h : length image ≡ image_size_of (length carriers)) where
-    pub taken_declined : {m p : ℕ} → Declines ds (held_in (length carriers) image) m p → Taken ds image carriers carriers (Refused m p)
-    taken_declined {m} {p} d =
+    pub taken_declined : {r : Refusal} → Declines ds (held_in (length carriers) image) r.number r.place → Taken ds image carriers carriers (Err r)
+    taken_declined {r} d =
         let words = held_in (length carriers) image in
-        let r = run_refused ds words d (kept words) in
+        let known = run_refused ds words d (kept words) in
         let long = long_60 ds words (length_held_in (length carriers) image h ∙ l) in
-        record { taken = declined_as _ carriers m p (sym (ap (λ x. refused_or x (refused_or (fault61 ds words) (kept words))) long) ∙ r.0) r.1 }
+        record { taken = declined_as _ carriers r (sym (ap (λ x. refused_or x (refused_or (fault61 ds words) (kept words))) long) ∙ known.0) known.1 }
 
-    pub taken_done : {left : List ℕ} → Begins ds (held_in (length carriers) image) → left ≡ held_in (length carriers) image → Taken ds image carriers left Done
+    pub taken_done : {left : List ℕ} → Begins ds (held_in (length carriers) image) → left ≡ held_in (length carriers) image → Taken ds image carriers left (Ok tt)
     taken_done {left} b e =
         let words = held_in (length carriers) image in
         record { taken = done_as _ carriers left (ap (λ x. refused_or x (kept words)) (run_begun ds words b).1 ∙ ap kept (sym e)) }
@@ -164,11 +161,12 @@ module _ (ds : Table) (image carriers : List ℕ) where
 pub small_carriers : {records values decls carriers : List ℕ} {m : ℕ} (v : Scene records values decls m) → Begins (table_of v) carriers → length carriers ≤ 32768
 small_carriers v b = omega (arith, b.long, few_words (declares v.description v.ready.lawful))
 
-pub same_held : {ds : Table} (image : List ℕ) {k n : ℕ} {r : Started} → Starts ds (held_in k image) r → k ≡ n → Starts ds (held_in n image) r
-same_held {ds} image {r = r} s e = subst (λ k. Starts ds (held_in k image) r) e s
+pub same_held : {ds : Table} (image : List ℕ) {k n : ℕ} {s : OrRefused ⊤} → Starts ds (held_in k image) s → k ≡ n → Starts ds (held_in n image) s
+same_held {ds} image {s = s} h e = subst (λ k. Starts ds (held_in k image) s) e h
 
-pub judged_refused : {r : Judged} (image : List ℕ) {m p k size : ℕ} → fault_of r ≡ image_fault k image → r ≡ Bad m p → k ≡ size → some (fault m p) ≡ image_fault size image
+pub judged_refused : {j : OrRefused ⊤} (image : List ℕ) {r : Refusal} {k size : ℕ} → fault_of j ≡ image_fault k image → j ≡ Err r → k ≡ size
+    → some (fault r.number r.place) ≡ image_fault size image
 judged_refused image h e q = sym (ap fault_of e) ∙ h ∙ ap (λ s. image_fault s image) q
 
-pub judged_fine : {r : Judged} (image : List ℕ) {k size : ℕ} → fault_of r ≡ image_fault k image → r ≡ Fine → k ≡ size → none ≡ image_fault size image
+pub judged_fine : {j : OrRefused ⊤} (image : List ℕ) {k size : ℕ} → fault_of j ≡ image_fault k image → j ≡ Ok tt → k ≡ size → none ≡ image_fault size image
 judged_fine image h e q = sym (ap fault_of e) ∙ h ∙ ap (λ s. image_fault s image) q

@@ -1,5 +1,5 @@
 -- Laws of the codes: two spellings are the same where their numbers are, so a keyword or a mark is found by its number.
-use Rattle.std.specs.Prelude.{◌≡◌, Bool, true, false, ◌&&◌, ℕ, zero, suc, ◌+◌, ◌*◌, ◌<◌, ltb, get_or, take, drop}
+use Rattle.std.specs.Prelude.{◌≡◌, Bool, true, false, ◌&&◌, ℕ, zero, suc, ◌+◌, ◌*◌, ◌<◌, ltb, get_or, take, drop, None}
 use Rattle.std.proofs.Math.Path.{refl, sym}
 use Rattle.std.proofs.Common.{◌∙◌, arith, eq-eqb, ne_eqb, eqb-true, ltb-true, lt-ltb}
 use mathlib.Core.List.{List, [], ◌∷◌}
@@ -10,7 +10,7 @@ use Rattle.rules.specs.Text.Tokens.{Spelling, kind_no}
 use Rattle.rules.specs.Text.Constants.{all}
 use Rattle.rules.specs.Text.Scan.{same_bytes, word_kind}
 use Rattle.classes.specs.Laws.Runs.{and_left, and_right}
-use Rattle.lexemes.specs.Codes.{code_of, word_digit, mark_digit, kind_by}
+use Rattle.lexemes.specs.Codes.{code_of, word_digit, mark_digit, kind_by, kind_found}
 
 pub all_head : (p : ℕ → Bool) (b : ℕ) (bs : List ℕ) → all p (b ∷ bs) ≡ true → p b ≡ true
 unfolding all
@@ -127,3 +127,10 @@ missed A code n [] m = (m, refl)
 missed A code n (s ∷ ss) m =
     let rest : (A × (n ≡ code s.written → ⊥)) × (kind_by code n ss ≡ 0) = missed (A × (n ≡ code s.written → ⊥)) code n ss m in
     (rest.0.0, rw (kind_by, ne_eqb _ _ rest.0.1) rest.1)
+
+pub none_found : (A : Type 0) (code : List ℕ → ℕ) (n : ℕ) (ss : List Spelling) → Missed A code n ss → A × (kind_found code n ss ≡ None)
+unfolding kind_found
+none_found A code n [] m = (m, refl)
+none_found A code n (s ∷ ss) m =
+    let rest : (A × (n ≡ code s.written → ⊥)) × (kind_found code n ss ≡ None) = none_found (A × (n ≡ code s.written → ⊥)) code n ss m in
+    (rest.0.0, rw (kind_found, ne_eqb _ _ rest.0.1) rest.1)

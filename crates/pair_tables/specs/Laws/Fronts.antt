@@ -16,8 +16,9 @@ use Rattle.buffers.specs.Laws.Buffers.{words_cells}
 use Rattle.pairs.specs.Laws.Judged.{or_else61, long_joint_lem}
 use Rattle.starts.specs.Starts.{Starts, Begins, Declines}
 use Rattle.starts.specs.Laws.Cases.{declines_by, begins_by}
-use Rattle.starts.specs.declared.Started.{Started}
-use Rattle.starts.specs.declared.Started.TheVariants.{Fine, Refused}
+use Rattle.std.specs.Prelude.{⊤, Ok, Err}
+use Rattle.rules.specs.Refusals.{refusal_at, OrRefused}
+use Rattle.rules.specs.declared.refusals.Refusal.{Refusal}
 use Rattle.pair_tables.specs.Lengths.{Carried, long_behind, long_joint, Fits, one_long}
 use Rattle.pair_tables.specs.Laws.Joining.{joint_words}
 
@@ -97,12 +98,13 @@ module _ {first second : Table} {firsts : List ℕ} {words : ℕ} {b : List ℕ}
   front_long : length (take (8 * total_words first) b) ≡ 8 * total_words first
   front_long = length-take (8 * total_words first) b ∙ omega (arith, c.long, joint_words first second)
 
-  front_declined : {m p : ℕ} → Declines first (take (8 * total_words first) b) m p → Fits (long_joint first second b) (Refused m p)
-  front_declined {m} {p} h =
+  front_declined : {q : Refusal} → Declines first (take (8 * total_words first) b) q.number q.place → Fits (long_joint first second b) (Err q)
+  front_declined {q} h =
       let d = declines_long first (take (8 * total_words first) b) front_long h in
-      rw d.0 (one_long (long_both first second b ∙ ap (λ (o : Option ℕ). or_else61 o (long_behind first second b)) d.1) h.near)
+      subst (λ (n : ℕ). Fits (long_joint first second b) (Err (refusal_at n q.place))) (sym d.0)
+      (one_long (long_both first second b ∙ ap (λ (o : Option ℕ). or_else61 o (long_behind first second b)) d.1) h.near)
 
-  front_begun : {r : Started} → Begins first (take (8 * total_words first) b) → Fits (long_behind first second b) r → Fits (long_joint first second b) r
+  front_begun : {r : OrRefused ⊤} → Begins first (take (8 * total_words first) b) → Fits (long_behind first second b) r → Fits (long_joint first second b) r
   front_begun {r} h f =
       let e = long_both first second b
       ∙ ap (λ (o : Option ℕ). or_else61 o (long_behind first second b)) (begins_fit first (take (8 * total_words first) b) front_long h) in
@@ -111,12 +113,12 @@ module _ {first second : Table} {firsts : List ℕ} {words : ℕ} {b : List ℕ}
   pub front_room : (8 * words ≤ length b) × (words ≤ most_words)
   front_room = (omega (arith, c.front, c.long, joint_words first second), omega (arith, c.front, c.few, joint_words first second))
 
-  module _ {s : Started} (h : Starts first (take (8 * words) b) s) where
+  module _ {s : OrRefused ⊤} (h : Starts first (take (8 * words) b) s) where
     of_front : Starts first (take (8 * total_words first) b) s
     of_front = subst (λ (n : ℕ). Starts first (take (8 * n) b) s) c.front h
 
-    pub joint_declined : {m p : ℕ} → s ≡ Refused m p → Fits (long_joint first second b) (Refused m p)
+    pub joint_declined : {q : Refusal} → s ≡ Err q → Fits (long_joint first second b) (Err q)
     joint_declined e = front_declined (declines_by of_front e)
 
-    pub joint_begun : {r : Started} → s ≡ Fine → Fits (long_behind first second b) r → Fits (long_joint first second b) r
+    pub joint_begun : {r : OrRefused ⊤} → s ≡ Ok tt → Fits (long_behind first second b) r → Fits (long_joint first second b) r
     joint_begun e f = front_begun (begins_by of_front e) f

@@ -22,7 +22,8 @@ use Rattle.spans.specs.Spans.{count_shown}
 use Rattle.starts.specs.Sought.{Sought}
 use Rattle.starts.specs.Laws.Passing.{declaration_passed, declaration_long}
 use Rattle.starts.specs.Laws.Short.{short_there}
-use Rattle.starts.specs.declared.Started.TheVariants.{Fine, Refused}
+use Rattle.std.specs.Prelude.{Ok, Err}
+use Rattle.rules.specs.Refusals.{refusal_at}
 use Rattle.pair_tables.specs.Joining.{first_or, adds_by}
 use Rattle.pair_tables.specs.Lengths.{own_words, Carried, long_rest, long_behind, Fits, none_long, one_long, Judged, Judging}
 use Rattle.pair_tables.specs.Laws.Joining.{firsts_on, words_on, element_at, elements_behind, joint_words}
@@ -135,7 +136,7 @@ module _ {records values decls : List ℕ} {m : ℕ} {firsts : List ℕ} {words 
 
   module _ {free k : ℕ} (s : Judging records values decls m firsts words b free k) where
     pub all_judging : m ≤ k → (first : Table) (w : Scene records values decls m) → Carried first (table_of w) firsts words b
-        → Fits (long_behind first (table_of w) b) Fine
+        → Fits (long_behind first (table_of w) b) (Ok tt)
     all_judging l first w h = none_long (all_judged (s.judged first w h) (omega (arith, table_length w.ready)))
 
     module _ {p at own : ℕ} (l : k < m) (e : p ≡ cell 2 decls k) (there : at ≡ cell 2 firsts k)
@@ -163,7 +164,7 @@ module _ {records values decls : List ℕ} {m : ℕ} {firsts : List ℕ} {words 
 
         module _ {n r : ℕ} (count : n ≡ count_shown x) (found : Sought b free (free + own) n r) where
           pub refused_61 : r < free + own → (first : Table) (w : Scene records values decls m) → Carried first (table_of w) firsts words b
-              → Fits (long_behind first (table_of w) b) (Refused 61 (8 * r))
+              → Fits (long_behind first (table_of w) b) (Err (refusal_at 61 (8 * r)))
           refused_61 c first w h =
               one_long (judged_long (s.judged first w h) (kth_next w.ready l) (adds_there first w h) (length_there count w) found c)
               (omega (arith, words_end first w h, h.few))

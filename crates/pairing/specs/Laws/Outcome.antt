@@ -1,6 +1,6 @@
 -- Laws of what two texts come to: by who refuses, and the whole call.
 -- Assumes nothing.
-use Rattle.std.specs.Prelude.{ℕ, ◌*◌, ◌≤◌, ◌≡◌, refl, List, ◌++◌, length, drop, replicate}
+use Rattle.std.specs.Prelude.{ℕ, ◌*◌, ◌≤◌, ◌≡◌, refl, List, ◌++◌, length, drop, replicate, ⊤, Result, Ok, Err}
 use Rattle.std.proofs.Common.{ap, ◌∙◌, subst, arith}
 use Rattle.rules.specs.Limits.{longest_text}
 use Rattle.rules.specs.Declarations.{Table}
@@ -13,24 +13,9 @@ use Rattle.lent.specs.Laws.Settled.{settled_same}
 use Rattle.lent.specs.declared.answers.Answer.{Answer}
 use Rattle.accepted.specs.Accepted.{Accepts, described_by, table_by}
 use Rattle.reader.specs.Parsed.{Refuses}
-use Rattle.reader.specs.Judged as read
-use Rattle.reader.specs.declared.judging.Verdict.{Verdict}
-use Rattle.reader.specs.declared.judging.Verdict.TheVariants.{Accepted}
 use Rattle.pair_tables.specs.Judging.{Begins, Declines, Judges, begins, declines}
-use Rattle.pair_tables.specs.declared.judging.Judged.{Judged}
-use Rattle.pair_tables.specs.declared.judging.Judged.TheVariants.{Fine as Taken, Refused as Down}
+use Rattle.pair_tables.specs.declared.judging.PairRefusal.{PairRefusal}
 use Rattle.pairing.specs.Outcome.{Tells, Outcome}
-
--- the text is accepted, with so many words
-pub accepted_by : {text records values decls : List ℕ} {r : Verdict} {m w n : ℕ} → read.Judges text records values decls r → r ≡ Accepted m w n
-    → Accepts text records values decls m w n
-accepted_by (read.refuses h) e = let z : ◌≡◌ {A = ℕ} 0 1 = cc in absurd (omega arith)
-accepted_by {text} {records} {values} {decls} {m = m} {w} {n} (read.accepts {m = j} {words = k} {n = i} h) e =
-    let x : j ≡ m = cc in
-    let y : k ≡ w = cc in
-    let z : i ≡ n = cc in
-    subst (λ a. Accepts text records values decls a w n) x (subst (λ a. Accepts text records values decls j a n) y
-    (subst (Accepts text records values decls j k) z h))
 
 -- room for the first words of its declarations
 pub firsts_room : {text records values decls : List ℕ} {m words n size : ℕ} → Accepts text records values decls m words n → 512 ≤ size → 2 * m ≤ size
@@ -38,16 +23,13 @@ firsts_room v room = omega (arith, v.lawful.declares.ready.few)
 
 -- what is known of two accepted texts, by the case
 module _ {first second : Table} {firsts buffer turns : List ℕ} where
-  pub declined_by : {r : Judged} {side m p : ℕ} → Judges first second firsts buffer turns r → r ≡ Down side m p → Declines first second buffer turns side m p
+  pub declined_by : {s : Result ⊤ PairRefusal} {r : PairRefusal} → Judges first second firsts buffer turns s → s ≡ Err r
+      → Declines first second buffer turns r.side r.refusal.number r.refusal.place
   declined_by (begins h) e = let z : ◌≡◌ {A = ℕ} 0 1 = cc in absurd (omega arith)
-  declined_by {side = side} {m} {p} (declines {side = i} {number = j} {place = k} h) e =
-      let x : i ≡ side = cc in
-      let y : j ≡ m = cc in
-      let z : k ≡ p = cc in
-      subst (λ a. Declines first second buffer turns a m p) x (subst (λ a. Declines first second buffer turns i a p) y
-      (subst (Declines first second buffer turns i j) z h))
+  declined_by {r = r} (declines {r = q} h) e =
+      let x : q ≡ r = cc in subst (λ (z : PairRefusal). Declines first second buffer turns z.side z.refusal.number z.refusal.place) x h
 
-  pub begun_by : {r : Judged} → Judges first second firsts buffer turns r → r ≡ Taken → Begins first second firsts buffer turns
+  pub begun_by : {s : Result ⊤ PairRefusal} → Judges first second firsts buffer turns s → s ≡ Ok tt → Begins first second firsts buffer turns
   begun_by (begins h) e = h
   begun_by (declines h) e = let z : ◌≡◌ {A = ℕ} 0 1 = cc in absurd (omega arith)
 

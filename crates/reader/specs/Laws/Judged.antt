@@ -1,6 +1,6 @@
 -- Laws of the passes behind the declarations: what each needs, its refusals, and the texts that pass.
 -- Assumes nothing.
-use Rattle.std.specs.Prelude.{ℕ, zero, suc, ◌/◌, ◌%◌, ◌<◌, ◌≤◌, ◌≡◌, List, [], ◌∷◌, length}
+use Rattle.std.specs.Prelude.{ℕ, zero, suc, ◌/◌, ◌%◌, ◌<◌, ◌≤◌, ◌≡◌, List, [], ◌∷◌, length, Ok, Err}
 use Rattle.std.proofs.Common.{sym, ap₂, ◌∙◌, subst, arith}
 use Rattle.std.proofs.Math.Path.{ap}
 use Rattle.std.proofs.Math.Option.{some}
@@ -27,7 +27,7 @@ use Rattle.bodies.specs.Laws.Small.{faults_small}
 use Rattle.whole.specs.Written.{Written, whole}
 use Rattle.whole.specs.Laws.Written.{reading}
 use Rattle.whole.specs.Laws.Between.{faults_small as small_faults_50}
-use Rattle.reader.specs.declared.judging.Verdict.TheVariants.{Accepted, Refused}
+use Rattle.rules.specs.declared.refusals.Refusal.{Refusal}
 use Rattle.reader.specs.Judged.{Judges, refuses, accepts}
 
 within : (list : List Declaration) (k : ℕ) (x : Declaration) → get_elem? list k ≡ some x → k < length list
@@ -105,10 +105,10 @@ module _ {text records values decls room : List ℕ} {m n key : ℕ} (v : Declar
   small_40 : Smalls (faults40 (outer_name v.description).word (declarations v.description) (declarations v.description))
   small_40 = faults_small v.ready
 
-  pub refused_40 : {number place : ℕ} → (key ≡ no_key → ⊥) → (number ≡ key % 128) × (place ≡ key / 128) → Judges text records values decls (Refused number place)
+  pub refused_40 : {r : Refusal} → (key ≡ no_key → ⊥) → (r.number ≡ key % 128) × (r.place ≡ key / 128) → Judges text records values decls (Err r)
   refused_40 h e =
-      rw (e.0, e.1)
-      (refuses record {
+      refuses (rw (e.0, e.1)
+      record {
         checks = subst (Checks text) (first_40 v.description v.ready.lawful (place_first _ key small_40 is_40 h)) v.verdict;
         near = place_near _ key small_40 is_40 h;
       })
@@ -137,17 +137,17 @@ module _ {text records values decls : List ℕ} {m n : ℕ} (v : Lawful text rec
     small_50 : Smalls (faults50 (declarations d))
     small_50 = small_faults_50 (reading to_judge_whole)
 
-    pub refused_50 : {number place : ℕ} → (key ≡ no_key → ⊥) → (number ≡ key / 65536) × (place ≡ key % 65536) → Judges text records values decls (Refused number place)
+    pub refused_50 : {r : Refusal} → (key ≡ no_key → ⊥) → (r.number ≡ key / 65536) × (r.place ≡ key % 65536) → Judges text records values decls (Err r)
     refused_50 h e =
-        rw (e.0, e.1)
-        (refuses record {
+        refuses (rw (e.0, e.1)
+        record {
           checks = subst (Checks text) (first_50 d v.declares.ready.lawful v.sound (number_first _ key small_50 is_50 h)) v.declares.verdict;
           near = number_near _ key small_50 is_50 h;
         })
 
     pub accepted_50 : {words : ℕ} → key ≡ no_key
         → ((text : List ℕ) (ts : Tokens) (d : Description) → Ready text records values decls ts d m → words ≡ total_words (declarations d)) × (words ≤ most_words)
-        → Judges text records values decls (Accepted m words n)
+        → Judges text records values decls (Ok (record { declarations = m; words = words; tokens = n }))
     accepted_50 {words} e counts =
         let none : faults50 (declarations d) ≡ [] = no_fault by_number _ small_50 (sym is_50 ∙ e) in
         let w : words ≡ total_words (declarations d) = counts.0 text _ d v.declares.ready in

@@ -1,7 +1,7 @@
 -- Laws of the first two passes: the refusals of the scan and of the grammar, and the table of a description.
-use Rattle.std.specs.Prelude.{ℕ, zero, suc, ◌*◌, ◌<◌, ◌≤◌, ◌≡◌, Bool, List, [], ◌∷◌}
+use Rattle.std.specs.Prelude.{ℕ, zero, suc, ◌*◌, ◌<◌, ◌≤◌, ◌≡◌, Bool, List, [], ◌∷◌, ⊤, Result, Ok, Err}
 use Rattle.std.proofs.Math.Path.{refl, sym}
-use Rattle.std.proofs.Common.{◌∙◌, subst, subst₂, arith}
+use Rattle.std.proofs.Common.{ap, ◌∙◌, subst, subst₂, arith}
 use Rattle.std.proofs.Math.Bool.{true, false}
 use borrow.Author.Tests.{ltb-true, ltb-false}
 use Rattle.std.proofs.Math.Dec.{ltb}
@@ -19,46 +19,50 @@ use Rattle.laws_grammar.specs.Grammar.Exact.{right}
 use Rattle.laws_grammar.specs.Grammar.Nesting.{shallow_nest}
 use Rattle.text.specs.Table.{record_cells, value_cells, write_cells, ended_at, scanned_of}
 use Rattle.text.specs.Laws.Callers.{token_stands, refused_inside}
-use Rattle.text.specs.declared.Scanned.{Scanned}
-use Rattle.text.specs.declared.Scanned.TheVariants.{Fine as ScannedFine, Refused as ScannedRefused}
+use Rattle.rules.specs.Refusals.{refusal_at}
+use Rattle.rules.specs.declared.refusals.Refusal.{Refusal}
 use Rattle.grammar.specs.Records.{Records, KindsStand, answer_of, Answers}
-use Rattle.grammar.specs.declared.Recognised.{Recognised}
-use Rattle.grammar.specs.declared.Recognised.TheVariants.{Accepted as RAccepted, Refused20 as RRefused20, Refused21 as RRefused21}
+use Rattle.grammar.specs.declared.Misplaced.{Misplaced}
+use Rattle.grammar.specs.declared.Misplaced.TheVariants.{Unexpected, TooDeep}
 use Rattle.records.specs.Holds.{token_at, Holds}
 use Rattle.reader.specs.Laws.Tabled.{tabled}
 use Rattle.reader.specs.Parsed.{Refuses, Written, place_by, Stands, Scans}
 
 -- how a scan ended
-ended_by : (s : Scan) (n : ℕ) → ScannedFine n ≡ scanned_of s → (s.end ≡ fine) × (n ≡ length s.tokens)
+ended_by : (s : Scan) (n : ℕ) → Ok n ≡ scanned_of s → (s.end ≡ fine) × (n ≡ length s.tokens)
 ended_by s n e = go s.end refl e
   where
-    go : (x : End) → s.end ≡ x → ScannedFine n ≡ ended_at (length s.tokens) x → (s.end ≡ fine) × (n ≡ length s.tokens)
+    go : (x : End) → s.end ≡ x → Ok n ≡ ended_at (length s.tokens) x → (s.end ≡ fine) × (n ≡ length s.tokens)
     go fine q r = (q, cc)
     go (refuse m p) q r = let z : ◌≡◌ {A = ℕ} 0 1 = cc in absurd (omega arith)
 
-refused_by : (s : Scan) (m p : ℕ) → ScannedRefused m p ≡ scanned_of s → s.end ≡ refuse m p
+refused_by : (s : Scan) (m p : ℕ) → Err (refusal_at m p) ≡ scanned_of s → s.end ≡ refuse m p
 refused_by s m p e = go s.end refl e
   where
-    go : (x : End) → s.end ≡ x → ScannedRefused m p ≡ ended_at (length s.tokens) x → s.end ≡ refuse m p
+    go : (x : End) → s.end ≡ x → Err (refusal_at m p) ≡ ended_at (length s.tokens) x → s.end ≡ refuse m p
     go fine q r = let z : ◌≡◌ {A = ℕ} 0 1 = cc in absurd (omega arith)
-    go (refuse x y) q r = cc
+    go (refuse x y) q r =
+        let same : refusal_at m p ≡ refusal_at x y = cc in
+        q ∙ ap (λ (f : Refusal). refuse f.number f.place) (sym same)
 
-pub refused_scan : {text : List ℕ} {m p : ℕ} {s : Scanned} → length text ≤ longest_text → s ≡ scanned_of (scan text) → s ≡ ScannedRefused m p → Refuses text m p
-refused_scan {text} {m} {p} short e q =
-    let is = refused_by (scan text) m p (sym q ∙ e) in record { checks = unreadable short is; near = omega (arith, refused_inside text m p is) }
+pub refused_scan : {text : List ℕ} {r : Refusal} {s : Result ℕ Refusal} → length text ≤ longest_text → s ≡ scanned_of (scan text) → s ≡ Err r
+    → Refuses text r.number r.place
+refused_scan {text} {r} short e q =
+    let is = refused_by (scan text) r.number r.place (sym q ∙ e) in
+    record { checks = unreadable short is; near = omega (arith, refused_inside text r.number r.place is) }
 
 -- the recogniser's answer by its constructor
-twenty : (x : Answer) (k : ℕ) → RRefused20 k ≡ answer_of x → x ≡ refused20 k
+twenty : (x : Answer) (k : ℕ) → Err (Unexpected k) ≡ answer_of x → x ≡ refused20 k
 twenty accepted k e = let z : ◌≡◌ {A = ℕ} 0 1 = cc in absurd (omega arith)
 twenty (refused20 j) k e = cc
 twenty (refused21 j) k e = let z : ◌≡◌ {A = ℕ} 0 1 = cc in absurd (omega arith)
 
-twenty_one : (x : Answer) (k : ℕ) → RRefused21 k ≡ answer_of x → x ≡ refused21 k
+twenty_one : (x : Answer) (k : ℕ) → Err (TooDeep k) ≡ answer_of x → x ≡ refused21 k
 twenty_one accepted k e = let z : ◌≡◌ {A = ℕ} 0 1 = cc in absurd (omega arith)
 twenty_one (refused20 j) k e = let z : ◌≡◌ {A = ℕ} 0 1 = cc in absurd (omega arith)
 twenty_one (refused21 j) k e = cc
 
-accepting : (x : Answer) → RAccepted ≡ answer_of x → x ≡ accepted
+accepting : (x : Answer) → Ok tt ≡ answer_of x → x ≡ accepted
 accepting accepted e = refl
 accepting (refused20 j) e = let z : ◌≡◌ {A = ℕ} 0 1 = cc in absurd (omega arith)
 accepting (refused21 j) e = let z : ◌≡◌ {A = ℕ} 0 1 = cc in absurd (omega arith)
@@ -84,7 +88,7 @@ module _ {text records values : List ℕ} (w : Written text records values) wher
   written_holds =
       subst₂ (λ x y. Holds text x y ts) (sym w.is_a) (sym w.is_b) (tabled text w.before_a w.before_b w.short w.room_a w.room_b)
 
-  module _ (n : ℕ) (e : ScannedFine n ≡ scanned_of (scan text)) where
+  module _ (n : ℕ) (e : Ok n ≡ scanned_of (scan text)) where
     all : n ≡ length ts
     all = (ended_by (scan text) n e).1
 
@@ -119,31 +123,31 @@ module _ {text records values : List ℕ} (w : Written text records values) wher
         at_place false z = omega (arith, w.short, (rw (place_by, z) at q))
 
     -- what the recogniser says of them
-    answered : (r : Recognised) → Answers records n r → r ≡ answer_of (recognise ts)
+    answered : (r : Result ⊤ Misplaced) → Answers records n r → r ≡ answer_of (recognise ts)
     answered r h = h ts kinds_stand
 
     by_answer : (x : Answer) → recognise ts ≡ x → Right ts x
     by_answer x q = subst (Right ts) q (right ts)
 
-    pub refused_20 : (k p : ℕ) → Answers records n (RRefused20 k) → p ≡ place_by records n k (length text) → Refuses text 20 p
+    pub refused_20 : (k p : ℕ) → Answers records n (Err (Unexpected k)) → p ≡ place_by records n k (length text) → Refuses text 20 p
     refused_20 k p h q =
         record {
           checks = subst (λ x. Checks text (refused 20 x)) (sym (q ∙ place_is k))
-              (no_description w.short (ended_by (scan text) n e).0 (by_answer (refused20 k) (twenty (recognise ts) k (answered (RRefused20 k) h))));
+              (no_description w.short (ended_by (scan text) n e).0 (by_answer (refused20 k) (twenty (recognise ts) k (answered (Err (Unexpected k)) h))));
           near = place_near k p q;
         }
 
-    pub refused_21 : (k p : ℕ) → Answers records n (RRefused21 k) → p ≡ place_by records n k (length text) → Refuses text 21 p
+    pub refused_21 : (k p : ℕ) → Answers records n (Err (TooDeep k)) → p ≡ place_by records n k (length text) → Refuses text 21 p
     refused_21 k p h q =
         record {
           checks = subst (λ x. Checks text (refused 21 x)) (sym (q ∙ place_is k))
-              (too_deep w.short (ended_by (scan text) n e).0 (by_answer (refused21 k) (twenty_one (recognise ts) k (answered (RRefused21 k) h))));
+              (too_deep w.short (ended_by (scan text) n e).0 (by_answer (refused21 k) (twenty_one (recognise ts) k (answered (Err (TooDeep k)) h))));
           near = place_near k p q;
         }
 
-    pub parsed : Answers records n RAccepted → Stands text records values n
+    pub parsed : Answers records n (Ok tt) → Stands text records values n
     parsed h =
-        let is : Accepted ts = by_answer accepted (accepting (recognise ts) (answered RAccepted h)) in
+        let is : Accepted ts = by_answer accepted (accepting (recognise ts) (answered (Ok tt) h)) in
         let d : Description = is.whole.0 in
         let reads : flatten d ≡ ts = is.whole.1 in
         let shallow : (j : ℕ) → ¬ Crowded (flatten d) j = subst (λ x. (j : ℕ) → ¬ Crowded x j) (sym reads) is.shallow in
@@ -166,19 +170,19 @@ module _ {text records : List ℕ} {n : ℕ} (v : Scans text records n) where
   pub scans_room : 8 * n ≤ length records
   scans_room = scans_records.room
 
-  pub scans_fine : {r : Recognised} → Answers records n r → r ≡ RAccepted → Stands text records v.values n
+  pub scans_fine : {r : Result ⊤ Misplaced} → Answers records n r → r ≡ Ok tt → Stands text records v.values n
   scans_fine {r} h e = parsed v.written n v.fine (subst (Answers records n) e h)
 
-  pub scans_20 : {r : Recognised} {k p : ℕ} → Answers records n r → r ≡ RRefused20 k → p ≡ place_by records n k (length text) → Refuses text 20 p
+  pub scans_20 : {r : Result ⊤ Misplaced} {k p : ℕ} → Answers records n r → r ≡ Err (Unexpected k) → p ≡ place_by records n k (length text) → Refuses text 20 p
   scans_20 {r} {k} {p} h e q = refused_20 v.written n v.fine k p (subst (Answers records n) e h) q
 
-  pub scans_21 : {r : Recognised} {k p : ℕ} → Answers records n r → r ≡ RRefused21 k → p ≡ place_by records n k (length text) → Refuses text 21 p
+  pub scans_21 : {r : Result ⊤ Misplaced} {k p : ℕ} → Answers records n r → r ≡ Err (TooDeep k) → p ≡ place_by records n k (length text) → Refuses text 21 p
   scans_21 {r} {k} {p} h e q = refused_21 v.written n v.fine k p (subst (Answers records n) e h) q
 
 -- behind a scan that is fine
-unfoldable pub scanned : (text a b : List ℕ) {records values : List ℕ} {n : ℕ} {s : Scanned} → length text ≤ longest_text → 65536 ≤ length a → 65536 ≤ length b
+unfoldable pub scanned : (text a b : List ℕ) {records values : List ℕ} {n : ℕ} {s : Result ℕ Refusal} → length text ≤ longest_text → 65536 ≤ length a → 65536 ≤ length b
     → records ≡ write_cells 8 a 0 (record_cells (scan text).tokens) → values ≡ write_cells 8 b 0 (value_cells 0 (scan text).tokens)
-    → s ≡ scanned_of (scan text) → s ≡ ScannedFine n → Scans text records n
+    → s ≡ scanned_of (scan text) → s ≡ Ok n → Scans text records n
 scanned text a b {records} {values} short room_a room_b is_a is_b e q =
     record {
       values = values;

@@ -1,5 +1,5 @@
 -- Laws of the pass over the declarations: what it needs, and what it tells.
-use Rattle.std.specs.Prelude.{ℕ, ◌≡◌, List, length}
+use Rattle.std.specs.Prelude.{ℕ, ◌≡◌, List, length, Result, Ok, Err}
 use Rattle.std.proofs.Math.Path.{ap}
 use Rattle.std.proofs.Common.{subst}
 use Rattle.std.proofs.Math.Option.{some}
@@ -13,16 +13,14 @@ use Rattle.rules.specs.Faults.Whole.{faults50}
 use Rattle.rules.specs.Answers.{accepted, refused, or_else, judgement, Checks, judged}
 use Rattle.declare.specs.Finding.{Described}
 use Rattle.declare.specs.Told.{Told}
-use Rattle.declare.specs.declared.Declared.{Declared}
-use Rattle.declare.specs.declared.Declared.TheVariants.{Fine as DeclaredFine, Refused as DeclaredRefused}
+use Rattle.rules.specs.declared.refusals.Refusal.{Refusal}
 use Rattle.reader.specs.Parsed.{Stands}
 use Rattle.reader.specs.declared.declaring.Standing.{Standing}
-use Rattle.reader.specs.declared.declaring.Standing.TheVariants.{Fine, Refused}
 use Rattle.reader.specs.Read.{Reads}
 
-abbrev pub standing_of : ℕ → Declared → Standing
-standing_of n (DeclaredRefused m p) = Refused m p
-standing_of n (DeclaredFine m) = Fine m n
+abbrev pub standing_of : ℕ → Result ℕ Refusal → Result Standing Refusal
+standing_of n (Err r) = Err r
+standing_of n (Ok m) = Ok (record { declarations = m; tokens = n })
 
 -- what stands is described
 abbrev pub described : {text records values : List ℕ} {n : ℕ} → Stands text records values n → Described text records values n
@@ -40,7 +38,7 @@ module _ {text records values : List ℕ} {n : ℕ} (s : Stands text records val
       ap (λ o. or_else o (or_else (least by_place_of (faults40 (outer_name d).word ds ds)) (or_else (least by_number_of (faults50 ds)) (accepted (length ds) (total_words ds))))) e
 
   -- what the declarations' pass tells is what Check may answer, or the table is ready
-  pub told : (records' decls : List ℕ) (r : Declared) → Told text records' values decls (scan text).tokens s.description r
-      → Reads text records' values decls (standing_of n r)
-  told records' decls (DeclaredRefused m p) h = record { checks = subst (Checks text) (first_30 s.description m p h.is) verdict; near = h.near }
-  told records' decls (DeclaredFine m) h = record { description = s.description; reads = s.reads; verdict = verdict; ready = h.ready; spelled = h.spelled; count = s.count }
+  pub told : (records' decls : List ℕ) (q : Result ℕ Refusal) → Told text records' values decls (scan text).tokens s.description q
+      → Reads text records' values decls (standing_of n q)
+  told records' decls (Err r) h = record { checks = subst (Checks text) (first_30 s.description r.number r.place h.is) verdict; near = h.near }
+  told records' decls (Ok m) h = record { description = s.description; reads = s.reads; verdict = verdict; ready = h.ready; spelled = h.spelled; count = s.count }

@@ -11,7 +11,7 @@ use Rattle.cells.specs.Cells.{put_cell}
 use Rattle.cells.proofs.Laws.{length_put}
 use Rattle.rules.specs.Text.Bytes.{class_of, class_in}
 use Rattle.rules.specs.Text.Tokens.{Token, kind_no}
-use Rattle.rules.specs.Text.Scan.{Scan, End, fine, refuse, scan_end, followed, lexeme, scan}
+use Rattle.rules.specs.Text.Scan.{Scan, End, fine, refuse, scan_end, followed, lexeme, bad_lexeme, scan}
 use Rattle.classes.specs.Classes.{Classed}
 use Rattle.classes.specs.Laws.Runs.{right, classed}
 use Rattle.lexemes.specs.Lexemes.{size_of, lexeme_of}
@@ -19,14 +19,19 @@ use Rattle.text.specs.Laws.Lexemes.{nothing_back, refused_back, token_back, IsTo
 use Rattle.text.specs.Laws.Scans.{from, from_end, from_nothing, from_token, from_full, from_refused}
 use Rattle.text.specs.Laws.Sound.{Sound, Placed, lexeme_sound}
 use Rattle.text.specs.Table.{pack, record_of, record_cells, value_by, value_of, value_cells, write_cells, ended_at, scanned_of}
-use Rattle.text.specs.declared.Scanned.{Scanned}
-use Rattle.text.specs.declared.Scanned.TheVariants.{Fine, Refused}
+use Rattle.std.specs.Prelude.{Result, Ok, Err}
+use Rattle.rules.specs.Refusals.{refusal_at}
+use Rattle.rules.specs.declared.refusals.Refusal.{Refusal}
 use Rattle.lexemes.specs.declared.lexemes.Lexeme.{Lexeme}
-use Rattle.lexemes.specs.declared.lexemes.Lexeme.TheVariants.{Nothing, Token as Found, Refused as Not}
+use Rattle.lexemes.specs.declared.lexemes.Lexeme.TheVariants.{Nothing, Token as At}
+use Rattle.lexemes.specs.declared.lexemes.Token.{Token as Found}
+use Rattle.lexemes.specs.declared.lexemes.Misspelling.{Misspelling}
+use Rattle.lexemes.specs.Misspellings.{refusal_number}
+use Rattle.lexemes.specs.Laws.Misspellings.{numbered}
 use Rattle.text.proofs.scan.Invariants.{Inv, Left}
 use Rattle.text.proofs.scan.Goals as goal
 
-abbrev Done : List ℕ → List ℕ → List ℕ → Scanned → List ℕ → List ℕ → Type 0
+abbrev Done : List ℕ → List ℕ → List ℕ → Result ℕ Refusal → List ℕ → List ℕ → Type 0
 Done text records₀ values₀ r records values =
     record {
       value : r ≡ scanned_of (scan text);
@@ -72,14 +77,14 @@ module _ {text records₀ values₀ classes records values : List ℕ} {at count
   turned : {s : Scan} → from text at (8192 - count) ≡ s → Left text records₀ values₀ s records values count before
   turned e = subst (λ (s : Scan). Left text records₀ values₀ s records values count before) e inv.left
 
-  ended_here : length text ≤ at → Done text records₀ values₀ (Fine count) records values
+  ended_here : length text ≤ at → Done text records₀ values₀ (Ok count) records values
   ended_here h = finished fine (turned (from_end text at (8192 - count) h))
 
-  module _ (h : at < length text) {l : Lexeme} (found : l ≡ lexeme_of (lexeme at (get_or text at 0) (drop (at + 1) text))) where
+  module _ (h : at < length text) {l : Result Lexeme Misspelling} (found : l ≡ lexeme_of (lexeme at (get_or text at 0) (drop (at + 1) text))) where
     room : length (drop (at + 1) text) ≡ length text - (at + 1)
     room = length-drop (at + 1) text
 
-    module _ {n : ℕ} (e : l ≡ Nothing n) where
+    module _ {n : ℕ} (e : l ≡ Ok (Nothing n)) where
       nothing_fits : at + (n + 1) ≤ length text
       nothing_fits =
           let is : lexeme at (get_or text at 0) (drop (at + 1) text) ≡ _ = nothing_back _ n (sym e ∙ found) in
@@ -104,38 +109,41 @@ module _ {text records₀ values₀ classes records values : List ℕ} {at count
         left = turned (from_nothing text at h (8192 - count) n (nothing_back _ n (sym e ∙ found)));
       }
 
-    refused_here : {m : ℕ} → l ≡ Not m → Done text records₀ values₀ (Refused m at) records values
-    refused_here {m} e = finished (refuse m at) (turned (from_refused text at h (8192 - count) m (refused_back _ m (sym e ∙ found))))
+    refused_here : {x : Misspelling} {m : ℕ} → l ≡ Err x → m ≡ refusal_number x → Done text records₀ values₀ (Err (refusal_at m at)) records values
+    refused_here {x} {m} e q =
+        let is : lexeme at (get_or text at 0) (drop (at + 1) text) ≡ bad_lexeme (refusal_number x) =
+        refused_back _ x (numbered at (get_or text at 0) (drop (at + 1) text)) (sym e ∙ found) in
+        finished (refuse m at) (turned (from_refused text at h (8192 - count) m (is ∙ ap bad_lexeme (sym q))))
 
-    module _ {n k s v f : ℕ} (e : l ≡ Found n k s v f) where
-      back : IsToken (lexeme at (get_or text at 0) (drop (at + 1) text)) n k s v f
-      back = token_back _ n k s v f (sym e ∙ found)
+    module _ {t : Found} (e : l ≡ Ok (At t)) where
+      back : IsToken (lexeme at (get_or text at 0) (drop (at + 1) text)) t.more t.kind t.size t.value t.free
+      back = token_back _ t (sym e ∙ found)
 
-      placed : Placed at (length (drop (at + 1) text)) n back.it
+      placed : Placed at (length (drop (at + 1) text)) t.more back.it
       placed = subst (Sound at (length (drop (at + 1) text))) back.is (lexeme_sound at (get_or text at 0) (drop (at + 1) text))
 
-      token_fits : at + (n + 1) ≤ length text
+      token_fits : at + (t.more + 1) ≤ length text
       token_fits = omega (arith, room, placed.within)
 
-      token_more : length text ≤ 32768 → n + 1 < 2 ^ 64
+      token_more : length text ≤ 32768 → t.more + 1 < 2 ^ 64
       token_more short = omega (arith, token_fits)
 
-      token_sum : length text ≤ 32768 → at + (n + 1) < 2 ^ 64
+      token_sum : length text ≤ 32768 → at + (t.more + 1) < 2 ^ 64
       token_sum short = omega (arith, token_fits)
 
-      token_less : length text - (at + (n + 1)) < length text - at
+      token_less : length text - (at + (t.more + 1)) < length text - at
       token_less = omega (arith, token_fits)
 
-      full : count ≡ 8192 → Done text records₀ values₀ (Refused 13 at) records values
-      full c = finished (refuse 13 at) (turned (from_full text at h (8192 - count) n back.it back.is (omega arith)))
+      full : count ≡ 8192 → Done text records₀ values₀ (Err (refusal_at 13 at)) records values
+      full c = finished (refuse 13 at) (turned (from_full text at h (8192 - count) t.more back.it back.is (omega arith)))
 
-      token_passed : {x y : ℕ} {records' values' : List ℕ} → (count ≡ 8192 → ⊥) → y ≡ value_by k v before → x ≡ pack k s at
+      token_passed : {x y : ℕ} {records' values' : List ℕ} → (count ≡ 8192 → ⊥) → y ≡ value_by t.kind t.value before → x ≡ pack t.kind t.size at
           → records' ≡ put_cell 8 records count x → values' ≡ put_cell 8 values count y
-          → Inv text records₀ values₀ classes records' values' (at + (n + 1)) (count + 1) f
+          → Inv text records₀ values₀ classes records' values' (at + (t.more + 1)) (count + 1) t.free
       token_passed {x} {y} more ey ex er ev =
           let fewer : 8192 - count - 1 ≡ 8192 - (count + 1) = omega arith in
-          let rest : from text at (8192 - count) ≡ followed back.it (from text (at + (n + 1)) (8192 - (count + 1)))
-          = rw fewer at (from_token text at h (8192 - count) n back.it back.is (omega (arith, inv.few))) in
+          let rest : from text at (8192 - count) ≡ followed back.it (from text (at + (t.more + 1)) (8192 - (count + 1)))
+          = rw fewer at (from_token text at h (8192 - count) t.more back.it back.is (omega (arith, inv.few))) in
           record {
             classed = inv.classed;
             within = token_fits;
@@ -153,50 +161,50 @@ loop-at-init c = starts _ _ _ _ (classed _ refl tt)
 
 pub overflow_add-at : goal.overflow_add-at
 unfolding right class_of class_in
-overflow_add-at c = search (rules, nothing_more)
+overflow_add-at c = search (rules, nothing_more c.loop-at.invariant c.loop-at-test.true c.lexeme_at.ensures (c.in-Ok-Nothing.is ∙ ap Ok c.in-Ok-Nothing.field-0-is))
 
-pub overflow_add-at-in-Nothing : goal.overflow_add-at-in-Nothing
+pub overflow_add-at-in-Ok-Nothing : goal.overflow_add-at-in-Ok-Nothing
 unfolding right class_of class_in
-overflow_add-at-in-Nothing c = search (rules, nothing_sum)
+overflow_add-at-in-Ok-Nothing c = search (rules, nothing_sum c.loop-at.invariant c.loop-at-test.true c.lexeme_at.ensures (c.in-Ok-Nothing.is ∙ ap Ok c.in-Ok-Nothing.field-0-is))
 
-pub loop-at-smaller-in-Nothing : goal.loop-at-smaller-in-Nothing
+pub loop-at-smaller-in-Ok-Nothing : goal.loop-at-smaller-in-Ok-Nothing
 unfolding right class_of class_in
-loop-at-smaller-in-Nothing c = search (rules, nothing_less)
+loop-at-smaller-in-Ok-Nothing c = nothing_less c.loop-at.invariant c.loop-at-test.true c.lexeme_at.ensures (c.in-Ok-Nothing.is ∙ ap Ok c.in-Ok-Nothing.field-0-is)
 
-pub loop-at-preserved-in-Nothing : goal.loop-at-preserved-in-Nothing
+pub loop-at-preserved-in-Ok-Nothing : goal.loop-at-preserved-in-Ok-Nothing
 unfolding right class_of class_in
-loop-at-preserved-in-Nothing c = search (rules, nothing_passed)
+loop-at-preserved-in-Ok-Nothing c = nothing_passed c.loop-at.invariant c.loop-at-test.true c.lexeme_at.ensures (c.in-Ok-Nothing.is ∙ ap Ok c.in-Ok-Nothing.field-0-is)
 
 pub returns-then-count-eq-MOST_TOKENS : goal.returns-then-count-eq-MOST_TOKENS
 unfolding right class_of class_in
 returns-then-count-eq-MOST_TOKENS c =
-    full c.loop-at.invariant c.loop-at-test.true c.lexeme_at.ensures c.in-Token.is
+    full c.loop-at.invariant c.loop-at-test.true c.lexeme_at.ensures (c.in-Ok-Token.is ∙ ap Ok c.in-Ok-Token.field-0-is)
     c.if-count-eq-MOST_TOKENS.true
 
-pub overflow_add-at-in-Token : goal.overflow_add-at-in-Token
+pub overflow_add-at-in-Ok-Token : goal.overflow_add-at-in-Ok-Token
 unfolding right class_of class_in
-overflow_add-at-in-Token c = search (rules, token_more)
+overflow_add-at-in-Ok-Token c = search (rules, token_more c.loop-at.invariant c.loop-at-test.true c.lexeme_at.ensures (c.in-Ok-Token.is ∙ ap Ok c.in-Ok-Token.field-0-is))
 
-pub overflow_add-at-in-Token-2 : goal.overflow_add-at-in-Token-2
+pub overflow_add-at-in-Ok-Token-2 : goal.overflow_add-at-in-Ok-Token-2
 unfolding right class_of class_in
-overflow_add-at-in-Token-2 c = search (rules, token_sum)
+overflow_add-at-in-Ok-Token-2 c = search (rules, token_sum c.loop-at.invariant c.loop-at-test.true c.lexeme_at.ensures (c.in-Ok-Token.is ∙ ap Ok c.in-Ok-Token.field-0-is))
 
 pub loop-at-smaller : goal.loop-at-smaller
 unfolding right class_of class_in
-loop-at-smaller c = search (rules, token_less)
+loop-at-smaller c = token_less c.loop-at.invariant c.loop-at-test.true c.lexeme_at.ensures (c.in-Ok-Token.is ∙ ap Ok c.in-Ok-Token.field-0-is)
 
 -- a token is stored, and the three ways out
 pub loop-at-preserved : goal.loop-at-preserved
 unfolding right class_of class_in
 loop-at-preserved c =
     token_passed c.loop-at.invariant c.loop-at-test.true c.lexeme_at.ensures
-    c.in-Token.is c.if-count-eq-MOST_TOKENS.false c.value_cell-cell.ensures c.packed.ensures c.put_token.ensures.records_after
+    (c.in-Ok-Token.is ∙ ap Ok c.in-Ok-Token.field-0-is) c.if-count-eq-MOST_TOKENS.false c.value_cell-cell.ensures c.packed.ensures c.put_token.ensures.records_after
     c.put_token.ensures.values_after
 
-pub returns-in-Refused : goal.returns-in-Refused
+pub returns-in-Err : goal.returns-in-Err
 unfolding right class_of class_in
-returns-in-Refused c =
-    refused_here c.loop-at.invariant c.loop-at-test.true c.lexeme_at.ensures c.in-Refused.is
+returns-in-Err c =
+    refused_here c.loop-at.invariant c.loop-at-test.true c.lexeme_at.ensures c.in-Err.is c.number.ensures
 
 pub returns : goal.returns
 unfolding right class_of class_in

@@ -5,16 +5,16 @@ use Rattle.checking.specs.Laws.Checked.{numbers_by, refused_near, accepted_near}
 use Rattle.checking.proofs.verdicts.verdict_answer.Goals as goal
 
 pub refusal-requires : goal.refusal-requires
-refusal-requires c = omega (arith, refused_near c.requires c.in-Refused.is)
+refusal-requires c = omega (arith, refused_near c.requires c.in-Err.is)
 
-pub overflow_cast-declarations : goal.overflow_cast-declarations
-overflow_cast-declarations c = omega (arith, (accepted_near c.requires c.in-Accepted.is).0)
+pub overflow_cast-accepted : goal.overflow_cast-accepted
+overflow_cast-accepted c = omega (arith, (accepted_near c.requires c.in-Ok.is).0)
 
-pub overflow_cast-words : goal.overflow_cast-words
-overflow_cast-words c = omega (arith, (accepted_near c.requires c.in-Accepted.is).1)
+pub overflow_cast-accepted-in-Ok : goal.overflow_cast-accepted-in-Ok
+overflow_cast-accepted-in-Ok c = omega (arith, (accepted_near c.requires c.in-Ok.is).1)
 
-pub returns-in-Refused : goal.returns-in-Refused
-returns-in-Refused c = numbers_by c.args.text.now c.refusal.ensures c.in-Refused.is
+pub returns-in-Err : goal.returns-in-Err
+returns-in-Err c = numbers_by c.args.text.now c.refusal.ensures c.in-Err.is
 
-pub returns-in-Accepted : goal.returns-in-Accepted
-returns-in-Accepted c = numbers_by c.args.text.now c.unrefused.ensures c.in-Accepted.is
+pub returns-in-Ok : goal.returns-in-Ok
+returns-in-Ok c = numbers_by c.args.text.now c.unrefused.ensures c.in-Ok.is

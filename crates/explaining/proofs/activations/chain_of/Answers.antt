@@ -10,12 +10,12 @@ pub reread-requires : goal.reread-requires
 reread-requires c = record { sound = (sound (omega arith) c.requires.checks.0, search rules); room_size_in_bounds = search rules }
 
 pub chain_reason-requires : goal.chain_reason-requires
-chain_reason-requires c = (rw c.in-Fine.is at c.reread.ensures).reading
+chain_reason-requires c = (rw c.in-Ok.is at c.reread.ensures).reading
 
-pub returns-in-Refused : goal.returns-in-Refused
-returns-in-Refused c = λ d s. absurd (let z : ⊥ = rw c.in-Refused.is at c.reread.ensures in z)
+pub returns-in-Err : goal.returns-in-Err
+returns-in-Err c = λ d s. absurd (let z : ⊥ = rw c.in-Err.is at c.reread.ensures in z)
 
-pub returns-in-Fine : goal.returns-in-Fine
-returns-in-Fine c = λ d s.
-    let r = rw c.in-Fine.is at c.reread.ensures in
+pub returns-in-Ok : goal.returns-in-Ok
+returns-in-Ok c = λ d s.
+    let r = rw c.in-Ok.is at c.reread.ensures in
     for_all (λ ds. reason_numbers (reason51 ds c.args.place)) r (c.chain_reason.ensures r.reading) d s

@@ -8,7 +8,7 @@ pub reread-requires : goal.reread-requires
 reread-requires c = record { sound = (sound (omega arith) c.requires.checks.0, search rules); room_size_in_bounds = search rules }
 
 pub race_at-requires : goal.race_at-requires
-race_at-requires c = record { checks = (c.requires.checks.0, rw c.in-Fine.is at c.reread.ensures); in_bounds = search rules }
+race_at-requires c = record { checks = (c.requires.checks.0, rw c.in-Ok.is at c.reread.ensures); in_bounds = search rules }
 
-pub returns-in-Refused : goal.returns-in-Refused
-returns-in-Refused c = λ d s. absurd (let z : ⊥ = rw c.in-Refused.is at c.reread.ensures in z)
+pub returns-in-Err : goal.returns-in-Err
+returns-in-Err c = λ d s. absurd (let z : ⊥ = rw c.in-Err.is at c.reread.ensures in z)

@@ -2,14 +2,15 @@
 use Rattle.explaining.specs.Laws.Again.{described, nested, redeclared}
 use Rattle.explaining.proofs.rereading.declared.Goals as goal
 
-pub returns-in-Refused : goal.returns-in-Refused
-returns-in-Refused c =
-    rw c.in-Refused.is at
+pub returns-in_err-m : goal.returns-in_err-m
+returns-in_err-m c =
+    absurd
+    (rw c.in_err-m.was at
     (redeclared c.requires.rescanned _ _ c.declare.result
-    (c.declare.ensures (described c.requires.rescanned) (nested c.requires.rescanned)))
+    (c.declare.ensures (described c.requires.rescanned) (nested c.requires.rescanned))))
 
-pub returns-in-Fine : goal.returns-in-Fine
-returns-in-Fine c =
-    rw c.in-Fine.is at
+pub returns : goal.returns
+returns c =
+    rw c.in_ok-m.was at
     (redeclared c.requires.rescanned _ _ c.declare.result
     (c.declare.ensures (described c.requires.rescanned) (nested c.requires.rescanned)))

@@ -1,11 +1,7 @@
 -- `images::images::judge` meets its contract: the blocks passed are sound, so the others decide.
 -- Assumes nothing.
-use Prim.Native.Nat.{◌-◌}
 use Rattle.images.specs.Laws.Turns.{Judging}
 use Rattle.images.proofs.images.judge.Given as goal
 
 abbrev pub invariant-loop-i : goal.invariant-loop-i
 invariant-loop-i l = Judging l.size l.blocks l.image l.i
-
-abbrev pub decreases-loop-i : goal.decreases-loop-i
-decreases-loop-i l = l.blocks - l.i

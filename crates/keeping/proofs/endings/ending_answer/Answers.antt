@@ -4,10 +4,10 @@ use Rattle.keeping.specs.Laws.Calls.{numbers_by, near_by}
 use Rattle.keeping.proofs.endings.ending_answer.Goals as goal
 
 pub refusal-requires : goal.refusal-requires
-refusal-requires c = near_by c.requires c.in-Refused.is
+refusal-requires c = near_by c.requires c.in-Err.is
 
-pub returns-in-Refused : goal.returns-in-Refused
-returns-in-Refused c = λ left. numbers_by c.args.text.now left c.refusal.ensures c.in-Refused.is
+pub returns-in-Err : goal.returns-in-Err
+returns-in-Err c = λ left. numbers_by c.args.text.now left c.refusal.ensures c.in-Err.is
 
-pub returns-in-Done : goal.returns-in-Done
-returns-in-Done c = λ left. numbers_by c.args.text.now left c.unrefused.ensures c.in-Done.is
+pub returns-in-Ok : goal.returns-in-Ok
+returns-in-Ok c = λ left. numbers_by c.args.text.now left c.unrefused.ensures c.in-Ok.is

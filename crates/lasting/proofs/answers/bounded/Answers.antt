@@ -6,13 +6,13 @@ use Rattle.lasting.specs.Laws.Bounded.{ready, told_bound, told_refusal}
 use Rattle.lasting.proofs.answers.bounded.Goals as goal
 
 pub refusal-requires : goal.refusal-requires
-refusal-requires c = omega (arith, (refuses_by c.check.ensures c.in-Refused.is).near)
+refusal-requires c = omega (arith, (refuses_by c.check.ensures c.in-Err.is).near)
 
 pub longest-requires : goal.longest-requires
-longest-requires c = (ready (accepts_by c.check.ensures c.in-Accepted.is).1, search rules)
+longest-requires c = (ready (accepts_by c.check.ensures c.in-Ok.is), search rules)
 
-pub returns-in-Refused : goal.returns-in-Refused
-returns-in-Refused c = told_refusal (refuses_by c.check.ensures c.in-Refused.is) c.refusal.ensures
+pub returns-in-Err : goal.returns-in-Err
+returns-in-Err c = told_refusal (refuses_by c.check.ensures c.in-Err.is) c.refusal.ensures
 
-pub returns-in-Accepted : goal.returns-in-Accepted
-returns-in-Accepted c = told_bound (accepts_by c.check.ensures c.in-Accepted.is).1 c.longest.ensures c.count_answer.ensures
+pub returns-in-Ok : goal.returns-in-Ok
+returns-in-Ok c = told_bound (accepts_by c.check.ensures c.in-Ok.is) c.longest.ensures c.count_answer.ensures

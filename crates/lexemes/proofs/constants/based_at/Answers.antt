@@ -17,9 +17,11 @@ use Rattle.classes.specs.Laws.Runs.{Run, ran, constant_set}
 use Rattle.lexemes.specs.Laws.Constants.{based_law}
 use Rattle.lexemes.specs.declared.constants.Number.{Number}
 use Rattle.lexemes.specs.declared.lexemes.Lexeme.{Lexeme}
+use Rattle.lexemes.specs.declared.lexemes.Misspelling.{Misspelling}
+use Rattle.std.specs.Prelude.{Option, Result}
 use Rattle.lexemes.proofs.constants.based_at.Goals as goal
 
-found : (text : List ℕ) (at end : ℕ) {x : Number} {r : Lexeme} → RunEnds 184 text (at + 1) end
+found : (text : List ℕ) (at end : ℕ) {x : Option Number} {r : Result Lexeme Misspelling} → RunEnds 184 text (at + 1) end
     → x ≡ number_of (based (digit_bits (get_or text at 0)) (slice (at + 1) end text)) → r ≡ constant_of (end - (at + 1)) x
     → r ≡ lexeme_of (lexeme_by prefix at (get_or text at 0) (drop (at + 1) text))
 unfolding lexeme_by

@@ -16,8 +16,9 @@ use Rattle.lexemes.specs.Laws.Bounds.{next_digit, query_value, query_free}
 use Rattle.lexemes.specs.Digits.{digit_no}
 use Rattle.lexemes.specs.Laws.Digits.{is_query_lem, is_digit_of_lem, is_value}
 use Rattle.lexemes.specs.Numbers.{number_of, based_from, based_digits}
-use Rattle.lexemes.specs.declared.constants.Number.TheVariants.{Malformed, Known}
+use Rattle.std.specs.Prelude.{Some, None}
 use Rattle.lexemes.proofs.constants.based_digits.Invariants.{Inv}
+use Rattle.lexemes.proofs.constants.based_digits.Goals.{then-digit-eq16, else-digit-eq16+then-digit-base}
 use Rattle.lexemes.proofs.constants.based_digits.Goals as goal
 
 -- one more digit of a number, with room for it
@@ -113,10 +114,10 @@ module _ {text : List ℕ} {from end base bits value free i : ℕ} (inv : Inv te
           (more_digit base bits value free _ _ byte low (λ z. q (e ∙ z)) (omega arith)
           ∙ ap (λ (n : ℕ). based_from base bits (value * base + n) (free * base) (slice (i + 1) end text)) (sym e))
 
-      stopped : (d ≡ 16 → ⊥) → base ≤ d → Malformed ≡ number_of (based_digits base bits (slice from end text))
+      stopped : (d ≡ 16 → ⊥) → base ≤ d → None ≡ number_of (based_digits base bits (slice from end text))
       stopped q l = ap number_of (left (not_digit base bits value free _ _ byte low (λ z. q (e ∙ z)) (omega arith)))
 
-  ended : end ≤ i → Known value free bits ≡ number_of (based_digits base bits (slice from end text))
+  ended : end ≤ i → Some (record { value = value; free = free; bits = bits }) ≡ number_of (based_digits base bits (slice from end text))
   unfolding all value_from free_from
   ended h =
       let last : i ≡ end = omega (arith, inv.high) in
@@ -135,9 +136,6 @@ overflow_mul-free c = search (rules, free_fits)
 pub overflow_add-free : goal.overflow_add-free
 overflow_add-free c = search (rules, query_fits)
 
-pub loop-i-preserved-then-digit-eq16 : goal.loop-i-preserved-then-digit-eq16
-loop-i-preserved-then-digit-eq16 c = search (rules, query_passed)
-
 pub overflow_mul-value-then-digit-base : goal.overflow_mul-value-then-digit-base
 overflow_mul-value-then-digit-base c = search (rules, value_fits)
 
@@ -148,7 +146,11 @@ pub overflow_mul-free-then-digit-base : goal.overflow_mul-free-then-digit-base
 overflow_mul-free-then-digit-base c = search (rules, free_fits)
 
 pub loop-i-preserved : goal.loop-i-preserved
-loop-i-preserved c = search (rules, digit_passed)
+loop-i-preserved c =
+    elim c.if-digit-eq16.branch [
+      | then-digit-eq16 w ↦ rw (w.value-is, w.free-is) (search (rules, query_passed))
+      | else-digit-eq16+then-digit-base w ↦ rw (w.value-is, w.free-is) (search (rules, digit_passed))
+    ]
 
 pub returns-else-digit-base : goal.returns-else-digit-base
 returns-else-digit-base c = search (rules, stopped)

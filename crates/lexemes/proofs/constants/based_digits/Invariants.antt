@@ -16,6 +16,3 @@ pub record Inv (text : List ℕ) (from end base bits value free i : ℕ) : Type 
 
 abbrev pub invariant-loop-i : goal.invariant-loop-i
 invariant-loop-i l = Inv l.text l.from l.end l.base l.bits l.value l.free l.i
-
-abbrev pub decreases-loop-i : goal.decreases-loop-i
-decreases-loop-i l = l.end - l.i

@@ -16,7 +16,7 @@ use Rattle.lexemes.specs.Laws.Bounds.{pow_times}
 use Rattle.lexemes.specs.Numbers.{number_of, known, based_digits}
 use Rattle.lexemes.specs.Laws.Numbers.{known_by}
 use Rattle.lexemes.specs.declared.constants.Number.{Number}
-use Rattle.lexemes.specs.declared.constants.Number.TheVariants.{Malformed}
+use Rattle.std.specs.Prelude.{Option, None}
 use Rattle.lexemes.proofs.constants.based_value.Goals as goal
 
 module _ (n : ℕ) (ds : List ℕ) where
@@ -45,19 +45,19 @@ module _ (text : List ℕ) (from end n : ℕ) (inside : end ≤ length text) whe
   unfolding ds
   size = length-slice from end text inside
 
-  empty : end - from ≡ 0 → Malformed ≡ number_of (based n (slice from end text))
+  empty : end - from ≡ 0 → None ≡ number_of (based n (slice from end text))
   unfolding ds
   empty e = ap number_of (sym (none n ds (size ∙ e)))
 
   module _ {bits : ℕ} (e : bits ≡ n * (end - from)) where
-    long : 64 < bits → Malformed ≡ number_of (based n (slice from end text))
+    long : 64 < bits → None ≡ number_of (based n (slice from end text))
     unfolding ds
     long h = ap number_of (sym (over n ds (rw size (omega arith))))
 
     fits : {base : ℕ} → base ≡ 2 ^ n → bits ≤ 64 → base ^ (end - from) ≤ 2 ^ 64
     fits b h = rw (b, pow_times) (pow_mono {i = n * (end - from)} {j = 64} (omega arith))
 
-    whole : {base : ℕ} {r : Number} → (end - from ≡ 0 → ⊥) → base ≡ 2 ^ n → bits ≤ 64 → r ≡ number_of (based_digits base bits (slice from end text))
+    whole : {base : ℕ} {r : Option Number} → (end - from ≡ 0 → ⊥) → base ≡ 2 ^ n → bits ≤ 64 → r ≡ number_of (based_digits base bits (slice from end text))
         → r ≡ number_of (based n (slice from end text))
     unfolding ds
     whole {base} {r} some b h x =

@@ -18,9 +18,11 @@ use Rattle.classes.specs.Laws.Runs.{Run, ran, one_more, constant_set, drop_from}
 use Rattle.lexemes.specs.Laws.Constants.{decimal_law}
 use Rattle.lexemes.specs.declared.constants.Number.{Number}
 use Rattle.lexemes.specs.declared.lexemes.Lexeme.{Lexeme}
+use Rattle.lexemes.specs.declared.lexemes.Misspelling.{Misspelling}
+use Rattle.std.specs.Prelude.{Option, Result}
 use Rattle.lexemes.proofs.constants.decimal_at.Goals as goal
 
-found : (text : List ℕ) (at end : ℕ) {x : Number} {r : Lexeme} → at < length text → in_constant (get_or text at 0) ≡ true → RunEnds 184 text (at + 1) end
+found : (text : List ℕ) (at end : ℕ) {x : Option Number} {r : Result Lexeme Misspelling} → at < length text → in_constant (get_or text at 0) ≡ true → RunEnds 184 text (at + 1) end
     → x ≡ number_of (decimal (slice at end text)) → r ≡ constant_of (end - (at + 1)) x
     → r ≡ lexeme_of (lexeme_by digit at (get_or text at 0) (drop (at + 1) text))
 unfolding lexeme_by

@@ -16,7 +16,7 @@ use Rattle.lexemes.specs.Digits.{digit_no}
 use Rattle.lexemes.specs.Laws.Digits.{is_digit_of_lem, is_value}
 use Rattle.lexemes.specs.Numbers.{number_of}
 use Rattle.lexemes.specs.Laws.Numbers.{known_by, decimal_from}
-use Rattle.lexemes.specs.declared.constants.Number.TheVariants.{Malformed, Known}
+use Rattle.std.specs.Prelude.{Some, None}
 use Rattle.lexemes.proofs.constants.decimal_value.Invariants.{Inv}
 use Rattle.lexemes.proofs.constants.decimal_value.Goals as goal
 
@@ -50,7 +50,7 @@ module _ {text : List ℕ} {at end value i : ℕ} (inv : Inv text at end value i
     split : slice i end text ≡ get_or text i 0 ∷ slice (i + 1) end text
     split = rw add-one (slice-cons i end text 0 h within)
 
-    not_digit : 9 < d → Malformed ≡ number_of (decimal (slice at end text))
+    not_digit : 9 < d → None ≡ number_of (decimal (slice at end text))
     not_digit l =
         let bad : is_digit_of 10 (get_or text i 0) ≡ false = is_digit_of_lem 10 (get_or text i 0) byte (omega arith) ∙ le-ltb (digit_no (get_or text i 0)) 10 (omega arith) in
         sym (ap number_of (sym inv.left ∙ ap (decimal_from value) split ∙ no_digit value _ _ bad))
@@ -64,13 +64,13 @@ module _ {text : List ℕ} {at end value i : ℕ} (inv : Inv text at end value i
         ∙ ap (decimal_from value) (sym split)
         ∙ inv.left
 
-    overflow : d ≤ 9 → (18446744073709551615 - d) / 10 < value → Malformed ≡ number_of (decimal (slice at end text))
+    overflow : d ≤ 9 → (18446744073709551615 - d) / 10 < value → None ≡ number_of (decimal (slice at end text))
     overflow l o = sym (ap number_of (sym (step l) ∙ too_large (value * 10 + d) _ (omega arith)))
 
     passed : d ≤ 9 → value ≤ (18446744073709551615 - d) / 10 → Inv text at end (value * 10 + d) (i + 1)
     passed l o = record { low = omega (arith, inv.low); high = omega arith; small = omega arith; left = step l }
 
-  ended : {n : ℕ} → end ≤ i → n ≡ decimal_bits value → Known value 0 n ≡ number_of (decimal (slice at end text))
+  ended : {n : ℕ} → end ≤ i → n ≡ decimal_bits value → Some (record { value = value; free = 0; bits = n }) ≡ number_of (decimal (slice at end text))
   unfolding all value_from
   ended {n} h e =
       let last : i ≡ end = omega (arith, inv.high) in

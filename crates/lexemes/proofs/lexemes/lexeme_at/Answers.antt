@@ -11,13 +11,15 @@ use Rattle.rules.specs.Text.Scan.{lexeme, lexeme_by, bad_lexeme}
 use Rattle.lexemes.specs.Lexemes.{lexeme_of}
 use Rattle.classes.specs.Laws.Runs.{class_at, class_back}
 use Rattle.lexemes.specs.declared.lexemes.Lexeme.{Lexeme}
-use Rattle.lexemes.specs.declared.lexemes.Lexeme.TheVariants.{Refused}
+use Rattle.lexemes.specs.declared.lexemes.Misspelling.{Misspelling}
+use Rattle.lexemes.specs.declared.lexemes.Misspelling.TheVariants.{NotAllowed}
+use Rattle.std.specs.Prelude.{Result, Err}
 use Rattle.lexemes.proofs.lexemes.lexeme_at.Goals as goal
 
 told : (n b : ℕ) {k : ℕ} → k ≡ class_no (class_of b) → k ≡ n → class_of b ≡ class_at n
 told n b e q = sym (class_back (class_of b)) ∙ ap class_at (sym e ∙ q)
 
-by : (n p b : ℕ) (bs : List ℕ) {k : ℕ} {r : Lexeme} → k ≡ class_no (class_of b) → k ≡ n → r ≡ lexeme_of (lexeme_by (class_at n) p b bs)
+by : (n p b : ℕ) (bs : List ℕ) {k : ℕ} {r : Result Lexeme Misspelling} → k ≡ class_no (class_of b) → k ≡ n → r ≡ lexeme_of (lexeme_by (class_at n) p b bs)
     → r ≡ lexeme_of (lexeme p b bs)
 unfolding lexeme
 by n p b bs e q x = x ∙ ap (λ (c : Class). lexeme_of (lexeme_by c p b bs)) (sym (told n b e q))
@@ -46,7 +48,7 @@ none mark p b bs h1 h2 h3 h4 h6 h8 = absurd (h8 refl)
 none other p b bs h1 h2 h3 h4 h6 h8 = refl
 
 nothing_starts : (p b : ℕ) (bs : List ℕ) {k : ℕ} → k ≡ class_no (class_of b) → (k ≡ 1 → ⊥) → (k ≡ 2 → ⊥) → (k ≡ 3 → ⊥)
-    → (k ≡ 4 → ⊥) → (k ≡ 6 → ⊥) → (k ≡ 8 → ⊥) → Refused 10 ≡ lexeme_of (lexeme p b bs)
+    → (k ≡ 4 → ⊥) → (k ≡ 6 → ⊥) → (k ≡ 8 → ⊥) → Err NotAllowed ≡ lexeme_of (lexeme p b bs)
 unfolding lexeme
 nothing_starts p b bs e h1 h2 h3 h4 h6 h8 =
     sym

@@ -18,21 +18,24 @@ use Rattle.classes.specs.Classes.{RunEnds}
 use Rattle.lexemes.specs.Lexemes.{lexeme_of}
 use Rattle.classes.specs.Laws.Runs.{Run, drop_from, ran, one_more, all_run, name_set}
 use Rattle.lexemes.specs.declared.lexemes.Lexeme.{Lexeme}
-use Rattle.lexemes.specs.declared.lexemes.Lexeme.TheVariants.{Token, Refused}
+use Rattle.lexemes.specs.declared.lexemes.Lexeme.TheVariants.{Token as Found}
+use Rattle.lexemes.specs.declared.lexemes.Misspelling.{Misspelling}
+use Rattle.lexemes.specs.declared.lexemes.Misspelling.TheVariants.{LongName}
+use Rattle.std.specs.Prelude.{Result, Ok, Err}
 use Rattle.lexemes.proofs.words.word_at.Goals as goal
 
 module _ (text : List ℕ) (at end : ℕ) (h : at < length text) (first : in_name (get_or text at 0) ≡ true) (r : RunEnds 56 text (at + 1) end) where
   word : Run in_name text at end
   word = one_more in_name text at end h first (ran in_name text 56 (at + 1) end name_set r)
 
-  here : Lexeme
+  here : Result Lexeme Misspelling
   here = lexeme_of (lexeme_by letter at (get_or text at 0) (drop (at + 1) text))
 
   law : lexeme_of (word_lexeme at (leading in_name (drop at text))) ≡ here
   unfolding here lexeme_by
   law = rw (drop_from text at h)
 
-  long : 32 < end - at → Refused 11 ≡ here
+  long : 32 < end - at → Err LongName ≡ here
   unfolding word_lexeme
   long l = let e : 32 < length (leading in_name (drop at text)) = omega (arith, word.ends) in rw (word_lexeme, lt-leb _ _ e) at law
 
@@ -40,13 +43,13 @@ module _ (text : List ℕ) (at end : ℕ) (h : at < length text) (first : in_nam
   names = rw word.part (all_run in_name (drop at text))
 
   found : {k : ℕ} → end - at ≤ 32 → k ≡ kind_no (word_kind keywords (map fold (slice at end text)))
-      → Token (end - at - 1) k (end - at) 0 0 ≡ here
+      → Ok (Found (record { more = end - at - 1; kind = k; size = end - at; value = 0; free = 0 })) ≡ here
   unfolding word_lexeme
   found {k} l e =
       let size : end - at ≡ length (leading in_name (drop at text)) = omega (arith, word.ends) in
       let kind : k ≡ kind_no (word_kind keywords (map fold (leading in_name (drop at text)))) = e ∙ rw word.part in
       let short : length (leading in_name (drop at text)) ≤ 32 = omega arith in
-      let same : Token (end - at - 1) k (end - at) 0 0 ≡ lexeme_of (word_lexeme at (leading in_name (drop at text)))
+      let same : Ok (Found (record { more = end - at - 1; kind = k; size = end - at; value = 0; free = 0 })) ≡ lexeme_of (word_lexeme at (leading in_name (drop at text)))
       = rw (word_lexeme, le-leb _ _ short, size, kind, length-map, add-zero) in
       same ∙ law
 

@@ -2,6 +2,7 @@
 -- Assumes nothing.
 use native.Mathlib.Omega.{arith}
 use lib.ListN.{length-take}
+use Rattle.std.proofs.lemmas.Result.{err_from_is_err_and}
 use Rattle.table.specs.Ready.{table_of}
 use Rattle.pair_tables.specs.Laws.Fronts.{front_room, joint_declined, joint_begun}
 use Rattle.pair_tables.proofs.lengths.start_joint.Goals as goal
@@ -18,8 +19,10 @@ start-requires c = (c.requires.0.text, c.requires.0.tokens, c.requires.0.descrip
 pub start_behind-requires : goal.start_behind-requires
 start_behind-requires c = (table_of c.requires.0, c.requires.1, c.requires.2)
 
-pub returns-in-Refused : goal.returns-in-Refused
-returns-in-Refused c = λ v w h. joint_declined h (c.start.ensures _ _ _ v.ready) c.in-Refused.is
+pub returns-in_err-start : goal.returns-in_err-start
+returns-in_err-start c = λ v w h.
+    let p = err_from_is_err_and c.from_residual.result c.from_residual.ensures.1 in
+    rw (p.1, p.2) (joint_declined h (c.start.ensures _ _ _ v.ready) c.in_err-start.was)
 
-pub returns-in-Fine : goal.returns-in-Fine
-returns-in-Fine c = λ v w h. joint_begun h (c.start.ensures _ _ _ v.ready) c.in-Fine.is (c.start_behind.ensures (table_of v) w h)
+pub returns : goal.returns
+returns c = λ v w h. joint_begun h (c.start.ensures _ _ _ v.ready) c.in_ok-start.was (c.start_behind.ensures (table_of v) w h)

@@ -11,15 +11,15 @@ judge-requires c = record { stands = (standing c.requires.by_index.1, standing c
 
 pub refused_answer-requires : goal.refused_answer-requires
 refused_answer-requires c = λ other.
-    omega (arith, (declined_by (c.judge.ensures (standing c.requires.by_index.1) (standing c.requires.by_index.2)) c.in-Refused.is).near other)
+    omega (arith, (declined_by (c.judge.ensures (standing c.requires.by_index.1) (standing c.requires.by_index.2)) c.in-Err.is).near other)
 
 pub turned-requires : goal.turned-requires
 turned-requires c =
-    record { by_index = (c.requires.by_index.0, c.requires.by_index.1, c.requires.by_index.2, begun_by (c.judge.ensures (standing c.requires.by_index.1) (standing c.requires.by_index.2)) c.in-Fine.is); in_bounds = (c.requires.in_bounds.0, (c.requires.in_bounds.1.0, (c.requires.in_bounds.1.1.0, (c.requires.in_bounds.1.1.1, search rules)))) }
+    record { by_index = (c.requires.by_index.0, c.requires.by_index.1, c.requires.by_index.2, begun_by (c.judge.ensures (standing c.requires.by_index.1) (standing c.requires.by_index.2)) c.in-Ok.is); in_bounds = (c.requires.in_bounds.0, (c.requires.in_bounds.1.0, (c.requires.in_bounds.1.1.0, (c.requires.in_bounds.1.1.1, search rules)))) }
 
-pub returns-in-Refused : goal.returns-in-Refused
-returns-in-Refused c =
-    refused_both c.requires.by_index.1 c.requires.by_index.2 (declined_by (c.judge.ensures (standing c.requires.by_index.1) (standing c.requires.by_index.2)) c.in-Refused.is) c.refused_answer.ensures
+pub returns-in-Err : goal.returns-in-Err
+returns-in-Err c =
+    refused_both c.requires.by_index.1 c.requires.by_index.2 (declined_by (c.judge.ensures (standing c.requires.by_index.1) (standing c.requires.by_index.2)) c.in-Err.is) c.refused_answer.ensures
 
-pub returns-in-Fine : goal.returns-in-Fine
-returns-in-Fine c = c.turned.ensures
+pub returns-in-Ok : goal.returns-in-Ok
+returns-in-Ok c = c.turned.ensures

@@ -8,7 +8,7 @@ pub fault40-key-requires : goal.fault40-key-requires
 fault40-key-requires c = (_, to_judge_bodies c.requires.declares (search rules))
 
 pub returns-then-key : goal.returns-then-key
-returns-then-key c = refused_40 c.requires.declares c.requires.in_bounds (c.fault40-key.ensures.answer _) c.if-key.true c.fault_of-fault.ensures
+returns-then-key c = refused_40 c.requires.declares c.requires.in_bounds (c.fault40-key.ensures.answer _) c.if-key.true c.fault_of.ensures
 
 pub judge_whole-requires : goal.judge_whole-requires
 judge_whole-requires c = record { lawful = lawful_40 c.requires.declares c.requires.in_bounds (c.fault40-key.ensures.answer _) c.if-key.false; in_bounds = search rules }

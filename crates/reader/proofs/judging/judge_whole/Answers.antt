@@ -8,7 +8,7 @@ pub fault50-key-requires : goal.fault50-key-requires
 fault50-key-requires c = (to_judge_whole c.requires.lawful, search rules)
 
 pub returns-then-key : goal.returns-then-key
-returns-then-key c = refused_50 c.requires.lawful c.fault50-key.ensures c.if-key.true c.number_fault_of-refusal.ensures
+returns-then-key c = refused_50 c.requires.lawful c.fault50-key.ensures c.if-key.true c.number_fault_of.ensures
 
 pub returns : goal.returns
 returns c = search (rules, accepted_50)

@@ -7,13 +7,13 @@ use Rattle.resuming.specs.Laws.Told.{refused_text, accepted_text}
 use Rattle.resuming.proofs.profiles.profiled.Goals as goal
 
 pub refusal-requires : goal.refusal-requires
-refusal-requires c = omega (arith, (refuses_by c.check.ensures c.in-Refused.is).near)
+refusal-requires c = omega (arith, (refuses_by c.check.ensures c.in-Err.is).near)
 
 pub profile_accepted-requires : goal.profile_accepted-requires
-profile_accepted-requires c = record { by_index = accepts_by c.check.ensures c.in-Accepted.is; in_bounds = search rules }
+profile_accepted-requires c = record { by_index = (_, accepts_by c.check.ensures c.in-Ok.is); in_bounds = search rules }
 
-pub returns-in-Refused : goal.returns-in-Refused
-returns-in-Refused c = refused_text (refuses_by c.check.ensures c.in-Refused.is) c.refusal.ensures
+pub returns-in-Err : goal.returns-in-Err
+returns-in-Err c = refused_text (refuses_by c.check.ensures c.in-Err.is) c.refusal.ensures
 
-pub returns-in-Accepted : goal.returns-in-Accepted
-returns-in-Accepted c = let a = accepts_by c.check.ensures c.in-Accepted.is in accepted_text a.1 (c.profile_accepted.ensures a.0 a.1)
+pub returns-in-Ok : goal.returns-in-Ok
+returns-in-Ok c = let a = accepts_by c.check.ensures c.in-Ok.is in accepted_text a (c.profile_accepted.ensures _ a)
