@@ -19,7 +19,6 @@ use Rattle.table.specs.Bits.{BitsView, bits_size}
 use Rattle.table.specs.Laws.Bits.{access_bits_lem, bits_length}
 use Rattle.promise.specs.Accesses.{left_name, right_name}
 use Rattle.operands.specs.declared.accesses.Field.{Field as Located}
-use Rattle.operands.specs.declared.accesses.Outside.{Outside}
 use Rattle.table.specs.Laws.Operators.{no_bits}
 use Rattle.operands.specs.Cells.{cell_left, cell_right, shown_word, located_at}
 use Rattle.operands.specs.Subscripts.{BitsAt, SubscriptedAt, SubscriptedAnswer}
