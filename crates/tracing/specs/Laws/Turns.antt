@@ -27,7 +27,6 @@ use Rattle.room.specs.Trace.{most_groups}
 use Rattle.passing.specs.Depth.{depth_after}
 use Rattle.passing.specs.Laws.Telling.{told_append}
 use Rattle.runner.specs.declared.turns.Turned.{Turned}
-use Rattle.runner.specs.declared.turns.Turned.TheVariants.{At, Over, Stop as Stood}
 use Rattle.tracing.specs.Acts.{ActTold}
 use Rattle.turning.specs.Ways.{link_to, way_of, WayAt, WayTold}
 use Rattle.runner.specs.Turns.{turned_to}

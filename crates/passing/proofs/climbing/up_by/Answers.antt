@@ -3,7 +3,6 @@
 use native.Mathlib.Omega.{arith}
 use Prim.Native.Nat.{◌+◌, ◌-◌}
 use mathlib.Core.Path.{◌≡◌, refl, ◌∙◌}
-use Rattle.passing.specs.Climbing.{up_by}
 use Rattle.passing.specs.Laws.Counting.{up_none, up_one}
 use Rattle.passing.proofs.climbing.up_by.Goals as goal
 
