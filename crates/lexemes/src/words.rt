@@ -30,11 +30,8 @@ fn word_code(text: &[u8], at: usize, end: usize) -> u64
     requires { (at ≤ end) × ((end ≤ at + 9) × (end ≤ length text.now)) }
     ensures { result ≡ word_code (map fold (slice at end text.now)) }
 {
-    // A while: it goes from the last byte to the first.
     let mut code: u64 = 0;
-    let mut i = end;
-    while at < i {
-        i -= 1;
+    for i in (at..end).rev() {
         code = word_digit(text[i]) + 64 * code;
     }
     code
