@@ -82,8 +82,7 @@ fn join_behind(
 {
     let mut key = NO_KEY;
     let mut free = words0;
-    let mut k: usize = 0;
-    while k < m1 {
+    for k in 0..m1 {
         let q = get16(decls1, k) as usize;
         let met = meet(
             text0, records0, values0, decls0, m0, text1, records1, values1, q,
@@ -91,7 +90,6 @@ fn join_behind(
         put16(firsts, k, first_of(starts, met, free));
         key = key_with(met, key, place_at(records1, q));
         free = taken(met, free, words_in(records1, values1, q));
-        k += 1;
     }
     Joined { key, words: free }
 }

@@ -58,13 +58,11 @@ fn find_namesake(
     if !is_storage(records1, values1, q) {
         return m0;
     }
-    let mut k: usize = 0;
-    while k < m0 {
+    for k in 0..m0 {
         let p = get16(decls0, k) as usize;
         if is_namesake(text0, records0, values0, p, text1, records1, q) {
             return k;
         }
-        k += 1;
     }
     m0
 }

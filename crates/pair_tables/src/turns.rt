@@ -8,12 +8,10 @@ const LAST_SIDE: u8 = 1;
 pub fn first_bad_turn(turns: &[u8]) -> usize
     ensures { FirstBad turns.now result }
 {
-    let mut i: usize = 0;
-    while i < turns.len() {
-        if LAST_SIDE < turns[i] {
+    for (i, &side) in turns.iter().enumerate() {
+        if LAST_SIDE < side {
             return i;
         }
-        i += 1;
     }
-    i
+    turns.len()
 }

@@ -12,14 +12,12 @@ fn same_runs(text0: &[u8], text1: &[u8], a: usize, b: usize, n: usize) -> bool
     requires { (a + n ≤ length text0.now) × (b + n ≤ length text1.now) }
     ensures { result ≡ same_bytes (folded_at text0.now a n) (folded_at text1.now b n) }
 {
-    let mut k: usize = 0;
-    while k < n {
+    for k in 0..n {
         let x = upper(text0[a + k]);
         let y = upper(text1[b + k]);
         if x != y {
             return false;
         }
-        k += 1;
     }
     true
 }

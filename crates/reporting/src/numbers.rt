@@ -23,12 +23,9 @@ pub fn put_numbers(reason: &mut [u8], numbers: Numbers)
     requires { reason_size ≤ length reason.old }
     ensures { reason.new ≡ number_bytes numbers.n ++ drop reason_size reason.old }
 {
-    let mut i: usize = 0;
-    while i < PAIRS {
-        let at = i;
-        i += 1;
-        let low = number_at(numbers, 2 * at);
-        let high = number_at(numbers, 2 * at + 1);
-        put64(reason, at, pair(low, high));
+    for i in 0..PAIRS {
+        let low = number_at(numbers, 2 * i);
+        let high = number_at(numbers, 2 * i + 1);
+        put64(reason, i, pair(low, high));
     }
 }

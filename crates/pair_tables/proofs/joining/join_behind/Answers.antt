@@ -39,9 +39,6 @@ words_in-requires c = small_there c.requires.stands.1.ready c.loop-k-test.true c
 pub taken-free-requires : goal.taken-free-requires
 taken-free-requires c = (omega (arith, c.loop-k.invariant.room), c.words_in.ensures.1)
 
-pub overflow_add-k : goal.overflow_add-k
-overflow_add-k c = record { fits = omega (arith, c.loop-k-test.true, c.requires.stands.1.ready.few) }
-
 pub loop-k-preserved : goal.loop-k-preserved
 loop-k-preserved c =
     joining_more c.loop-k.invariant c.loop-k-test.true c.get16-q.ensures c.meet-met.ensures (λ v. (c.requires.m1_in_bounds.0 v).0)

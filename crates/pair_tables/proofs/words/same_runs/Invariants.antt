@@ -13,6 +13,3 @@ pub record Inv (text₀ text₁ : List ℕ) (a b n k : ℕ) : Type 0 where
 
 abbrev pub invariant-loop-k : goal.invariant-loop-k
 invariant-loop-k l = Inv l.text0 l.text1 l.a l.b l.n l.k
-
-abbrev pub decreases-loop-k : goal.decreases-loop-k
-decreases-loop-k l = l.n - l.k
