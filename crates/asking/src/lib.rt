@@ -6,42 +6,31 @@ ghost use Rattle.std.specs.Prelude.{◌≤◌};
 use lines::answers::{Answer, answer_of};
 use rules::limits::MOST_WORDS;
 
-// The three work buffers.
+pub fn check(text: &[u8], a: &mut [u8], b: &mut [u8], c: &mut [u8]) -> Answer {
+    let mut answer = [0u8; 32];
+    let number = checking::check(text, a, b, c, &mut answer);
+    answer_of(number, &answer)
+}
+
+pub fn run(
+    text: &[u8],
+    carriers: &mut [u8],
+    budget: u32,
+    a: &mut [u8],
+    b: &mut [u8],
+    c: &mut [u8],
+) -> Answer {
+    let mut answer = [0u8; 32];
+    let number = running::run(text, carriers, budget, a, b, c, &mut answer);
+    answer_of(number, &answer)
+}
+
+// The work memory of a program: the three buffers that it lends.
 #[derive(Drop)]
 pub struct Work {
     pub a: [u8; 65536],
     pub b: [u8; 65536],
     pub c: [u8; 65536],
-}
-
-impl Work {
-    pub fn new() -> Work {
-        Work {
-            a: [0; 65536],
-            b: [0; 65536],
-            c: [0; 65536],
-        }
-    }
-}
-
-pub fn check(text: &[u8], work: &mut Work) -> Answer {
-    let mut answer = [0u8; 32];
-    let number = checking::check(text, &mut work.a, &mut work.b, &mut work.c, &mut answer);
-    answer_of(number, &answer)
-}
-
-pub fn run(text: &[u8], carriers: &mut [u8], budget: u32, work: &mut Work) -> Answer {
-    let mut answer = [0u8; 32];
-    let number = running::run(
-        text,
-        carriers,
-        budget,
-        &mut work.a,
-        &mut work.b,
-        &mut work.c,
-        &mut answer,
-    );
-    answer_of(number, &answer)
 }
 
 // How many bytes so many words take, of those that fit.

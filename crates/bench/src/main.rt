@@ -18,9 +18,16 @@ const BUDGET: u32 = 1000000;
 fn run_text(text: &[u8], carriers: &mut [u8], work: &mut Work) -> Answer
     requires { 32768 ≤ length carriers.old }
 {
-    let accepted = check(text, work);
+    let accepted = check(text, &mut work.a, &mut work.b, &mut work.c);
     let size = carrier_bytes(accepted.words);
-    run(text, &mut carriers[..size], BUDGET, work)
+    run(
+        text,
+        &mut carriers[..size],
+        BUDGET,
+        &mut work.a,
+        &mut work.b,
+        &mut work.c,
+    )
 }
 
 // The run and its report.
@@ -45,7 +52,11 @@ fn main(rt: HostRuntime) -> io::Result<()> {
     let mut text = [0u8; 32769];
     let mut carriers = [0u8; 32768];
     let mut out = page();
-    let mut work = Work::new();
+    let mut work = Work {
+        a: [0; 65536],
+        b: [0; 65536],
+        c: [0; 65536],
+    };
     let n = read_full(&mut rt.stdin(), &mut text)?;
     if LONGEST_TEXT < n {
         return rt.write_all(b"refused 2 0\n");

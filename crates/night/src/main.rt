@@ -69,7 +69,14 @@ fn run_started(
 ) -> io::Result<()>
     requires { (length path.now ≤ 4096) × (length carriers.old ≤ 32768) }
 {
-    let ended = run(text, carriers, budget, work);
+    let ended = run(
+        text,
+        carriers,
+        budget,
+        &mut work.a,
+        &mut work.b,
+        &mut work.c,
+    );
     // what the run left is kept even where it cannot be said how it ended
     let said = say(rt, ended);
     if matches!(
@@ -164,7 +171,7 @@ fn go_on(
     requires text_len_bound { length text.now ≤ longest_text }
     requires path_len_bound { (length path.now ≤ 4096) × (32768 ≤ length carriers.old) }
 {
-    let judged = check(text, work);
+    let judged = check(text, &mut work.a, &mut work.b, &mut work.c);
     run_judged(rt, path, budget, text, carriers, judged, work)
 }
 
@@ -172,7 +179,11 @@ fn with_memory(rt: &HostRuntime, path: &[u8], budget: u32, text: &[u8]) -> io::R
     requires { (length path.now ≤ 4096) × (length text.now ≤ longest_text) }
 {
     let mut carriers = [0u8; 32768];
-    let mut work = Work::new();
+    let mut work = Work {
+        a: [0; 65536],
+        b: [0; 65536],
+        c: [0; 65536],
+    };
     go_on(rt, path, budget, text, &mut carriers, &mut work)
 }
 

@@ -80,7 +80,7 @@ fn compare(
 ) -> io::Result<()>
     requires { length text.now ≤ longest_text }
 {
-    let judged = check(text, work);
+    let judged = check(text, &mut work.a, &mut work.b, &mut work.c);
     let size = carrier_bytes(judged.words);
     compare_judged(rt, entries, text, size, work, d)
 }
@@ -88,7 +88,11 @@ fn compare(
 fn with_memory(rt: &HostRuntime, entries: &[u8], text: &[u8]) -> io::Result<()>
     requires { length text.now ≤ longest_text }
 {
-    let mut work = Work::new();
+    let mut work = Work {
+        a: [0; 65536],
+        b: [0; 65536],
+        c: [0; 65536],
+    };
     let mut d = [0u8; 65536];
     compare(rt, entries, text, &mut work, &mut d)
 }

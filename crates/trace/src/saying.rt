@@ -99,7 +99,11 @@ fn say_named(rt: &HostRuntime, text: &[u8], word: usize, value: u64) -> io::Resu
     requires { (length text.now ≤ longest_text) × (8 * word + 8 ≤ 32768) }
 {
     let mut carriers = [0u8; 32768];
-    let mut work = Work::new();
+    let mut work = Work {
+        a: [0; 65536],
+        b: [0; 65536],
+        c: [0; 65536],
+    };
     say_word(rt, text, &mut carriers, word, value, &mut work)
 }
 
