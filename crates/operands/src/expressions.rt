@@ -147,7 +147,12 @@ pub fn expression(
 {
     let first = operand(records, values, carriers, i, depth)?;
     if tightness_of(kind_at(records, first.next)) == 0 {
-        return Ok(first);
+        // Part by part: as a whole it would be loaded in other pieces than it was stored in, which makes a run wait.
+        return Ok(Value {
+            number: first.number,
+            bits: first.bits,
+            next: first.next,
+        });
     }
     pair(records, values, carriers, first, depth)
 }
