@@ -12,12 +12,12 @@ use rules::kinds::{
 };
 use table::scans::{SEPARATOR, deeper, halts};
 
-// Whether an expression stands behind it: `=`, IF or DECODE.
+// Whether an expression stands behind it: `=`, IF or DECODE. Here and below each by itself, as in `table::scans`.
 #[tactic(auto, unfolding(crate::specs::Kinds::tests, rules::specs::Whole::Sets::member))]
 fn tests(kind: u8) -> bool
     ensures { result ≡ tests kind }
 {
-    matches!(kind, EQUALS | IF | DECODE)
+    kind == EQUALS || kind == IF || kind == DECODE
 }
 
 // Whether an action stands behind it, or nothing that names a carrier.
@@ -25,10 +25,14 @@ fn tests(kind: u8) -> bool
 fn begins(kind: u8) -> bool
     ensures { result ≡ begins kind }
 {
-    matches!(
-        kind,
-        COMMA | SEMI | BECOMES | ARROW | BEGIN | END | NEXT | REPEAT
-    )
+    kind == COMMA
+        || kind == SEMI
+        || kind == BECOMES
+        || kind == ARROW
+        || kind == BEGIN
+        || kind == END
+        || kind == NEXT
+        || kind == REPEAT
 }
 
 // Whether it stands behind a name that is stored to: `[`, `<`, `=` or `@`.

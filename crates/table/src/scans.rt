@@ -7,12 +7,13 @@ use rules::kinds::{BEGIN, COMMA, END, NEXT, SEMI};
 // The goal of a search for the end of an action: any token that separates actions.
 pub const SEPARATOR: u8 = 0;
 
-// Whether it stands behind an action: `,`, `;`, END or NEXT.
+// Whether it stands behind an action: `,`, `;`, END or NEXT. Each by itself: neighbours in one pattern are compared as a range, which a walk pays for with
+// each token.
 #[tactic(auto, unfolding(crate::specs::Scans::separates, rules::specs::Whole::Sets::member))]
 fn separates(kind: u8) -> bool
     ensures { result ≡ separates kind }
 {
-    matches!(kind, COMMA | SEMI | END | NEXT)
+    kind == COMMA || kind == SEMI || kind == END || kind == NEXT
 }
 
 // Whether it is what is looked for.
