@@ -8,7 +8,9 @@ ghost use Rattle.passing.specs.Climbing.{up_by};
 use members::up_at;
 use rules::limits::DEEPEST;
 
-// How many members there are from x on. Brackets nest no deeper, so that the count ends whatever the cells are.
+// How many members there are from x on. Brackets nest no deeper, so that the count ends whatever the cells are. Always
+// inlined, since a run that is traced asks for it with each step.
+#[inline(always)]
 pub fn depth_of(cells: &[u8], n: usize, x: usize) -> usize
     requires { 4 * n ≤ length cells.now }
     ensures { result ≡ length (up_from (cells_in cells.now n) deepest x) }

@@ -37,7 +37,7 @@ pub fn run(
             Ok(moved) => moved,
             Err(fault) => {
                 return Ended::Fault {
-                    number: fault.number,
+                    number: fault.number as u32,
                     place: fault.place,
                     steps,
                 };

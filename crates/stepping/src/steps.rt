@@ -20,10 +20,11 @@ pub enum Moved {
     Stop,
 }
 
-// A step that cannot be made: the number of the rule that it breaks, and the place where it does.
+// A step that cannot be made: the number of the rule that it breaks, and the place where it does. Of two bytes each, they share no word with a `Moved` in a
+// result, which would be stored in two pieces and loaded as one.
 #[derive(Clone, Copy)]
 pub struct Fault {
-    pub number: u32,
+    pub number: u16,
     pub place: u16,
 }
 

@@ -67,7 +67,7 @@ pub fn trace(
             Ok(turned) => turned,
             Err(fault) => {
                 return Ended::Fault {
-                    number: fault.number,
+                    number: fault.number as u32,
                     place: fault.place,
                     steps,
                 };
