@@ -6,10 +6,11 @@ ghost use Rattle.nesting.specs.Machine.{reached, transferred, destined, looped, 
 
 use cells::{get16, put16};
 
-// The destination that is being read: the place of its first name, and whether it writes the output.
+// The destination that is being read: the place of its first name, and whether it writes the output. Of two bytes, a place leaves no gap that a walk would
+// copy with each token.
 #[derive(Clone, Copy)]
 pub struct Destination {
-    pub place: usize,
+    pub place: u16,
     pub hit: bool,
 }
 
@@ -91,7 +92,11 @@ fn low_behind(s: Nest) -> usize
 {
     match s.destination {
         None => s.low,
-        Some(destination) => lowered(s.low, destination.place, both(s.comes, destination.hit)),
+        Some(destination) => lowered(
+            s.low,
+            destination.place as usize,
+            both(s.comes, destination.hit),
+        ),
     }
 }
 
@@ -116,7 +121,10 @@ pub fn destine(s: Nest, place: usize, h: bool) -> Nest
 {
     match s.destination {
         None => Nest {
-            destination: Some(Destination { place, hit: h }),
+            destination: Some(Destination {
+                place: place as u16,
+                hit: h,
+            }),
             ..s
         },
         Some(begun) => Nest {

@@ -267,7 +267,7 @@ module _ (room : List ℕ) (x : Nest) where
   }
 
   module _ (p : ℕ) (h : Bool) (low : p < unseen) where
-    part_shown : (d : Destination) → dest_of (Some d) ≡ part (dest_of x.destination) p h → d.place < unseen → Does (destined p h) room x room
+    pub part_shown : (d : Destination) → dest_of (Some d) ≡ part (dest_of x.destination) p h → d.place < unseen → Does (destined p h) room x room
         (nest x.depth x.free x.label x.flag x.comes x.choosing (Some d) x.low)
     part_shown d e l ts i z s = record {
       space = s.space;
