@@ -10,7 +10,7 @@ use Rattle.rules.specs.Text.Bytes.{bytes}
 use Rattle.cells.specs.Cells.{le_at, cell}
 use Rattle.lines.specs.Appended.{Appended}
 use Rattle.lines.specs.declared.answers.Ending.{Ending}
-use Rattle.lines.specs.declared.answers.Ending.TheVariants.{Done, Stopped, Paused, Fault, Refused, Unbounded}
+use Rattle.lines.specs.declared.answers.Ending.TheVariants.{Done, Stopped, Paused, Fault, Refused, Unbounded, Other}
 use Rattle.lines.specs.Endings.{labelled, ending_bytes}
 use Rattle.lines.specs.Answers.{unless12, ending_of}
 
@@ -22,16 +22,16 @@ two_cells b i e f =
     let high : 2 * (2 * i + 1) ≡ 4 * i + 1 + 1 = omega arith in
     omega (arith, rw low at e, rw high at f)
 
--- a code that is none of the others is Refused
-pub other_code : (code : ℕ) → (code ≡ 0 → ⊥) → (code ≡ 1 → ⊥) → (code ≡ 2 → ⊥) → (code ≡ 3 → ⊥) → (code ≡ 5 → ⊥) → Refused ≡ ending_of code
+-- a code that is none of the others stays as it is
+pub other_code : (code : ℕ) → (code ≡ 0 → ⊥) → (code ≡ 1 → ⊥) → (code ≡ 2 → ⊥) → (code ≡ 3 → ⊥) → (code ≡ 4 → ⊥) → (code ≡ 5 → ⊥) → Other code ≡ ending_of code
 unfolding ending_of
-other_code zero d₀ d₁ d₂ d₃ d₅ = absurd (d₀ refl)
-other_code (suc zero) d₀ d₁ d₂ d₃ d₅ = absurd (d₁ refl)
-other_code (suc (suc zero)) d₀ d₁ d₂ d₃ d₅ = absurd (d₂ refl)
-other_code (suc (suc (suc zero))) d₀ d₁ d₂ d₃ d₅ = absurd (d₃ refl)
-other_code (suc (suc (suc (suc zero)))) d₀ d₁ d₂ d₃ d₅ = refl
-other_code (suc (suc (suc (suc (suc zero))))) d₀ d₁ d₂ d₃ d₅ = absurd (d₅ refl)
-other_code (suc (suc (suc (suc (suc (suc more)))))) d₀ d₁ d₂ d₃ d₅ = refl
+other_code zero d₀ d₁ d₂ d₃ d₄ d₅ = absurd (d₀ refl)
+other_code (suc zero) d₀ d₁ d₂ d₃ d₄ d₅ = absurd (d₁ refl)
+other_code (suc (suc zero)) d₀ d₁ d₂ d₃ d₄ d₅ = absurd (d₂ refl)
+other_code (suc (suc (suc zero))) d₀ d₁ d₂ d₃ d₄ d₅ = absurd (d₃ refl)
+other_code (suc (suc (suc (suc zero)))) d₀ d₁ d₂ d₃ d₄ d₅ = absurd (d₄ refl)
+other_code (suc (suc (suc (suc (suc zero))))) d₀ d₁ d₂ d₃ d₄ d₅ = absurd (d₅ refl)
+other_code (suc (suc (suc (suc (suc (suc more)))))) d₀ d₁ d₂ d₃ d₄ d₅ = refl
 
 -- the refusals 1 and 2, and what is written otherwise
 module _ (number u e : ℕ) where
@@ -74,3 +74,4 @@ module _ (e : Ending) (n p s : ℕ) {before after : List ℕ} {at r : ℕ} where
       by Fault d₀ d₁ d₂ d₃ = absurd (d₃ refl)
       by Refused d₀ d₁ d₂ d₃ = h
       by Unbounded d₀ d₁ d₂ d₃ = h
+      by (Other code) d₀ d₁ d₂ d₃ = h

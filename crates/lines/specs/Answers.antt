@@ -3,7 +3,7 @@ use Rattle.std.specs.Prelude.{ℕ, zero, suc, ◌≡◌, Bool, true, false, List
 use Rattle.cells.specs.Cells.{cell}
 use Rattle.lines.specs.declared.answers.Answer.{Answer}
 use Rattle.lines.specs.declared.answers.Ending.{Ending}
-use Rattle.lines.specs.declared.answers.Ending.TheVariants.{Done, Stopped, Paused, Fault, Refused, Unbounded}
+use Rattle.lines.specs.declared.answers.Ending.TheVariants.{Done, Stopped, Paused, Fault, Refused, Unbounded, Other}
 
 -- after the refusals 1 and 2 nothing is written, and the number is the whole answer: refused, at line 1 and column 1
 abbrev pub unless12 : {A : Type 0} → Bool → Bool → A → A → A
@@ -11,7 +11,7 @@ unless12 true b u e = u
 unless12 false true u e = u
 unless12 false false u e = e
 
--- by the ending's code: 4 is refused, and no call answers more than 5
+-- by the ending's code; no call answers more than 5
 unfoldable pub ending_of : ℕ → Ending
 ending_of zero = Done
 ending_of (suc zero) = Stopped
@@ -19,7 +19,7 @@ ending_of (suc (suc zero)) = Paused
 ending_of (suc (suc (suc zero))) = Fault
 ending_of (suc (suc (suc (suc zero)))) = Refused
 ending_of (suc (suc (suc (suc (suc zero))))) = Unbounded
-ending_of (suc (suc (suc (suc (suc (suc more)))))) = Refused
+ending_of (suc (suc (suc (suc (suc (suc more)))))) = Other (suc (suc (suc (suc (suc (suc more))))))
 
 abbrev pub ending_in : ℕ → List ℕ → Ending
 ending_in number answer = unless12 (eqb number 1) (eqb number 2) Refused (ending_of (cell 4 answer 0))

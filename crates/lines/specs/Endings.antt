@@ -2,7 +2,7 @@
 use Rattle.std.specs.Prelude.{ℕ, List, ◌++◌}
 use Rattle.rules.specs.Text.Bytes.{bytes}
 use Rattle.lines.specs.declared.answers.Ending.{Ending}
-use Rattle.lines.specs.declared.answers.Ending.TheVariants.{Done, Stopped, Paused, Fault, Refused, Unbounded}
+use Rattle.lines.specs.declared.answers.Ending.TheVariants.{Done, Stopped, Paused, Fault, Refused, Unbounded, Other}
 use Rattle.lines.specs.Digits.{decimal_bytes}
 
 -- a number behind what says of what it is
@@ -18,6 +18,7 @@ ending_bytes Fault number place steps =
     labelled (bytes "fault ") number ++ (labelled (bytes " ") place ++ labelled (bytes " ") steps)
 ending_bytes Refused number place steps = labelled (bytes "refused ") number ++ labelled (bytes " ") place
 ending_bytes Unbounded number place steps = labelled (bytes "refused ") number ++ labelled (bytes " ") place
+ending_bytes (Other code) number place steps = labelled (bytes "refused ") number ++ labelled (bytes " ") place
 
 -- `LINE:COLUMN: refused NUMBER`, as compilers write it
 abbrev pub refused_bytes : ℕ → ℕ → ℕ → List ℕ

@@ -2,7 +2,7 @@
 use Rattle.std.specs.Prelude.{ℕ, List, ◌++◌}
 use Rattle.rules.specs.Text.Bytes.{bytes}
 use Rattle.lines.specs.declared.answers.Ending.{Ending}
-use Rattle.lines.specs.declared.answers.Ending.TheVariants.{Done, Stopped, Paused, Fault, Refused, Unbounded}
+use Rattle.lines.specs.declared.answers.Ending.TheVariants.{Done, Stopped, Paused, Fault, Refused, Unbounded, Other}
 use Rattle.lines.specs.Digits.{decimal_bytes}
 use Rattle.lines.specs.Endings.{labelled, refused_bytes}
 
@@ -26,3 +26,4 @@ said_bytes Paused line column number steps = steps_bytes (bytes "paused after ")
 said_bytes Fault line column number steps = fault_bytes line column number steps
 said_bytes Refused line column number steps = refused_bytes line column number
 said_bytes Unbounded line column number steps = refused_bytes line column number
+said_bytes (Other code) line column number steps = refused_bytes line column number

@@ -5,7 +5,7 @@ ghost use Rattle.lines.specs.Answers.{ending_of, ending_in, count_in, Reads};
 
 use cells::get16;
 
-// How a call ended.
+// How a call ended; or a code for it that no call writes.
 #[derive(Clone, Copy, PartialEq, Eq)]
 pub enum Ending {
     Done,
@@ -14,6 +14,7 @@ pub enum Ending {
     Fault,
     Refused,
     Unbounded,
+    Other(u64),
 }
 
 #[derive(Clone, Copy)]
@@ -45,8 +46,9 @@ fn ending_of(code: u64) -> Ending
         1 => Ending::Stopped,
         2 => Ending::Paused,
         3 => Ending::Fault,
+        4 => Ending::Refused,
         5 => Ending::Unbounded,
-        _ => Ending::Refused,
+        _ => Ending::Other(code),
     }
 }
 

@@ -2,7 +2,7 @@
 use Rattle.std.specs.Prelude.{ℕ, true, false, List, ◌++◌, eqb}
 use Rattle.rules.specs.Text.Bytes.{bytes}
 use Rattle.lines.specs.declared.answers.Ending.{Ending}
-use Rattle.lines.specs.declared.answers.Ending.TheVariants.{Done, Stopped, Paused, Fault, Refused, Unbounded}
+use Rattle.lines.specs.declared.answers.Ending.TheVariants.{Done, Stopped, Paused, Fault, Refused, Unbounded, Other}
 use Rattle.lines.specs.Endings.{refused_bytes}
 
 abbrev pub no_test : List ℕ
@@ -36,3 +36,4 @@ report_bytes Paused number line column = refused_bytes line column number ++ rea
 report_bytes Fault number line column = refused_bytes line column number ++ reason_bytes number
 report_bytes Refused number line column = refused_bytes line column number ++ reason_bytes number
 report_bytes Unbounded number line column = refused_bytes line column number ++ reason_bytes number
+report_bytes (Other code) number line column = refused_bytes line column number ++ reason_bytes number

@@ -5,7 +5,7 @@ use Rattle.std.specs.Prelude.{◌≡◌, refl, List}
 use Rattle.rules.specs.Text.Bytes.{bytes}
 use Rattle.lines.specs.Appended.{Appended}
 use Rattle.lines.specs.declared.answers.Ending.{Ending}
-use Rattle.lines.specs.declared.answers.Ending.TheVariants.{Done, Stopped, Paused, Fault, Refused, Unbounded}
+use Rattle.lines.specs.declared.answers.Ending.TheVariants.{Done, Stopped, Paused, Fault, Refused, Unbounded, Other}
 use Rattle.lines.specs.Endings.{refused_bytes}
 use Rattle.lines.specs.Said.{steps_bytes, fault_bytes, said_bytes}
 
@@ -38,3 +38,4 @@ module _ (e : Ending) (l c n s : ℕ) {before after : List ℕ} {at r : ℕ} whe
       by Fault d₀ d₁ d₂ d₃ = absurd (d₃ refl)
       by Refused d₀ d₁ d₂ d₃ = h
       by Unbounded d₀ d₁ d₂ d₃ = h
+      by (Other code) d₀ d₁ d₂ d₃ = h

@@ -6,7 +6,7 @@ use native.Mathlib.Omega.{arith}
 use borrow.Author.Tests.{eq-eqb, ne_eqb}
 use Rattle.lines.specs.Appended.{Appended}
 use Rattle.lines.specs.declared.answers.Ending.{Ending}
-use Rattle.lines.specs.declared.answers.Ending.TheVariants.{Done, Stopped, Paused, Fault, Refused, Unbounded}
+use Rattle.lines.specs.declared.answers.Ending.TheVariants.{Done, Stopped, Paused, Fault, Refused, Unbounded, Other}
 use Rattle.lines.specs.Endings.{refused_bytes}
 use Rattle.profile.specs.Report.{no_test, no_output, too_early, not_accepted, reason_bytes, passed, report_bytes}
 
@@ -43,3 +43,4 @@ module _ (e : Ending) (n l c : ℕ) {before after : List ℕ} {at r : ℕ} where
       by Fault d = h
       by Refused d = h
       by Unbounded d = h
+      by (Other code) d = h

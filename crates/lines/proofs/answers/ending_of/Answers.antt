@@ -21,6 +21,10 @@ pub returns-in-3 : goal.returns-in-3
 unfolding ending_of
 returns-in-3 c = rw (c.in-3.is, ending_of) refl
 
+pub returns-in-4 : goal.returns-in-4
+unfolding ending_of
+returns-in-4 c = rw (c.in-4.is, ending_of) refl
+
 pub returns-in-5 : goal.returns-in-5
 unfolding ending_of
 returns-in-5 c = rw (c.in-5.is, ending_of) refl
