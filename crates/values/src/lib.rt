@@ -12,7 +12,7 @@ ghost use Rattle.values.specs.Operators.{op_at};
 use operators::{add, alike, both, differ, either, join, subtract, truth};
 use rules::kinds::{AND, AT, EQL, EQV, GTR, LEQ, LSS, MINUS, NEQ, OR, PLUS, XOR};
 
-// The length of the result.
+// The length of the result. An arm for each kind, as in `table::operators`.
 pub fn operate_bits(op: u8, m: u32, n: u32) -> u32
     requires { (m ≤ 64) × (n ≤ 64) }
     ensures { result ≡ op_bits (op_at op) m n }
@@ -20,8 +20,12 @@ pub fn operate_bits(op: u8, m: u32, n: u32) -> u32
     let long = m.max(n);
     match op {
         AT => m + n,
-        PLUS | MINUS => long + 1,
-        AND | EQV | OR | XOR => long,
+        PLUS => long + 1,
+        MINUS => long + 1,
+        AND => long,
+        EQV => long,
+        OR => long,
+        XOR => long,
         _ => 1,
     }
 }
