@@ -6,8 +6,8 @@ ghost use Rattle.nesting.specs.Machine.{reached, transferred, destined, looped, 
 
 use cells::{get16, put16};
 
-// The destination that is being read: the place of its first name, and whether it writes the output. Of two bytes, a place leaves no gap that a walk would
-// copy with each token.
+// The destination that is being read: the place of its first name, and whether it writes the output. The place has two bytes, so that both fit one
+// word: with a gap of seven bytes they were copied in pieces.
 #[derive(Clone, Copy)]
 pub struct Destination {
     pub place: u16,

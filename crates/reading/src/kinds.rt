@@ -12,7 +12,7 @@ use rules::kinds::{
 };
 use table::scans::{SEPARATOR, deeper, halts};
 
-// Whether an expression stands behind it: `=`, IF or DECODE. Here and below each by itself, as in `table::scans`.
+// Whether an expression stands behind it: `=`, IF or DECODE. Here and in `begins` each by itself, as in `table::scans`.
 #[tactic(auto, unfolding(crate::specs::Kinds::tests, rules::specs::Whole::Sets::member))]
 fn tests(kind: u8) -> bool
     ensures { result ≡ tests kind }
